@@ -1,3 +1,4 @@
+pub mod Arrived
 pub mod Linking
 pub mod Changed
 pub mod Carried

@@ -1,4 +1,5 @@
 pub mod Received
+pub mod Coming
 pub mod Putting
 pub mod Reserved
 pub mod Contents

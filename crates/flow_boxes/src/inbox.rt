@@ -1,12 +1,14 @@
 // The reader's box of an edge.
-ghost use Rattle.std.specs.Prelude.{◌≡◌, ◌<◌, ◌≤◌, [], ◌∷◌, ◌++◌, length, take, drop, IfOk, IfSome, IfNone};
+ghost use Rattle.std.specs.Prelude.{◌≡◌, ◌+◌, ◌<◌, ◌≤◌, [], ◌∷◌, ◌++◌, length, take, drop, IfOk, IfSome, IfNone};
 ghost use Rattle.std.specs.Io.Iter.{u64_saturate};
 ghost use Rattle.flow_messages.specs.Stores.{content_of};
 ghost use Rattle.flow_messages.specs.Lines.{gone};
+ghost use Rattle.flow_messages.specs.Contents.{unit_messages, flag_messages, int_messages};
 
 use flow_history::History;
-use flow_messages::{Msg, Store};
+use flow_messages::{Msg, Store, with_flags, with_ints, with_units};
 use std::alloc::{AllocError, Global};
+use std::mem::replace;
 
 /// The messages that have arrived and were not taken, the oldest first.
 #[derive(Drop)]
@@ -22,6 +24,7 @@ pub struct Inbox {
 
 impl Inbox {
     ghost use Rattle.flow_boxes.specs.Received.{received_of};
+    ghost use Rattle.flow_boxes.specs.Coming.{HasCome};
 
     /// An empty box, with room for the capacity.
     pub fn new(alloc: Global, capacity: usize) -> Result<Inbox, AllocError>
@@ -49,6 +52,38 @@ impl Inbox {
         let arrived = self.arrived.with(&message);
         self.store.push(message);
         self.arrived = arrived;
+    }
+
+    /// Holds so many units more, after all others.
+    #[inline(always)]
+    pub fn push_units(&mut self, count: usize)
+        requires { length (content_of self.old.store) + count ≤ self.old.store.capacity }
+        ensures { HasCome (unit_messages count) self.old self.new }
+    {
+        self.arrived = with_units(replace(&mut self.arrived, History::new()), count);
+        self.store.put_units(count);
+    }
+
+    /// Holds these truth values more, after all others.
+    #[inline(always)]
+    pub fn push_flags(&mut self, flags: &[bool])
+        requires { length (content_of self.old.store) + length flags.now ≤
+            self.old.store.capacity }
+        ensures { HasCome (flag_messages flags.now) self.old self.new }
+    {
+        self.arrived = with_flags(replace(&mut self.arrived, History::new()), flags);
+        self.store.put_flags(flags);
+    }
+
+    /// Holds these integers more, after all others.
+    #[inline(always)]
+    pub fn push_ints(&mut self, ints: &[i64])
+        requires { length (content_of self.old.store) + length ints.now ≤
+            self.old.store.capacity }
+        ensures { HasCome (int_messages ints.now) self.old self.new }
+    {
+        self.arrived = with_ints(replace(&mut self.arrived, History::new()), ints);
+        self.store.put_ints(ints);
     }
 
     /// Takes the oldest message.

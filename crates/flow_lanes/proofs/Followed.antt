@@ -73,6 +73,12 @@ module _ {X : Type 0} (item : X → Item) where
       ap messages_of (take_more_set block i f place) ∙ map-append message_of (take i block) (f ∷ []) ∙ ap (λ l. l ++ message_of f ∷ []) is
       ∙ ap (λ m. item_messages item (take i xs) ++ m ∷ []) said ∙ sym (items_next xs i d there)
 
+  -- a value more, of a message that came
+  pub values_next : (flats : List Flat) (values : List X) (i : ℕ) (v : X) (d : Flat) → i < length flats → i < length values → messages_of (take i flats) ≡ item_messages item (take i values) → message_of (get_or flats i d) ≡ ItemMsg (item v) → messages_of (take (i + 1) flats) ≡ item_messages item (take (i + 1) (set values i v))
+  values_next flats values i v d low place is said =
+      ap (λ k. messages_of (take k flats)) (add-one i) ∙ ap messages_of (take-suc flats i d low) ∙ map-append message_of (take i flats) (get_or flats i d ∷ []) ∙ ap (λ l. l ++ message_of (get_or flats i d) ∷ []) is
+      ∙ ap (λ m. item_messages item (take i values) ++ m ∷ []) said ∙ sym (ap (item_messages item) (take_more_set values i v place) ∙ map-append (λ x. ItemMsg (item x)) (take i values) (v ∷ []))
+
   -- a block more
   pub items_further : (xs : List X) (i n : ℕ) → item_messages item (take i xs) ++ item_messages item (slice_range xs i (i + n)) ≡ item_messages item (take (i + n) xs)
   items_further xs i n =

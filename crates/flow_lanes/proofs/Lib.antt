@@ -1,4 +1,5 @@
 pub mod Lists
+pub mod Coming
 pub mod Followed
 pub mod Owing
 pub mod Drained

@@ -15,7 +15,7 @@ const FEW: usize = 3;
 
 // What goes as a scalar message of one kind.
 pub(crate) trait Scalar: Copy {
-    ghost use Rattle.std.specs.Prelude.{◌≡◌, true};
+    ghost use Rattle.std.specs.Prelude.{◌≡◌, true, IfSome};
     ghost use Rattle.flow_messages.specs.Cells.{cell_of, is_of};
     ghost use Rattle.flow_messages.specs.declared.message.Kind.{Kind};
     ghost use Rattle.flow_messages.specs.declared.message.Item.{Item};
@@ -30,6 +30,10 @@ pub(crate) trait Scalar: Copy {
 
     fn flat(self) -> Flat
         ensures { message_of result ≡ ItemMsg (item self) };
+
+    // The value that the message stands for, where it stands for one.
+    fn of(flat: Flat) -> Option<Self>
+        ensures { IfSome result (λ x. message_of flat ≡ ItemMsg (item x)) };
 
     ghost is_of_kind: { (x : Self) → is_of kind (cell_of (item x)) ≡ true };
 }
@@ -46,6 +50,14 @@ impl Scalar for () {
     #[inline(always)]
     fn flat(self) -> Flat {
         Flat::Unit
+    }
+
+    #[inline(always)]
+    fn of(flat: Flat) -> Option<()> {
+        match flat {
+            Flat::Unit => Some(()),
+            _ => None,
+        }
     }
 
     ghost is_of_kind = { λ _. refl };
@@ -65,6 +77,14 @@ impl Scalar for bool {
         Flat::Bool(self)
     }
 
+    #[inline(always)]
+    fn of(flat: Flat) -> Option<bool> {
+        match flat {
+            Flat::Bool(truth) => Some(truth),
+            _ => None,
+        }
+    }
+
     ghost is_of_kind = { λ _. refl };
 }
 
@@ -80,6 +100,17 @@ impl Scalar for i64 {
     #[inline(always)]
     fn flat(self) -> Flat {
         Flat::Int(i128::from(self))
+    }
+
+    #[inline(always)]
+    fn of(flat: Flat) -> Option<i64> {
+        match flat {
+            Flat::Int(number) => match i64::try_from(number) {
+                Ok(narrow) => Some(narrow),
+                Err(_) => None,
+            },
+            _ => None,
+        }
     }
 
     ghost is_of_kind = { λ _. refl };

@@ -41,7 +41,7 @@ fn told(back: &mut EdgeReader) -> usize
 
 impl CountedWriter {
     // Reads what the reader has told.
-    #[inline(always)]
+    #[inline(never)]
     fn look_back(&mut self)
         ensures edge { self.new.edge ≡ self.old.edge }
         ensures back { SameReader self.old.back self.new.back }
@@ -98,6 +98,10 @@ impl CountedWriter {
     {
         if self.room <= self.capacity / 2 {
             self.look_back();
+        }
+        // It looks at the places of the edge only where it does not know of enough.
+        if self.edge.room_for(self.room) {
+            return self.room;
         }
         self.room.min(self.edge.space())
     }

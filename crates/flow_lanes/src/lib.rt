@@ -11,6 +11,7 @@ mod blocks;
 mod counted;
 mod counting;
 mod ends;
+mod keeping;
 mod making;
 mod meeting;
 mod pocket;

@@ -12,8 +12,8 @@ ghost use Rattle.flow_lanes.specs.Credits.{Owes};
 ghost use Rattle.flow_lanes.specs.Taken.{taken_from, held_in};
 
 use crate::blocks::PLACES;
+use crate::keeping::keep;
 use crate::pocket::Pocket;
-use flow_boxes::Inbox;
 use flow_history::History;
 use flow_messages::{Item, Msg};
 use flow_rings::{EdgeReader, EdgeWriter, Flat};
@@ -33,7 +33,7 @@ fn saying(number: u64) -> Msg
 }
 
 // Tells the writer how many messages were taken, where there is room for that. How many are still untold.
-#[inline(always)]
+#[inline(never)]
 pub(crate) fn tell(back: &mut EdgeWriter, owed: u64) -> u64
     requires { kind_of back.old ≡ Some IntKind }
     ensures same { SameWriter back.old back.new }
@@ -48,22 +48,6 @@ pub(crate) fn tell(back: &mut EdgeWriter, owed: u64) -> u64
         return 0;
     }
     owed
-}
-
-// These messages are held after those that are held already.
-#[inline(always)]
-fn keep(inbox: &mut Inbox, flats: &[Flat])
-    requires { length (content_of inbox.old.store) + length flats.now ≤ inbox.old.store.capacity }
-    ensures arrived { inbox.new.arrived.items ≡
-        inbox.old.arrived.items ++ messages_of flats.now }
-    ensures held { content_of inbox.new.store ≡
-        content_of inbox.old.store ++ messages_of flats.now }
-    ensures received { received_of inbox.new ≡ received_of inbox.old }
-    ensures capacity { inbox.new.store.capacity ≡ inbox.old.store.capacity }
-{
-    for flat in flats {
-        inbox.push(flat.message());
-    }
 }
 
 // Takes so many messages that are certain.
@@ -81,11 +65,12 @@ pub(crate) fn take_each(reader: &mut EdgeReader, count: usize)
 }
 
 impl Pocket {
-    // Messages that came are held, as many as some blocks have places for.
-    #[inline(always)]
+    // Messages that came are held, as many as some blocks have places for. Where none came the writer may wait for room, so it is
+    // told how many were taken.
+    #[inline(never)]
     pub(crate) fn fill(&mut self)
         ensures edge { SameReader self.old.edge self.new.edge }
-        ensures back { self.new.back ≡ self.old.back }
+        ensures back { SameWriter self.old.back self.new.back }
         ensures taken { taken_from self.new ≡ taken_from self.old }
         ensures more { IsPrefix (held_in self.old) (held_in self.new) }
         ensures some { 0 < length (held_in self.new) →
@@ -93,6 +78,8 @@ impl Pocket {
     {
         if self.edge.ready() {
             self.take_over();
+        } else {
+            self.owed = tell(&mut self.back, self.owed);
         }
     }
 
@@ -118,8 +105,7 @@ impl Pocket {
 
     // Messages are taken over by way of this block.
     #[inline(always)]
-    fn take_block(&mut self, block: &mut [Flat])
-        requires { 0 < length block.old }
+    fn take_block(&mut self, block: &mut [Flat; PLACES])
         ensures edge { SameReader self.old.edge self.new.edge }
         ensures back { self.new.back ≡ self.old.back }
         ensures taken { taken_from self.new ≡ taken_from self.old }
@@ -139,7 +125,7 @@ impl Pocket {
     #[inline(always)]
     fn fill_if_empty(&mut self)
         ensures edge { SameReader self.old.edge self.new.edge }
-        ensures back { self.new.back ≡ self.old.back }
+        ensures back { SameWriter self.old.back self.new.back }
         ensures taken { taken_from self.new ≡ taken_from self.old }
         ensures more { IsPrefix (held_in self.old) (held_in self.new) }
         ensures some { 0 < length (held_in self.new) →
@@ -150,14 +136,15 @@ impl Pocket {
         }
     }
 
-    // Tells the writer how many were taken, once they are many or no more are held.
+    // Tells the writer how many were taken, once they are many or a quarter of the lane.
     #[inline(always)]
     fn tell_if_many(&mut self)
         ensures edge { self.new.edge ≡ self.old.edge }
         ensures inbox { self.new.inbox ≡ self.old.inbox }
         ensures back { SameWriter self.old.back self.new.back }
     {
-        if self.owed >= MANY || self.inbox.store.len() == 0 {
+        let quarter = self.inbox.store.capacity / 4;
+        if self.owed >= MANY || self.owed >= quarter as u64 {
             self.owed = tell(&mut self.back, self.owed);
         }
     }
