@@ -1,10 +1,10 @@
 -- A reader's box to which many messages came.
-use Rattle.std.proofs.Common.{◌≡◌, List, ◌++◌, length, ap, sym, subst, ◌∙◌}
+use Rattle.std.proofs.Common.{◌≡◌, List, ◌++◌, length, ap, sym, ◌∙◌}
 use Rattle.std.specs.Io.Iter.{u64_saturate}
 use Rattle.flow_messages.specs.declared.message.Msg.{Msg}
 use Rattle.flow_messages.specs.Lines.{gone}
 use Rattle.flow_messages.specs.Stores.{content_of}
-use Rattle.flow_messages.proofs.Lines.{gone_put, fifo_put, count_put}
+use Rattle.flow_messages.proofs.Lines.{gone_put, fifo_put}
 use Rattle.flow_boxes.specs.declared.inbox.Inbox.{Inbox}
 use Rattle.flow_boxes.specs.Coming.{HasCome}
 

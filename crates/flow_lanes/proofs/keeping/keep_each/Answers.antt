@@ -1,4 +1,4 @@
-use Rattle.std.proofs.Common.{◌++◌, length, take, refl, sym, ap, ◌∙◌, subst, arith, append-nil, length-append}
+use Rattle.std.proofs.Common.{length, take, ap, ◌∙◌, subst, arith, length-append}
 use Rattle.std.proofs.lemmas.List.{length-map, length-take-le, take_all}
 use Rattle.flow_messages.specs.Stores.{content_of}
 use Rattle.flow_boxes.specs.Coming.{HasCome}

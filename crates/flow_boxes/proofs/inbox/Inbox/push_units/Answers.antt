@@ -1,6 +1,5 @@
 use Rattle.std.proofs.Common.{◌++◌, ap, ◌∙◌}
 use Rattle.flow_messages.specs.Contents.{unit_messages}
-use Rattle.flow_messages.specs.Stores.{content_of}
 use Rattle.flow_boxes.proofs.Arrived.{arrives, stays_in_order, stays_counted}
 use Rattle.flow_boxes.proofs.inbox.Inbox.push_units.Goals as goal
 
