@@ -14,13 +14,16 @@ class Edit:
 
     `why` says why it cannot be applied. `lines` are the new lines by file and number. `struck` are the functions that it strikes: those
     whose bodies it changes, or that name the constant it changes, or else those of its lines 'strikes: FUNCTION'. Where nothing
-    tells them there are none. It is tried apart unless it changes bodies alone.
+    tells them there are none. It is tried apart unless it changes bodies alone. `besides` are the goals of its line 'besides: GOAL ..': those
+    that it spoils too, so that a try of one goal is enough.
     """
 
     def __init__(self, crate, file, code):
         self.file, self.label = file, f"{crate.name}/{os.path.basename(file)}"
         self.texts, self.why = rt.read_edit(file, crate.folder) if file.endswith(".edit") else (None, "its name does not end in .edit")
         self.lines, self.struck, self.is_apart = {}, [], False
+        said = pathlib.Path(file).read_text(encoding="utf-8", errors="replace")
+        self.besides = [it for line in re.findall(r"(?m)^besides: (.+)$", said) for it in line.split()]
         is_known = True
         for path, text in (self.texts or {}).items():
             for number, begin, end, was, now in changes(pathlib.Path(crate.folder, path).read_text(encoding="utf-8"), text):
@@ -31,7 +34,7 @@ class Edit:
                 is_known = is_known and bool(struck) and all(it.is_plain for it in struck)
                 self.struck += [it for it in struck if it not in self.struck]
         if not is_known:
-            told = re.findall(r"(?m)^strikes: (\S+)$", pathlib.Path(file).read_text(encoding="utf-8"))
+            told = re.findall(r"(?m)^strikes: (\S+)$", said)
             self.struck, self.is_apart = [it for it in code.functions if it.name in told], True
             lacking = {*told} - {it.name for it in self.struck}
             if lacking:
@@ -43,9 +46,20 @@ class Edit:
         return {it.proved_with for it in self.struck}
 
     @property
+    def has_holes(self):
+        """Whether holes can stand for goals of the function that it strikes."""
+        return not self.is_apart and len(self.struck) == 1 and self.struck[0].has_stub
+
+    @property
     def has_copy(self):
         """Whether it can strike a copy of its function, so that another edit of that function fits into the same check."""
         return not self.is_apart and len(self.struck) == 1 and self.struck[0].has_copy
+
+
+def write_besides(file, goals):
+    """Writes into the file of an edit which goals it spoils besides."""
+    text = re.sub(r"(?m)^besides: .*\n", "", pathlib.Path(file).read_text(encoding="utf-8"))
+    pathlib.Path(file).write_text(text + (f"besides: {' '.join(goals)}\n" if goals else ""), encoding="utf-8")
 
 
 def changes(old, new):

@@ -55,6 +55,7 @@ class Code:
     """The tokens of a crate's files, without clauses, and its functions. What is compiled for tests alone is left out."""
 
     def __init__(self, crate):
+        self.folder = crate.folder
         tokens = tokens_of(crate)
         of_tests = tuple(place for file, its in tokens.items() for place in places_of_tests(file, its))
         self.tokens = {file: its for file, its in tokens.items() if not file.startswith(of_tests)}
@@ -77,9 +78,12 @@ class Code:
         inside = (it.word for it in self.tokens[file] if block.brace.end <= it.begin < end.begin)
         cycle = next((it[it.index("cycle") + 2] for it in heads if "cycle" in it), None)
         is_plain = not any(word in head for head in heads for word in ("const", "unsafe"))
-        has_stub = is_plain and cycle is None and not any("trait" in it for it in heads) and name not in inside
+        path = self.path(file, around)
+        # (a call of the same name is mostly one of another type's function; what calls itself has a folder for its measure)
+        calls_itself = name in inside and pathlib.Path(self.folder, "proofs", *path, f"+{name}").is_dir()
+        has_stub = is_plain and cycle is None and not any("trait" in it for it in heads) and not calls_itself
         return Function(
-            name="::".join([*self.path(file, around), name]),
+            name="::".join([*path, name]),
             file=file,
             first=block.head[0].line,
             last=end.line,

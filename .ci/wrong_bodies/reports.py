@@ -1,5 +1,6 @@
 """What a check of a crate with edits in it says of the crate's functions."""
 
+import collections
 import os
 import re
 
@@ -7,6 +8,8 @@ from kit import rt
 
 PLACE = re.compile(r"(?:note: )?(?:\./)?((?:src|proofs|specs)/\S+?):(\d+):\d+: (.*)")
 GOAL = re.compile(r"^error: |it is not proved that|`search` found no proof")
+# A goal that no proof file answers, and that the tactics did not prove.
+SEARCHED = re.compile(r"it is not proved that .*\(`([^`]+)`\)")
 # A proof file that names what an edit took away, and what cites such a proof (rt tells these apart too).
 BY_NAME = re.compile(r"has no field|is not in scope|has no `|\(nearest: |was not admitted")
 ENDED = re.compile(r"only=\d+ holes=\d+|logic=(?:not-)?proved.*")
@@ -17,7 +20,8 @@ class Report:
 
     `has_ended`: whether the prover came to an end. `unproved` and `fit`: the functions that it says are not proved, and those that are but
     for what holes stand for. `own`: the functions with a goal of their own that is not proved, each with what is said of the first.
-    `by_name`: those whose own proof files name what is gone. `elsewhere`: what is said of other goals, as those of lemmas.
+    `searched`: the names of those of their goals that no proof file answers. `by_name`: those whose own proof files name what is gone.
+    `elsewhere`: what is said of other goals, as those of lemmas.
     """
 
     def __init__(self, crate, functions, status, said):
@@ -27,6 +31,7 @@ class Report:
         self.unproved = {it for it, text in lines.items() if text.startswith(("not proved", "no proof"))}
         self.fit = {it for it, text in lines.items() if text.startswith(("proved", "no holes", "depends on a hole"))}
         self.own, self.by_name, self.elsewhere, self.unread_loops = {}, {}, [], set()
+        self.searched, self.answered = collections.defaultdict(list), set()
         for line in said.split("\n"):
             place = PLACE.match(line)
             if place and GOAL.search(place[3]):
@@ -45,6 +50,20 @@ class Report:
             self.elsewhere.append(line)
         else:
             self.own.setdefault(function.name, line)
+            goal = SEARCHED.match(text)
+            if goal:
+                self.searched[function.name].append(goal[1])
+            else:
+                self.answered.add(function.name)
+
+    def spoiled_besides(self, name):
+        """The goals of a function that need not be searched for, since another one of it is not proved either: an answer of its proof files,
+        or one of these goals, a single clause where there is one, which costs less than a record of them."""
+        goals = [*dict.fromkeys(self.searched[name])]
+        if name in self.answered or not goals:
+            return goals
+        kept = next((it for it in goals if "-clause-" in it), goals[0])
+        return [it for it in goals if it != kept]
 
     def owner(self, file, number, text):
         """The function whose goal stands in this place. Functions that call one another have their answers in one file, where the name of

@@ -31,6 +31,8 @@ class Trials:
         # the functions whose proofs no hole can stand for, as a check told
         self.misfits = set()
         self.checks, self.seconds = 0, 0.0
+        # the goals that each refused edit spoiled besides the one that refused it
+        self.besides = {}
         os.makedirs(self.kept)
 
     def verdicts(self, edits, batches, is_proved):
@@ -52,8 +54,15 @@ class Trials:
         batch = Batch(edits)
         report = self.report(batch, batch.struck)
         if len(edits) == 1:
-            return {edits[0]: verdict_of(edits[0], report)}
+            verdict = verdict_of(edits[0], report)
+            if verdict.kind != REFUSED and edits[0].besides:
+                # (it may be that no other goal refuses it)
+                edits[0].besides = []
+                return self.verdicts_of(edits)
+            self.note_besides(batch, [edits[0]] if verdict.kind == REFUSED else [], report)
+            return {edits[0]: verdict}
         found = refused_in(batch, report)
+        self.note_besides(batch, found or [], report)
         rest = [it for it in edits if it not in (found or ())]
         # one that does not compile keeps the others from the prover
         unread = [it for it in rest if report.unread() & batch.places[it]]
@@ -68,6 +77,10 @@ class Trials:
         for part in parts:
             made |= self.verdicts_of(part)
         return made
+
+    def note_besides(self, batch, refused, report):
+        for edit in refused:
+            self.besides[edit] = [goal for name in batch.names_of(edit) for goal in report.spoiled_besides(name)] if edit.has_holes else []
 
     def report(self, batch, struck):
         """What a check with these edits says of the functions of these names, or of the whole crate where none are given."""
@@ -92,6 +105,9 @@ class Trials:
             pathlib.Path(self.copy, path).write_text(batch.laid_out(path, text), encoding="utf-8")
         for edit, name in batch.copies.items():
             self.copy_proofs(edit.struck[0], name)
+        for edit in batch.edits:
+            if edit.besides and edit.has_holes:
+                self.leave_out(edit.besides, *batch.names_of(edit))
         for function in self.functions if struck else ():
             if function.has_stub and function.name not in struck | self.misfits:
                 folder, name = pathlib.Path(self.copy, function.proofs), function.name.rpartition("::")[2]
@@ -100,6 +116,14 @@ class Trials:
                     (folder / file).unlink(missing_ok=True)
                 text = STUB.format(crate=self.crate.name, path=function.name.replace("::", "."), name=name)
                 (folder / "Proof.antt").write_text(text, encoding="utf-8")
+
+    def leave_out(self, goals, name):
+        """Has holes stand for these goals of a function, so that no tactic is tried on them."""
+        file = pathlib.Path(self.copy, "proofs", name.replace("::", "/"), "Answers.antt")
+        file.parent.mkdir(parents=True, exist_ok=True)
+        path = f"Rattle.{self.crate.name}.proofs.{name.replace('::', '.')}"
+        text = file.read_text(encoding="utf-8") if file.is_file() else f"use {path}.Goals as goal\n"
+        file.write_text(text + "".join(f"\npub {it} : goal.{it}\n{it} = ?\n" for it in goals), encoding="utf-8")
 
     def copy_proofs(self, function, name):
         """Gives a copy of a function, of this name, the proof files of the function, which name themselves by it."""
