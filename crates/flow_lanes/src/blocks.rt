@@ -1,14 +1,15 @@
 // Scalars that are put many at once.
-ghost use Rattle.std.specs.Prelude.{◌≡◌, ◌+◌, ◌≤◌, length, min};
+ghost use Rattle.std.specs.Prelude.{◌≡◌, ◌+◌, ◌≤◌, length, min, take};
 ghost use Rattle.flow_messages.specs.Kinds.{TakesKind};
 ghost use Rattle.flow_rings.specs.Edge.{sent, certain_room, kind_of, SameWriter};
+ghost use Rattle.flow_rings.specs.Flats.{messages_of};
 ghost use Rattle.flow_lanes.specs.Followed.{followed_unless_ended, item_messages};
 
 use crate::counted::CountedWriter;
 use flow_rings::{EdgeWriter, Flat};
 
-// A block has so many places.
-pub(crate) const PLACES: usize = 16;
+// A block has so many places. Each end of a lane has one, made once.
+pub(crate) const PLACES: usize = 32;
 
 // Fewer go one after another, since a block costs more to make than their fences do.
 const FEW: usize = 3;
@@ -130,12 +131,24 @@ pub(crate) fn put_each<T: Scalar>(edge: &mut EdgeWriter, values: &[T])
     }
 }
 
+// What these values go as lies in the first places.
+#[inline(always)]
+fn lay_out<T: Scalar>(values: &[T], flats: &mut [Flat])
+    requires places { length values.now ≤ length flats.old }
+    ensures places { length flats.new ≡ length flats.old }
+    ensures laid { messages_of (take (length values.now) flats.new) ≡
+        item_messages T.item values.now }
+{
+    for place in 0..values.len() {
+        flats[place] = values[place].flat();
+    }
+}
+
 impl CountedWriter {
-    // Puts at most 16 of these in one block, where room is certain. They are dropped where `End` was put before. It stands alone,
-    // since a function pays at entry for the size of a block.
+    // Puts at most 32 of these in one block, where room is certain. They are dropped where `End` was put before.
     #[inline(never)]
     fn put_block<T: Scalar>(&mut self, values: &[T])
-        requires few { length values.now ≤ 16 }
+        requires few { length values.now ≤ 32 }
         requires takes { TakesKind (kind_of self.old.edge) T.kind }
         requires certain { length values.now ≤ min self.old.room (certain_room self.old.edge) }
         ensures edge { SameWriter self.old.edge self.new.edge }
@@ -145,13 +158,9 @@ impl CountedWriter {
         ensures room { min self.old.room (certain_room self.old.edge) ≤
             min self.new.room (certain_room self.new.edge) + length values.now }
     {
-        let count = values.len();
-        let mut block = [Flat::End; PLACES];
-        for place in 0..count {
-            block[place] = values[place].flat();
-        }
-        if self.edge.put_slice(&block[..count]) {
-            self.room -= count;
+        lay_out(values, &mut self.block);
+        if self.edge.put_slice(&self.block[..values.len()]) {
+            self.room -= values.len();
         }
     }
 

@@ -4,7 +4,8 @@ ghost use Rattle.flow_messages.specs.Limits.{greatest_capacity};
 ghost use Rattle.flow_rings.specs.Edge.{sent, received, edge_capacity, kind_of};
 ghost use Rattle.flow_lanes.specs.Credits.{credit};
 
-use flow_rings::{EdgeReader, EdgeWriter};
+use crate::blocks::PLACES;
+use flow_rings::{EdgeReader, EdgeWriter, Flat};
 
 /// The end of a lane that puts scalars of one kind. It puts no more than the lane has places for, beside those that its
 /// reader told to be taken.
@@ -16,6 +17,8 @@ pub struct CountedWriter {
     // How many messages more may be put until the reader tells of more.
     pub(crate) room: usize,
     pub(crate) capacity: usize,
+    // What it puts at once lies here before.
+    pub(crate) block: [Flat; PLACES],
     ghost scalar: { kind_of edge ≢ None },
     ghost places: { edge_capacity edge ≡ capacity },
     ghost limit: { capacity ≤ greatest_capacity },

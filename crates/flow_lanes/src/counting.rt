@@ -1,5 +1,5 @@
 // What is called at the end that puts scalars.
-ghost use Rattle.std.specs.Prelude.{◌≡◌, ◌+◌, ◌<◌, ◌≤◌, ◌↔◌, true, false, [], ◌∷◌, ◌++◌, length, min, IsOk, OnOk, IfErr, IsErrAnd};
+ghost use Rattle.std.specs.Prelude.{◌≡◌, ◌+◌, ◌<◌, ◌≤◌, ◌↔◌, true, false, [], ◌∷◌, ◌++◌, length, min, IsTrue, IsOk, OnOk, IfErr, IsErrAnd};
 ghost use Rattle.flow_messages.specs.Signals.{signals, signal_of, ended};
 ghost use Rattle.flow_messages.specs.Kinds.{FitsEdge};
 ghost use Rattle.flow_messages.specs.declared.ends.Why.TheVariants.{Full, Closed};
@@ -84,6 +84,22 @@ impl CountedWriter {
         self.edge.put(message)?;
         self.room -= 1;
         Ok(())
+    }
+
+    // Whether one message more is certain of room.
+    #[inline(always)]
+    pub(crate) fn has_room(&mut self) -> bool
+        ensures edge { SameWriter self.old.edge self.new.edge }
+        ensures back { SameReader self.old.back self.new.back }
+        ensures sent { sent self.new.edge ≡ sent self.old.edge }
+        ensures room { (self.old.room ≤ self.new.room) ×
+            (certain_room self.old.edge ≤ certain_room self.new.edge) }
+        ensures value { IsTrue result ↔ (0 < min self.new.room (certain_room self.new.edge)) }
+    {
+        if self.room == 0 {
+            self.look_back();
+        }
+        self.edge.room() && self.room > 0
     }
 
     // How many messages more are certain of room.

@@ -30,7 +30,7 @@ fn values_of<T: Scalar>(flats: &[Flat], values: &mut [T]) -> usize
 // The first of these are held, as long as they are units. How many they are.
 #[inline(always)]
 fn keep_units(inbox: &mut Inbox, flats: &[Flat]) -> usize
-    requires few { length flats.now ≤ 16 }
+    requires few { length flats.now ≤ 32 }
     requires room { length (content_of inbox.old.store) + length flats.now ≤
         inbox.old.store.capacity }
     ensures within { result ≤ length flats.now }
@@ -45,7 +45,7 @@ fn keep_units(inbox: &mut Inbox, flats: &[Flat]) -> usize
 // The first of these are held, as long as they are truth values. How many they are.
 #[inline(always)]
 fn keep_flags(inbox: &mut Inbox, flats: &[Flat]) -> usize
-    requires few { length flats.now ≤ 16 }
+    requires few { length flats.now ≤ 32 }
     requires room { length (content_of inbox.old.store) + length flats.now ≤
         inbox.old.store.capacity }
     ensures within { result ≤ length flats.now }
@@ -60,7 +60,7 @@ fn keep_flags(inbox: &mut Inbox, flats: &[Flat]) -> usize
 // The first of these are held, as long as they are integers of 64 bits. How many they are.
 #[inline(always)]
 fn keep_ints(inbox: &mut Inbox, flats: &[Flat]) -> usize
-    requires few { length flats.now ≤ 16 }
+    requires few { length flats.now ≤ 32 }
     requires room { length (content_of inbox.old.store) + length flats.now ≤
         inbox.old.store.capacity }
     ensures within { result ≤ length flats.now }
@@ -75,7 +75,7 @@ fn keep_ints(inbox: &mut Inbox, flats: &[Flat]) -> usize
 // The first of these are held, as long as they are of one kind. How many they are.
 #[inline(always)]
 fn keep_alike(inbox: &mut Inbox, flats: &[Flat]) -> usize
-    requires few { length flats.now ≤ 16 }
+    requires few { length flats.now ≤ 32 }
     requires room { length (content_of inbox.old.store) + length flats.now ≤
         inbox.old.store.capacity }
     ensures within { result ≤ length flats.now }
@@ -100,10 +100,10 @@ fn keep_each(inbox: &mut Inbox, flats: &[Flat])
     }
 }
 
-// At most 16 messages are held after those that are held already.
+// At most 32 messages are held after those that are held already.
 #[inline(always)]
 pub(crate) fn keep(inbox: &mut Inbox, flats: &[Flat])
-    requires few { length flats.now ≤ 16 }
+    requires few { length flats.now ≤ 32 }
     requires room { length (content_of inbox.old.store) + length flats.now ≤
         inbox.old.store.capacity }
     ensures { HasCome (messages_of flats.now) inbox.old inbox.new }

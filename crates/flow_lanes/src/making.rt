@@ -4,6 +4,7 @@ ghost use Rattle.flow_messages.specs.Kinds.{TakesKind};
 ghost use Rattle.flow_messages.specs.Limits.{greatest_capacity};
 ghost use Rattle.flow_lanes.specs.Lane.{sent, received, certain_room, certain_held, edge_capacity, kind_of, IsLane};
 
+use crate::blocks::PLACES;
 use crate::counted::CountedWriter;
 use crate::counting::NUMBERS;
 use crate::ends::{LaneReader, LaneWriter};
@@ -11,7 +12,7 @@ use crate::pocket::Pocket;
 use flow_boxes::Inbox;
 use flow_history::History;
 use flow_messages::Kind;
-use flow_rings::{edge, scalar_edge};
+use flow_rings::{Flat, edge, scalar_edge};
 use std::alloc::{AllocError, Global};
 
 /// The two ends of a lane for items of this kind, which holds at most `capacity` messages. Nothing was put on it.
@@ -43,12 +44,14 @@ pub fn lane(
         back,
         room: capacity,
         capacity,
+        block: [Flat::End; PLACES],
     };
     let reader = Pocket {
         edge: reader,
         inbox,
         back: teller,
         owed: 0,
+        block: [Flat::End; PLACES],
         came: History::new(),
     };
     Ok((LaneWriter::Scalars(writer), LaneReader::Scalars(reader)))

@@ -4,10 +4,11 @@ ghost use Rattle.flow_boxes.specs.Received.{received_of};
 ghost use Rattle.flow_rings.specs.Edge.{received, reader_kind};
 ghost use Rattle.flow_lanes.specs.Credits.{Owes};
 
+use crate::blocks::PLACES;
 use flow_boxes::Inbox;
 use flow_history::History;
 use flow_messages::Msg;
-use flow_rings::{EdgeReader, EdgeWriter};
+use flow_rings::{EdgeReader, EdgeWriter, Flat};
 
 /// The end of a lane that takes scalars of one kind. Its inbox holds those that came over the edge and were not taken.
 #[derive(Drop)]
@@ -18,6 +19,8 @@ pub struct Pocket {
     pub(crate) back: EdgeWriter,
     // How many were taken since that was told. The count stays at `u64::MAX`.
     pub(crate) owed: u64,
+    // What it takes over at once lies here before it is held.
+    pub(crate) block: [Flat; PLACES],
     // All that came over the edge.
     pub(crate) came: History<Msg>,
     ghost scalar: { reader_kind edge ≢ None },

@@ -22,7 +22,7 @@ use flow_rings::{EdgeReader, EdgeWriter, Flat};
 const MANY: u64 = 64;
 
 // So many times a block is taken over in one look at most.
-const TIMES: usize = 16;
+const TIMES: usize = 8;
 
 // The message that says a number.
 #[inline(always)]
@@ -83,9 +83,8 @@ impl Pocket {
         }
     }
 
-    // Messages are taken over from the edge, some times as many as a block holds. It stands alone, since a function pays at entry
-    // for the size of a block.
-    #[inline(never)]
+    // Messages are taken over from the edge, some times as many as a block holds.
+    #[inline(always)]
     fn take_over(&mut self)
         ensures edge { SameReader self.old.edge self.new.edge }
         ensures back { self.new.back ≡ self.old.back }
@@ -94,18 +93,16 @@ impl Pocket {
         ensures some { 0 < length (certain_held self.old.edge) →
             0 < length (content_of self.new.inbox.store) }
     {
-        let mut block = [Flat::End; PLACES];
         for _ in 0..TIMES {
-            self.take_block(&mut block);
-            if !self.edge.ready() {
+            if !self.take_block() {
                 return;
             }
         }
     }
 
-    // Messages are taken over by way of this block.
+    // Messages are taken over by way of the block. Whether they filled it: then there may be more.
     #[inline(always)]
-    fn take_block(&mut self, block: &mut [Flat; PLACES])
+    fn take_block(&mut self) -> bool
         ensures edge { SameReader self.old.edge self.new.edge }
         ensures back { self.new.back ≡ self.old.back }
         ensures taken { taken_from self.new ≡ taken_from self.old }
@@ -116,9 +113,10 @@ impl Pocket {
             length (content_of self.new.inbox.store) }
     {
         let places = self.inbox.store.capacity - self.inbox.store.len();
-        let count = self.edge.take_slice(block, places);
-        keep(&mut self.inbox, &block[..count]);
+        let count = self.edge.take_slice(&mut self.block, places);
+        keep(&mut self.inbox, &self.block[..count]);
         self.came = History::new().followed_by(&self.inbox.arrived);
+        count == PLACES
     }
 
     // Messages that came are held, where none is.

@@ -123,7 +123,10 @@ impl LaneWriter {
             (certain_room self.old ≤ certain_room self.new) }
         ensures value { IsTrue result ↔ (0 < certain_room self.new) }
     {
-        self.space() > 0
+        match self {
+            LaneWriter::Messages(edge) => edge.room(),
+            LaneWriter::Scalars(writer) => writer.has_room(),
+        }
     }
 
     /// How many messages were put. The count stays at `u64::MAX`.
