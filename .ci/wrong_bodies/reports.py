@@ -8,8 +8,8 @@ from kit import rt
 
 PLACE = re.compile(r"(?:note: )?(?:\./)?((?:src|proofs|specs)/\S+?):(\d+):\d+: (.*)")
 GOAL = re.compile(r"^error: |it is not proved that|`search` found no proof")
-# A goal that no proof file answers, and that the tactics did not prove.
-SEARCHED = re.compile(r"it is not proved that .*\(`([^`]+)`\)")
+# A goal that no proof file answers, and that the tactics did not prove. Not each says what it is for.
+SEARCHED = re.compile(r"(?:it is not proved that .*|`search` found no proof )\(`([^`]+)`\)")
 # A proof file that names what an edit took away, and what cites such a proof (rt tells these apart too).
 BY_NAME = re.compile(r"has no field|is not in scope|has no `|\(nearest: |was not admitted")
 ENDED = re.compile(r"only=\d+ holes=\d+|logic=(?:not-)?proved.*")
