@@ -60,11 +60,13 @@ class Code:
         of_tests = tuple(place for file, its in tokens.items() for place in places_of_tests(file, its))
         self.tokens = {file: its for file, its in tokens.items() if not file.startswith(of_tests)}
         # a type's own functions are named by the module that declares it
-        self.types = collections.defaultdict(list)
+        self.types, self.nested = collections.defaultdict(list), set()
         for file, tokens in self.tokens.items():
-            for before, token in zip(tokens, tokens[1:]):
+            for at, (before, token) in enumerate(zip(tokens, tokens[1:])):
                 if before.word in ("struct", "enum"):
                     self.types[token.word].append(file)
+                    # those whose values may hold others of their own type
+                    self.nested |= {token.word} if holds_its_own(tokens, at + 1) else set()
         self.functions = []
         for file, tokens in self.tokens.items():
             for around, block, end in blocks_of(tokens):
@@ -75,12 +77,12 @@ class Code:
     def function(self, file, around, block, end):
         heads = [words_of(it) for it in (*around, block)]
         name = heads[-1][heads[-1].index("fn") + 1]
-        inside = (it.word for it in self.tokens[file] if block.brace.end <= it.begin < end.begin)
+        inside = [it.word for it in self.tokens[file] if block.brace.end <= it.begin < end.begin]
         cycle = next((it[it.index("cycle") + 2] for it in heads if "cycle" in it), None)
         is_plain = not any(word in head for head in heads for word in ("const", "unsafe"))
         path = self.path(file, around)
-        # (a call of the same name is mostly one of another type's function; what calls itself has a folder for its measure)
-        calls_itself = name in inside and pathlib.Path(self.folder, "proofs", *path, f"+{name}").is_dir()
+        has_measure = pathlib.Path(self.folder, "proofs", *path, f"+{name}").is_dir()
+        calls_itself = has_measure or calls_alike(inside, name, any("impl" in it for it in heads), bool(self.nested & {*path[-1:]}))
         has_stub = is_plain and cycle is None and not any("trait" in it for it in heads) and not calls_itself
         return Function(
             name="::".join([*path, name]),
@@ -158,6 +160,24 @@ def blocks_of(tokens):
             head = []
         else:
             head.append(token)
+
+
+def holds_its_own(tokens, at):
+    """Whether the declaration of the type that is named there names it again."""
+    depth, words = 0, []
+    for token in tokens[at + 1 :]:
+        depth += (token.word in ("(", "{")) - (token.word in (")", "}"))
+        words.append(token.word)
+        if depth == 0 and token.word in (";", "}"):
+            break
+    return tokens[at].word in words
+
+
+def calls_alike(words, name, is_method, is_nested):
+    """Whether a function of this name with these words probably calls itself: by its name alone, or where it is a method of a type that
+    holds values of that type, by a receiver. Else a receiver or a path mostly leads to another type's function of that name."""
+    calls = {before for before, word, after in zip(["{", *words], words, words[1:]) if (word, after) == (name, "(")}
+    return bool(not is_method and calls - {".", ":"} or is_nested and "." in calls)
 
 
 def words_of(block):
