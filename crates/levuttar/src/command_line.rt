@@ -4,10 +4,12 @@ use crate::drawing::draw_command;
 use crate::sizing::size_command;
 use crate::watching::watch_word;
 use clap::{Arg, ArgMatches, Command};
+use snesl_data::Refusal;
+use snesl_run::{Config, settings};
 use std::alloc::{AllocError, Global};
 
 // The options that say settings. Each has a name, the word before its value, what that is, and a line of help.
-pub(crate) const OPTIONS: [(&str, &str, &str, &str); 6] = [
+const OPTIONS: [(&str, &str, &str, &str); 6] = [
     (
         "capacity",
         "--capacity",
@@ -48,35 +50,52 @@ pub(crate) const OPTIONS: [(&str, &str, &str, &str); 6] = [
 
 // The command of the program, with its subcommands.
 pub(crate) fn command<'a>(alloc: Global) -> Result<Command<'a>, AllocError> {
-    let mut run = Command::new(alloc, "run")
+    Command::new(alloc, "levuttar")
+        .bin_name("levuttar")?
+        .about("Runs programs of Streaming NESL, and says in words what goes wrong")
+        .subcommand_required(true)
+        .arg_required_else_help(true)
+        .subcommand(run_command(alloc)?)?
+        .subcommand(size_command(alloc)?)?
+        .subcommand(draw_command(alloc)?)
+}
+
+// The subcommand `run`.
+fn run_command<'a>(alloc: Global) -> Result<Command<'a>, AllocError> {
+    let run = Command::new(alloc, "run")
         .about("Runs a job: prints its value, or says what went wrong and where")
         .after_help("A job is a program, a line `---`, and its input text.");
+    with_settings(alloc, run)?
+        .arg(watch_word(alloc))?
+        .arg(file_word(alloc))
+}
+
+// The command with the options that say settings.
+pub(crate) fn with_settings<'a>(
+    alloc: Global,
+    command: Command<'a>,
+) -> Result<Command<'a>, AllocError> {
+    let mut command = command;
     for (name, _, value, help) in OPTIONS {
-        run = run.arg(
+        command = command.arg(
             Arg::new(alloc, name)
                 .long(name)
                 .value_name(value)
                 .help(help),
         )?;
     }
-    let file = Arg::new(alloc, "file")
-        .value_name("FILE")
-        .help("The job; without it, standard input is read");
-    Command::new(alloc, "levuttar")
-        .bin_name("levuttar")?
-        .about("Runs programs of Streaming NESL, and says in words what goes wrong")
-        .subcommand_required(true)
-        .arg_required_else_help(true)
-        .subcommand(run.arg(watch_word(alloc))?.arg(file)?)?
-        .subcommand(size_command(alloc)?)?
-        .subcommand(draw_command(alloc)?)
+    Ok(command)
 }
 
-// The words that were given to the options of `run`, as `settings` reads them.
-pub(crate) fn setting_words<'a>(
-    alloc: Global,
-    matches: &ArgMatches<'a>,
-) -> Result<Vec<&'a str>, AllocError> {
+// The word that names the file of a job.
+pub(crate) fn file_word<'a>(alloc: Global) -> Arg<'a> {
+    Arg::new(alloc, "file")
+        .value_name("FILE")
+        .help("The job; without it, standard input is read")
+}
+
+// The configuration that the words say.
+pub(crate) fn config_of(alloc: Global, matches: &ArgMatches<'_>) -> Result<Config, Refusal> {
     let mut words = vec![in alloc; "levuttar"]?;
     for (name, word, _, _) in OPTIONS {
         if let Some(value) = matches.get_str(name) {
@@ -84,5 +103,5 @@ pub(crate) fn setting_words<'a>(
             words.push(value)?;
         }
     }
-    Ok(words)
+    settings(alloc, &words)
 }

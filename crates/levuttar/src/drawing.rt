@@ -1,24 +1,21 @@
 // Drawing the network of a program.
 
-use crate::command_line::{OPTIONS, setting_words};
-use crate::saying::{job_message, say, say_plainly, unopened_message};
-use crate::sizing::chunk_said;
-use crate::stalling::stall_message;
+use crate::command_line::{config_of, file_word, with_settings};
+use crate::reading::read_job;
+use crate::running::{run_alone, say_outcome};
+use crate::saying::{say_plainly, say_refused};
 use clap::{Arg, ArgAction, ArgMatches, Command};
 use snesl_console::send;
 use snesl_data::{Counted, Refusal};
 use snesl_draw::{Drawing, drawing_of, network_dot, network_text};
 use snesl_flatten::flatten;
-use snesl_look::fault_message;
-use snesl_run::{NoGate, Outcome, Report, run, settings, split_job};
+use snesl_run::{Config, Outcome, Report};
 use snesl_syntax::parse;
 use snesl_types::check;
 use snesl_values::read_inputs;
 use std::alloc::{AllocError, Global};
-use std::fs;
 use std::io::{self, Read, Write};
 use std::rt::Files;
-use std::sync::Arc;
 use std::thread::Threads;
 
 // What is drawn besides, each by an option: its name, and a line of help.
@@ -33,7 +30,7 @@ const FLAGS: [(&str, &str); 2] = [
     ),
 ];
 
-// The words of `draw`.
+// The subcommand `draw`.
 pub(crate) fn draw_command<'a>(alloc: Global) -> Result<Command<'a>, AllocError> {
     let mut draw = Command::new(alloc, "draw")
         .about("Draws the network of a program, in DOT, the language of Graphviz")
@@ -44,21 +41,18 @@ pub(crate) fn draw_command<'a>(alloc: Global) -> Result<Command<'a>, AllocError>
         let flag = Arg::new(alloc, name).long(name);
         draw = draw.arg(flag.action(ArgAction::SetTrue).help(help))?;
     }
-    for (name, _, value, help) in OPTIONS {
-        draw = draw.arg(
-            Arg::new(alloc, name)
-                .long(name)
-                .value_name(value)
-                .help(help),
-        )?;
-    }
-    let file = Arg::new(alloc, "file")
-        .value_name("FILE")
-        .help("The job; without it, standard input is read");
-    draw.arg(file)
+    with_settings(alloc, draw)?.arg(file_word(alloc))
 }
 
-// Draws the program of the file that the words name, or of standard input. Gives the exit status.
+// A drawing as text, and where the job was run for it, how that came out and under which chunk.
+#[derive(Drop)]
+struct Picture {
+    text: Vec<u8>,
+    run: Option<(Outcome, usize)>,
+}
+
+// Draws the program of the file that the words name, or of standard input. The drawing goes to `out`, and what went wrong to
+// `err`. Gives the exit status.
 pub(crate) fn draw_file<H: AllocGlobal + Files + Threads, R: Read + Drop, W: Write, E: Write>(
     rt: &H,
     matches: &ArgMatches<'_>,
@@ -66,84 +60,75 @@ pub(crate) fn draw_file<H: AllocGlobal + Files + Threads, R: Read + Drop, W: Wri
     out: &mut Counted<W>,
     err: &mut Counted<E>,
 ) -> u8 {
-    match matches.get_str("file") {
-        None => draw_job(rt, rt.alloc(), matches, stdin, out, err),
-        Some(path) => match fs::open(rt, path) {
-            Ok(file) => draw_job(rt, rt.alloc(), matches, file, out, err),
-            Err(_) => say(
-                unopened_message(rt.alloc(), path),
-                Refusal::Read.status(),
-                err,
-            ),
-        },
-    }
-}
-
-// Draws the program of the job that a reader gives. The drawing goes to `out`, and what went wrong to `err`.
-fn draw_job<R: Read + Drop, W: Write, E: Write>(
-    rt: &impl Threads,
-    alloc: Global,
-    matches: &ArgMatches<'_>,
-    reader: R,
-    out: &mut Counted<W>,
-    err: &mut Counted<E>,
-) -> u8 {
-    let mut job = Counted::new(reader);
-    let (program, input) = match split_job(alloc, &mut job) {
+    let (program, input) = match read_job(rt, matches, stdin, err) {
         Ok(parts) => parts,
-        Err(error) => return say_plainly(Refusal::from(error), err),
+        Err(status) => return status,
     };
-    match drawn(rt, alloc, matches, &program, &input) {
-        Ok((text, outcome)) => {
-            if !send(out, &text) {
-                return say_plainly(Refusal::Output, err);
-            }
-            match outcome {
-                Outcome::Value => 0,
-                Outcome::Fault(fault) => say(fault_message(alloc, fault, &program), 2, err),
-                Outcome::Stalled { edge } => match chunk_said(alloc, matches) {
-                    Ok(chunk) => {
-                        let message = stall_message(rt, alloc, &program, &input, chunk, edge);
-                        say(message, 3, err)
-                    }
-                    Err(refusal) => say_plainly(refusal, err),
-                },
-            }
-        }
-        Err(refusal) => {
-            let message = job_message(alloc, refusal, &program, &input);
-            say(message, refusal.status(), err)
-        }
+    let picture = match drawn(rt, rt.alloc(), matches, &program, &input) {
+        Ok(picture) => picture,
+        Err(refusal) => return say_refused(rt.alloc(), refusal, &program, &input, err),
+    };
+    if !send(out, &picture.text) {
+        return say_plainly(Refusal::Output, err);
+    }
+    match picture.run {
+        None => 0,
+        Some((outcome, chunk)) => say_outcome(rt, outcome, &program, &input, chunk, err),
     }
 }
 
-// The drawing that the words say, and how the job came out, where it was run for the drawing.
+// The drawing that the words say.
 fn drawn(
     rt: &impl Threads,
     alloc: Global,
     matches: &ArgMatches<'_>,
     program: &[u8],
     input: &[u8],
-) -> Result<(Vec<u8>, Outcome), Refusal> {
+) -> Result<Picture, Refusal> {
     let mut drawing = drawing_of_job(alloc, program, input)?;
-    let mut outcome = Outcome::Value;
-    if matches.get_flag("traffic") {
-        let words = setting_words(alloc, matches)?;
-        let config = settings(alloc, &words)?;
-        let gate = Arc::new(alloc, NoGate)?;
-        let mut nowhere = Counted::new(io::sink());
-        let report = run(rt, alloc, program, input, &config, gate, &mut nowhere).map_err(
-            |error| error.refusal(),
-        )?;
-        add_traffic(&mut drawing, &report);
-        outcome = report.outcome();
-    }
+    let run = if matches.get_flag("traffic") {
+        let config = config_of(alloc, matches)?;
+        let outcome = add_traffic(rt, alloc, program, input, &config, &mut drawing)?;
+        Some((outcome, config.chunk))
+    } else {
+        None
+    };
     let text = if matches.get_flag("text") {
         network_text(alloc, program, &drawing)?
     } else {
         network_dot(alloc, program, &drawing)?
     };
-    Ok((text, outcome))
+    Ok(Picture { text, run })
+}
+
+// Runs a job, and adds to the drawing of its network how many messages went over each edge. Gives how it came out.
+fn add_traffic(
+    rt: &impl Threads,
+    alloc: Global,
+    program: &[u8],
+    input: &[u8],
+    config: &Config,
+    drawing: &mut Drawing,
+) -> Result<Outcome, Refusal> {
+    let mut nowhere = Counted::new(io::sink());
+    match run_alone(rt, alloc, program, input, config, &mut nowhere) {
+        Ok(report) => {
+            count_messages(drawing, &report);
+            Ok(report.outcome())
+        }
+        Err(error) => Err(error.refusal()),
+    }
+}
+
+// Adds how many messages went over each edge of a network at rest to the drawing of the same network.
+fn count_messages(drawing: &mut Drawing, report: &Report) {
+    let rested = report.rested();
+    for (number, edge) in drawing.edges.iter_mut().enumerate() {
+        if number < rested.edges() {
+            let (sent, _) = rested.counts(number);
+            edge.messages = Some(sent);
+        }
+    }
 }
 
 // The drawing of the network of a program with its input text, of which no step is made.
@@ -158,15 +143,4 @@ pub(crate) fn drawing_of_job(
     let plan = flatten(alloc, &typed)?;
     let graph = plan.with(inputs)?;
     drawing_of(alloc, &typed, &graph)
-}
-
-// How many messages went over each edge of the network of the same program.
-fn add_traffic(drawing: &mut Drawing, report: &Report) {
-    let rested = report.rested();
-    for (number, edge) in drawing.edges.iter_mut().enumerate() {
-        if number < rested.edges() {
-            let (sent, _) = rested.counts(number);
-            edge.messages = Some(sent);
-        }
-    }
 }

@@ -3,6 +3,7 @@
 
 mod command_line;
 mod drawing;
+mod reading;
 mod running;
 mod saying;
 mod sizing;

@@ -33,7 +33,7 @@ pub(crate) fn say_plainly<E: Write>(refusal: Refusal, err: &mut Counted<E>) -> u
 }
 
 // What is said of a refusal of a job: of types that do not fit, which they are, where that is found.
-pub(crate) fn job_message(
+fn job_message(
     alloc: Global,
     refusal: Refusal,
     program: &[u8],
@@ -46,6 +46,18 @@ pub(crate) fn job_message(
         return clash_message(alloc, at, program, &clash);
     }
     refusal_message(alloc, refusal, program, input)
+}
+
+// Says why a job is refused, and gives the exit status.
+pub(crate) fn say_refused<E: Write>(
+    alloc: Global,
+    refusal: Refusal,
+    program: &[u8],
+    input: &[u8],
+    err: &mut Counted<E>,
+) -> u8 {
+    let message = job_message(alloc, refusal, program, input);
+    say(message, refusal.status(), err)
 }
 
 // What is said of a file that cannot be opened.

@@ -1,14 +1,14 @@
 // How much the edges of a program must hold: `levuttar size`, and what `levuttar run` tells of a stall.
 
-use crate::saying::{job_message, say, say_plainly, unopened_message};
+use crate::command_line::{config_of, file_word};
+use crate::reading::read_job;
+use crate::saying::{say, say_plainly, say_refused};
 use clap::{Arg, ArgMatches, Command};
 use snesl_console::send;
 use snesl_data::{Counted, Refusal};
-use snesl_look::{Enough, fault_message, refusal_message, stalled_message};
-use snesl_run::{settings, split_job};
+use snesl_look::{Enough, fault_message, stalled_message};
 use snesl_size::{Size, least_capacity, size_table};
 use std::alloc::{AllocError, Global};
-use std::fs;
 use std::io::{Read, Write};
 use std::rt::Files;
 use std::thread::Threads;
@@ -28,14 +28,11 @@ pub(crate) fn size_command<'a>(alloc: Global) -> Result<Command<'a>, AllocError>
                     "How many steps a node makes before the next has its turn, 1 to 1024 [without it: 16]",
                 ),
         )?
-        .arg(
-            Arg::new(alloc, "file")
-                .value_name("FILE")
-                .help("The job; without it, standard input is read"),
-        )
+        .arg(file_word(alloc))
 }
 
-// Tells the size of the job of the file that the words name, or of standard input. Gives the exit status.
+// Tells the size of the job of the file that the words name, or of standard input. The table goes to `out`, and what went wrong
+// to `err`. Gives the exit status.
 pub(crate) fn size_file<H: AllocGlobal + Files + Threads, R: Read + Drop, W: Write, E: Write>(
     rt: &H,
     matches: &ArgMatches<'_>,
@@ -43,50 +40,14 @@ pub(crate) fn size_file<H: AllocGlobal + Files + Threads, R: Read + Drop, W: Wri
     out: &mut Counted<W>,
     err: &mut Counted<E>,
 ) -> u8 {
-    let chunk = match chunk_said(rt.alloc(), matches) {
-        Ok(chunk) => chunk,
-        Err(refusal) => {
-            let message = refusal_message(rt.alloc(), refusal, b"", b"");
-            return say(message, refusal.status(), err);
-        }
+    let alloc = rt.alloc();
+    let chunk = match config_of(alloc, matches) {
+        Ok(config) => config.chunk,
+        Err(refusal) => return say_refused(alloc, refusal, b"", b"", err),
     };
-    match matches.get_str("file") {
-        None => size_job(rt, rt.alloc(), chunk, stdin, out, err),
-        Some(path) => match fs::open(rt, path) {
-            Ok(file) => size_job(rt, rt.alloc(), chunk, file, out, err),
-            Err(_) => say(
-                unopened_message(rt.alloc(), path),
-                Refusal::Read.status(),
-                err,
-            ),
-        },
-    }
-}
-
-// The chunk that the words say.
-pub(crate) fn chunk_said(alloc: Global, matches: &ArgMatches<'_>) -> Result<usize, Refusal> {
-    let mut words = vec![in alloc; "levuttar"]?;
-    if let Some(chunk) = matches.get_str("chunk") {
-        words.push("--chunk")?;
-        words.push(chunk)?;
-    }
-    let config = settings(alloc, &words)?;
-    Ok(config.chunk)
-}
-
-// Tells the size of the job that a reader gives: the table goes to `out`, and what went wrong to `err`.
-fn size_job<R: Read + Drop, W: Write, E: Write>(
-    rt: &impl Threads,
-    alloc: Global,
-    chunk: usize,
-    reader: R,
-    out: &mut Counted<W>,
-    err: &mut Counted<E>,
-) -> u8 {
-    let mut job = Counted::new(reader);
-    let (program, input) = match split_job(alloc, &mut job) {
+    let (program, input) = match read_job(rt, matches, stdin, err) {
         Ok(parts) => parts,
-        Err(error) => return say_plainly(Refusal::from(error), err),
+        Err(status) => return status,
     };
     match least_capacity(rt, alloc, &program, &input, chunk) {
         Ok(
@@ -102,10 +63,7 @@ fn size_job<R: Read + Drop, W: Write, E: Write>(
             3,
             err,
         ),
-        Err(refusal) => {
-            let message = job_message(alloc, refusal, &program, &input);
-            say(message, refusal.status(), err)
-        }
+        Err(refusal) => say_refused(alloc, refusal, &program, &input, err),
     }
 }
 
