@@ -23,3 +23,9 @@ pub returns-clause-each : goal.returns-clause-each
 returns-clause-each g c = λ k d below.
     (let whole : length c.loop-thread.back.items ≡ length c.args.shares.items = grind (arith, common_steps) in
     c.loop-thread.invariant.each k d (omega (arith, whole)))
+
+pub loop-thread-init : goal.loop-thread-init
+loop-thread-init g c = grind (arith, common_steps)
+
+pub returns-clause-count : goal.returns-clause-count
+returns-clause-count g c = grind (arith, common_steps)

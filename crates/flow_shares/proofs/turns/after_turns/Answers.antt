@@ -1,4 +1,5 @@
-use Rattle.std.proofs.Common.{◌≡◌, false, true, sym, ◌∙◌}
+use Rattle.std.proofs.lemmas.Grind.{common_steps}
+use Rattle.std.proofs.Common.{arith, ◌≡◌, false, true, sym, ◌∙◌}
 use Rattle.flow_shares.specs.Shares.{most_turns}
 use Rattle.flow_shares.proofs.Rounds.{there_out, apart_out, own_out, often_out}
 use Rattle.flow_shares.proofs.turns.after_turns.Goals.{in-Ok, in-Err}
@@ -42,3 +43,6 @@ returns-clause-often g c =
       | in-Err w ↦ (let spent_is : back.1.1.1.0 ≡ false = λ i. (w.result-is i).1.1.1.0 in
           λ spent. absurd (let no : true ≡ false = sym spent ∙ spent_is in cc))
     ]
+
+pub returns-clause-starves : goal.returns-clause-starves
+returns-clause-starves g c = grind (arith, common_steps)

@@ -1,3 +1,4 @@
+use Rattle.std.proofs.lemmas.Grind.{common_steps}
 use Rattle.std.proofs.Common.{[], ◌∷◌, inl, inr, refl, sym, ◌∙◌, ap, length, arith, length-append}
 use Rattle.flow_base.proofs.Visits.{on_err}
 use Rattle.flow_shares.specs.Shares.{most_turns}
@@ -94,3 +95,15 @@ returns-then-idle-idle_turns-clause-spares g c =
 
 pub returns-then-is_empty-clause-spares : goal.returns-then-is_empty-clause-spares
 returns-then-is_empty-clause-spares g c = spared_none c.args.nodes.now.items (g.E.Ends.view c.args.ends.now)
+
+pub returns-in_err-pass-clause-places : goal.returns-in_err-pass-clause-places
+returns-in_err-pass-clause-places g c = grind (arith, common_steps)
+
+pub returns-then-idle-idle_turns-clause-places : goal.returns-then-idle-idle_turns-clause-places
+returns-then-idle-idle_turns-clause-places g c = grind (arith, common_steps)
+
+pub returns-then-idle-idle_turns-clause-ends : goal.returns-then-idle-idle_turns-clause-ends
+returns-then-idle-idle_turns-clause-ends g c = grind (arith, common_steps)
+
+pub returns-then-idle-idle_turns-clause-rest : goal.returns-then-idle-idle_turns-clause-rest
+returns-then-idle-idle_turns-clause-rest g c = grind (arith, common_steps)

@@ -1,3 +1,4 @@
+use Rattle.std.proofs.lemmas.Grind.{common_steps}
 use Rattle.std.proofs.Common.{arith, rules, refl}
 use lib.Chars.{codes}
 use Rattle.snesl_lexer.proofs.Tables.{word_read}
@@ -35,3 +36,42 @@ returns-in-114-3 c = word_read c.args.word.now (codes "reduce_and") _ refl (omeg
 
 pub returns-in-114-2 : goal.returns-in-114-2
 returns-in-114-2 c = word_read c.args.word.now (codes "reduce_max") _ refl (omega arith) (search rules)
+
+pub returns-in-let : goal.returns-in-let
+returns-in-let c = grind (arith, common_steps)
+
+pub returns-in-not : goal.returns-in-not
+returns-in-not c = grind (arith, common_steps)
+
+pub returns-in-int : goal.returns-in-int
+returns-in-int c = grind (arith, common_steps)
+
+pub returns-in-tab : goal.returns-in-tab
+returns-in-tab c = grind (arith, common_steps)
+
+pub returns-in-seq : goal.returns-in-seq
+returns-in-seq c = grind (arith, common_steps)
+
+pub returns-in-snd : goal.returns-in-snd
+returns-in-snd c = grind (arith, common_steps)
+
+pub returns-in-fst : goal.returns-in-fst
+returns-in-fst c = grind (arith, common_steps)
+
+pub returns-in-then : goal.returns-in-then
+returns-in-then c = grind (arith, common_steps)
+
+pub returns-in-true : goal.returns-in-true
+returns-in-true c = grind (arith, common_steps)
+
+pub returns-in-else : goal.returns-in-else
+returns-in-else c = grind (arith, common_steps)
+
+pub returns-in-bool : goal.returns-in-bool
+returns-in-bool c = grind (arith, common_steps)
+
+pub returns-in-iota : goal.returns-in-iota
+returns-in-iota c = grind (arith, common_steps)
+
+pub returns-in-part : goal.returns-in-part
+returns-in-part c = grind (arith, common_steps)
