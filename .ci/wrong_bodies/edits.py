@@ -41,9 +41,9 @@ class Edit:
                 self.why = self.why or f"'strikes:' names no function with a body: {' '.join(sorted(lacking))}"
 
     @property
-    def proofs(self):
-        """The proofs that it can spoil: one for each function, or for each cycle of functions."""
-        return {it.proved_with for it in self.struck}
+    def names(self):
+        """The names of the functions that it strikes."""
+        return {it.name for it in self.struck}
 
     @property
     def has_holes(self):
@@ -82,13 +82,13 @@ def of_constant(code, was, now):
 
 
 def batches_of(edits):
-    """The edits in as few batches as may be: in each no two spoil one proof, or all but one of these strike copies of their function."""
+    """The edits in as few batches as may be: in each no two strike one function, or all but one of these strike copies of it."""
     made = []
     for edit in sorted(edits, key=lambda it: -len(it.struck)):
-        fits = lambda it: not it[1][0].is_apart and (edit.has_copy or not it[0] & edit.proofs)
+        fits = lambda it: not it[1][0].is_apart and (edit.has_copy or not it[0] & edit.names)
         free = None if edit.is_apart else next(filter(fits, made), None)
         if free is None:
             made.append(free := (set(), []))
-        free[0].update(edit.proofs)
+        free[0].update(edit.names)
         free[1].append(edit)
     return [batch for _, batch in made]

@@ -43,10 +43,6 @@ class Function:
     def proofs(self):
         return f"proofs/{self.name.replace('::', '/')}"
 
-    @property
-    def proved_with(self):
-        return self.cycle or self.name
-
     def holds(self, file, begin, end):
         return self.file == file and self.begin <= begin and end <= self.end
 

@@ -21,7 +21,7 @@ class Report:
     `has_ended`: whether the prover came to an end. `unproved` and `fit`: the functions that it says are not proved, and those that are but
     for what holes stand for. `own`: the functions with a goal of their own that is not proved, each with what is said of the first.
     `searched`: the names of those of their goals that no proof file answers. `by_name`: those whose own proof files name what is gone.
-    `elsewhere`: what is said of other goals, as those of lemmas.
+    `unread_cycles`: the cycles of functions whose common proof files do. `elsewhere`: what is said of other goals, as those of lemmas.
     """
 
     def __init__(self, crate, functions, status, said):
@@ -30,7 +30,7 @@ class Report:
         lines = dict(re.findall(rf"(?m)^fn {crate.name}::(\S+): (.*)$", said))
         self.unproved = {it for it, text in lines.items() if text.startswith(("not proved", "no proof"))}
         self.fit = {it for it, text in lines.items() if text.startswith(("proved", "no holes", "depends on a hole"))}
-        self.own, self.by_name, self.elsewhere, self.unread_loops = {}, {}, [], set()
+        self.own, self.by_name, self.elsewhere, self.unread_loops, self.unread_cycles = {}, {}, [], set(), set()
         self.searched, self.answered = collections.defaultdict(list), set()
         for line in said.split("\n"):
             place = PLACE.match(line)
@@ -42,6 +42,8 @@ class Report:
         function, is_code = self.owner(file, number, text), file.startswith("src/")
         is_by_name = not is_code and bool(BY_NAME.search(text))
         if is_by_name:
+            last = os.path.basename(os.path.dirname(file))
+            self.unread_cycles |= {last[1:]} if last.startswith("+") and "admitted" not in text else set()
             if function is not None and "admitted" not in text:
                 self.by_name.setdefault(function.name, line)
                 # (a loop whose invariant cannot be read has open goals for that alone)

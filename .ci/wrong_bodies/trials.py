@@ -24,10 +24,12 @@ pub {name}_spec : {{M : Type 1}} → stated.statement M
 
 
 class Trials:
-    """The checks of one crate, over what earlier ones kept in a folder of their own."""
+    """The checks of one crate. Where one is not enough, they keep what they checked in a folder of their own."""
 
     def __init__(self, crate, functions, room):
         self.crate, self.functions, self.copy, self.kept = crate, functions, f"{room}/copy", f"{room}/kept"
+        # whether a check keeps what it checked for the next one, which costs a tenth of it
+        self.is_kept = False
         # the functions whose proofs no hole can stand for, as a check told
         self.misfits = set()
         self.checks, self.seconds = 0, 0.0
@@ -38,7 +40,7 @@ class Trials:
     def verdicts(self, edits, batches, is_proved):
         """The verdict on each of these edits, which are tried in these batches. Unless the crate is known to be proved without them, a
         check is to show it."""
-        made = {}
+        made, self.is_kept = {}, len(batches) + (not is_proved) > 1
         if not is_proved:
             report = self.report(Batch([]), {it.name for it in proved_with(edits)})
             unfit = {it: unfit_for(it, report) for it in edits}
@@ -88,7 +90,9 @@ class Trials:
             self.lay_out(batch, struck)
             functions = Code(types.SimpleNamespace(folder=self.copy)).functions if batch.copies else self.functions
             words = [*(word for name in sorted(struck) for word in ("--only", name)), "--allow-holes"] if struck else []
-            report = Report(self.crate, functions, *self.check([*words, "--incremental", self.kept]))
+            words += ["--incremental", self.kept] if self.is_kept else []
+            report = Report(self.crate, functions, *self.check(words))
+            self.is_kept = True
             misfits = {it.name for it in report.misfits()} - self.misfits if struck else set()
             if not misfits:
                 return report
@@ -118,12 +122,12 @@ class Trials:
                 (folder / "Proof.antt").write_text(text, encoding="utf-8")
 
     def leave_out(self, goals, name):
-        """Has holes stand for these goals of a function, so that no tactic is tried on them."""
+        """Has axioms stand for these goals of a function, so that no tactic is tried on them, and nothing is printed of them."""
         file = pathlib.Path(self.copy, "proofs", name.replace("::", "/"), "Answers.antt")
         file.parent.mkdir(parents=True, exist_ok=True)
         path = f"Rattle.{self.crate.name}.proofs.{name.replace('::', '.')}"
         text = file.read_text(encoding="utf-8") if file.is_file() else f"use {path}.Goals as goal\n"
-        file.write_text(text + "".join(f"\npub {it} : goal.{it}\n{it} = ?\n" for it in goals), encoding="utf-8")
+        file.write_text(text + "".join(f"\naxiom pub {it} : goal.{it}\n" for it in goals), encoding="utf-8")
 
     def copy_proofs(self, function, name):
         """Gives a copy of a function, of this name, the proof files of the function, which name themselves by it."""
@@ -162,6 +166,7 @@ class Batch:
 
     `copies` are the names of copies of functions, each for an edit whose function another edit strikes. `struck` are the names of the
     functions that the check proves, none for the whole crate. `places` are the lines of each edit by file and number, as they are laid out.
+    `shared_cycles` are the cycles of functions that more than one edit strikes.
     """
 
     def __init__(self, edits):
@@ -173,6 +178,8 @@ class Batch:
                 self.copies[edit] = f"{edit.struck[0].name.rpartition('::')[2]}_copy{len(self.copies) + 1}"
             names |= self.names_of(edit)
         self.struck = names if all(it.struck for it in edits) else set()
+        struck = collections.Counter(cycle for edit in edits for cycle in {it.cycle for it in edit.struck})
+        self.shared_cycles = {cycle for cycle, number in struck.items() if cycle and number > 1}
 
     def names_of(self, edit):
         """The names of the functions that the edit strikes, as they are laid out."""
@@ -221,7 +228,7 @@ def unfit_for(edit, report):
 def refused_in(batch, report):
     """The edits of a batch that are refused, or None where the check does not tell its edits apart."""
     struck = {name for edit in batch.edits for name in batch.names_of(edit)}
-    if not report.has_ended or report.elsewhere or {*report.own} - struck:
+    if not report.has_ended or report.elsewhere or {*report.own} - struck or batch.shared_cycles & report.unread_cycles:
         return None
     goals = {edit: goals_of(edit, batch.names_of(edit), report) for edit in batch.edits}
     return {edit: Verdict(REFUSED, its[0]) for edit, its in goals.items() if its}
