@@ -2,9 +2,9 @@
 //
 // Each file whose name ends in `.jobs` is a table (`table.rt` of snesl_tables has its form). A line is printed for each job that
 // is answered otherwise than its row tells, and then how many jobs there are and how many differ. After it stands how the
-// programs of the jobs ended as networks beside their plain evaluation (`beside.rt`), then how many worked rows there are, and how
-// their programs ended by the drives of several threads (`drives.rt`). It is an error where something differs, where there is no
-// table, and where a table cannot be read or has no row.
+// programs of the jobs ended as networks beside their plain evaluation (`beside.rt`), and then how many worked rows there are.
+// How their programs end by the drives of several threads (`drives.rt`) is tried apart. It is an error where something differs,
+// where there is no table, and where a table cannot be read or has no row.
 
 mod answers;
 mod beside;
@@ -20,7 +20,7 @@ use std::rt::Files;
 use std::thread::Threads;
 use std::{fs, io};
 
-// The table of worked rows, whose programs are run by every drive.
+// The table of worked rows.
 const WORKED: &str = "worked.programs";
 
 /// What is tried of the rows of tables, and counted.
@@ -51,12 +51,17 @@ pub fn try_jobs<R: Files + Print + AllocGlobal + Threads>(rt: &R, names: &[Strin
     let mut worked = Answers::none();
     try_table(rt, WORKED, &mut worked)?;
     println!(rt; "worked rows: {worked}")?;
-    let mut drives = Drives::none();
-    try_table(rt, WORKED, &mut drives)?;
-    println!(rt; "{drives}")?;
     ensure!(answers.differing == 0, "jobs are answered otherwise");
     ensure!(beside.differing == 0, "networks and evaluation differ");
     ensure!(worked.differing == 0, "worked rows are answered otherwise");
+    Ok(())
+}
+
+/// Tries the programs of the worked rows by every drive.
+pub fn try_worked<R: Files + Print + AllocGlobal + Threads>(rt: &R) -> Result<()> {
+    let mut drives = Drives::none();
+    try_table(rt, WORKED, &mut drives)?;
+    println!(rt; "{drives}")?;
     ensure!(drives.differing == 0, "drives differ");
     Ok(())
 }

@@ -4,8 +4,9 @@
 // program runs in (`jobs.rt`). `nodes` feeds the nodes that take memory (`nodes.rt`). `inputs` reads an input text of as many inner
 // sequences as the second word says, one where there is none (`inputs.rt`). `random` makes programs and runs them
 // (`random.rt`). `drives`, `graph` and `plain` give the figures of docs/TIMES.md (`figures.rt`), the first two over as many
-// elements as the second word says, a thousand where there is none. `all` does all of this in turn. `job` prints the random job of
-// the seed that the second word says. The status is 1 where something differs.
+// elements as the second word says, a thousand where there is none. `all` does all of this in turn. `worked` runs the programs of
+// the worked rows by every drive, which takes much longer. `job` prints the random job of the seed that the second word says. The
+// status is 1 where something differs.
 #![tactic(auto)]
 
 mod endings;
@@ -18,7 +19,7 @@ mod random;
 use anyhow::{Context, Result, bail};
 use figures::{print_plainly, time_drives, time_graph};
 use inputs::try_inputs;
-use jobs::{table_names, try_jobs};
+use jobs::{table_names, try_jobs, try_worked};
 use nodes::try_nodes;
 use random::{Wish, print_job, try_programs};
 use std::env::{self, Args};
@@ -33,6 +34,7 @@ const SEQUENCES: u64 = 1;
 #[derive(Clone, Copy)]
 enum Task {
     Jobs,
+    Worked,
     Nodes,
     Inputs(u64),
     Random(Wish),
@@ -46,6 +48,7 @@ enum Task {
 fn main(rt: HostRuntime) -> Result<()> {
     match task_of(env::args(&rt)?)? {
         Task::Jobs => try_jobs(&rt, &table_names(&rt)?),
+        Task::Worked => try_worked(&rt),
         Task::Nodes => try_nodes(&rt),
         Task::Inputs(count) => try_inputs(&rt, count),
         Task::Random(wish) => try_programs(&rt, wish),
@@ -73,6 +76,7 @@ fn task_of(mut words: Args) -> Result<Task> {
     };
     match first.as_str() {
         "jobs" => Ok(Task::Jobs),
+        "worked" => Ok(Task::Worked),
         "nodes" => Ok(Task::Nodes),
         "inputs" => Ok(Task::Inputs(count_of(&mut words, SEQUENCES)?)),
         "random" => Ok(Task::Random(wish_of(&mut words)?)),
@@ -82,7 +86,7 @@ fn task_of(mut words: Args) -> Result<Task> {
         "plain" => Ok(Task::Plain),
         "all" => Ok(Task::All),
         _ => bail!(
-            "the first word is jobs, nodes, inputs, random, job, drives, graph, plain or all"
+            "the first word is jobs, worked, nodes, inputs, random, job, drives, graph, plain or all"
         ),
     }
 }
