@@ -321,12 +321,23 @@ fn assert_told(rt: &impl Abort, told: &Told, ending: &Ending, (drive, chunk, thr
     assert_eq!(rt; end, wanted, "{}: {drive:?} {chunk} {threads}", ending.name);
 }
 
+// Asserts that a graph comes to its end when it is driven this way.
+fn assert_ends<R: Threads + Abort>(
+    rt: &R,
+    alloc: Global,
+    ending: &Ending,
+    way: Way,
+) -> Result<(), Fail> {
+    let told = driven(rt, alloc, ending.sketch, ending.capacity, way)?;
+    assert_told(rt, &told, ending, way);
+    Ok(())
+}
+
 #[test]
 fn ends_alike_each_way(rt: HostRuntime) -> Result<(), Fail> {
     for ending in &ENDINGS {
         for &way in ending.ways {
-            let told = driven(&rt, rt.alloc(), ending.sketch, ending.capacity, way)?;
-            assert_told(&rt, &told, ending, way);
+            assert_ends(&rt, rt.alloc(), ending, way)?;
         }
     }
     Ok(())

@@ -18,8 +18,6 @@ mod node_words;
 mod operators;
 #[cfg(test)]
 mod parts;
-#[cfg(test)]
-mod settling;
 pub mod shares;
 #[cfg(test)]
 mod single_nodes;

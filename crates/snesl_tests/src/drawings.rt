@@ -11,18 +11,14 @@ use snesl_operators::BinaryOperator;
 use std::test::Fail;
 
 #[test]
-fn a_node_is_called_by_its_operation(rt: HostRuntime) {
-    assert_eq!(rt;
+fn operations_and_kinds_have_words_and_colours(rt: HostRuntime) {
+    let told = [
         operation_word(&Operation::Binary(BinaryOperator::Multiply)),
-        "Binary: Multiply"
-    );
-    assert_eq!(rt; operation_word(&Operation::Pack(Kind::Int)), "Pack");
-}
-
-#[test]
-fn a_kind_has_a_word_and_a_colour(rt: HostRuntime) {
-    assert_eq!(rt; kind_word(Kind::Vec), "vector");
-    assert_eq!(rt; kind_colour(Kind::Unit), "#777777");
+        operation_word(&Operation::Pack(Kind::Int)),
+        kind_word(Kind::Vec),
+        kind_colour(Kind::Unit),
+    ];
+    assert_eq!(rt; told, ["Binary: Multiply", "Pack", "vector", "#777777"]);
 }
 
 #[test]

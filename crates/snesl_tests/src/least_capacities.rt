@@ -8,52 +8,53 @@ use std::thread::Threads;
 // While the first 300 elements go by, the second 300 wait.
 const WAITING: &str = "let s = iota(300) in length(s ++ s)";
 
-// The least capacity of a program, 0 where it ends at none.
-fn least_of<R: AllocGlobal + Threads>(rt: &R, program: &str) -> Result<usize, Fail> {
-    match least_capacity(rt, rt.alloc(), program.as_bytes(), b"", 16) {
-        Ok(Size::Ends { least, .. }) => Ok(least),
-        Ok(_) => Ok(0),
-        Err(_) => Err("it was refused")?,
+// What is found of a program: its least capacity, where it ends at one, and else the fault that it ends in, if there is one.
+type Found = (Option<usize>, Option<Fault>);
+
+// Programs, the steps of a visit, and what is found of each, or its refusal.
+const FOUND: [(&str, usize, Result<Found, Refusal>); 7] = [
+    ("1 + 2", 16, Ok((Some(1), None))),
+    (WAITING, 16, Ok((Some(300), None))),
+    ("let s = iota(4) in length(s ++ s)", 16, Ok((Some(4), None))),
+    // It stalls at the greatest capacity too.
+    (
+        "let s = iota(65537) in length(s ++ s)",
+        16,
+        Ok((None, None)),
+    ),
+    // The fault is found after stalls.
+    (
+        "let s = iota(300) in length(s ++ s) / 0",
+        16,
+        Ok((
+            None,
+            Some(Fault {
+                kind: FaultKind::Divide,
+                at: 36,
+            }),
+        )),
+    ),
+    ("1 +", 16, Err(Refusal::Syntax(3))),
+    ("1", 0, Err(Refusal::BadConfig)),
+];
+
+fn found_of<R: AllocGlobal + Threads>(
+    rt: &R,
+    program: &str,
+    chunk: usize,
+) -> Result<Found, Refusal> {
+    match least_capacity(rt, rt.alloc(), program.as_bytes(), b"", chunk)? {
+        Size::Ends { least, .. } => Ok((Some(least), None)),
+        Size::Faults(fault) => Ok((None, Some(fault))),
+        Size::NeverEnds => Ok((None, None)),
     }
 }
 
 #[test]
-fn a_program_ends_from_its_least_capacity_on(rt: HostRuntime) -> Result<(), Fail> {
-    assert_eq!(rt; least_of(&rt, "1 + 2")?, 1);
-    assert_eq!(rt; least_of(&rt, WAITING)?, 300);
-    assert_eq!(rt; least_of(&rt, "let s = iota(4) in length(s ++ s)")?, 4);
-    Ok(())
-}
-
-#[test]
-fn a_program_may_end_at_no_capacity(rt: HostRuntime) {
-    let size = least_capacity(
-        &rt,
-        rt.alloc(),
-        b"let s = iota(65537) in length(s ++ s)",
-        b"",
-        16,
-    );
-    assert!(rt; matches!(size, Ok(Size::NeverEnds)));
-}
-
-#[test]
-fn a_fault_is_found_after_stalls(rt: HostRuntime) {
-    let program = b"let s = iota(300) in length(s ++ s) / 0";
-    let size = least_capacity(&rt, rt.alloc(), program, b"", 16);
-    let want = Fault {
-        kind: FaultKind::Divide,
-        at: 36,
-    };
-    assert!(rt; matches!(size, Ok(Size::Faults(fault)) if fault == want));
-}
-
-#[test]
-fn a_program_may_be_refused(rt: HostRuntime) {
-    let size = least_capacity(&rt, rt.alloc(), b"1 +", b"", 16);
-    assert!(rt; matches!(size, Err(Refusal::Syntax(3))));
-    let size = least_capacity(&rt, rt.alloc(), b"1", b"", 0);
-    assert!(rt; matches!(size, Err(Refusal::BadConfig)));
+fn a_program_ends_from_its_least_capacity_on(rt: HostRuntime) {
+    for (program, chunk, found) in FOUND {
+        assert_eq!(rt; found_of(&rt, program, chunk), found, "{program}");
+    }
 }
 
 #[test]

@@ -1,4 +1,4 @@
-// What a person is shown of a job that went wrong: places, names that may be meant, functions, types and messages.
+// What a person is shown of a job that went wrong, by tables: places, names that may be meant, functions, types and messages.
 
 use snesl_data::{Fault, FaultKind, Refusal, Ty};
 use snesl_look::{
@@ -6,137 +6,116 @@ use snesl_look::{
     position_of, refusal_message, shown_line, stalled_message,
 };
 use snesl_types::Clash;
+use std::alloc::{AllocError, Global};
 use std::test::Fail;
 
 const TEXT: &[u8] = b"let x = 1 in\n\tx +\n\n  true\n";
 
+// Texts and offsets, each with its line and its column, which are counted from one, and the text of the line. An offset after the end is
+// the end.
+const PLACES: [(&[u8], usize, usize, usize, &[u8]); 9] = [
+    (TEXT, 0, 1, 1, b"let x = 1 in"),
+    (TEXT, 12, 1, 13, b"let x = 1 in"),
+    (TEXT, 13, 2, 1, b"\tx +"),
+    (TEXT, 16, 2, 4, b"\tx +"),
+    (TEXT, 18, 3, 1, b""),
+    (TEXT, 21, 4, 3, b"  true"),
+    (TEXT, 26, 5, 1, b""),
+    (TEXT, 27, 5, 1, b""),
+    (b"", usize::MAX, 1, 1, b""),
+];
+
 #[test]
-fn places_are_counted_from_one(rt: HostRuntime) {
-    for (offset, line, column) in [
-        (0, 1, 1),
-        (12, 1, 13),
-        (13, 2, 1),
-        (16, 2, 4),
-        (18, 3, 1),
-        (21, 4, 3),
-    ] {
+fn a_place_is_a_line_and_a_column(rt: HostRuntime) {
+    for (text, offset, line, column, shown) in PLACES {
         assert_eq!(rt;
-            position_of(TEXT, offset),
+            position_of(text, offset),
             Position { line, column },
             "at {offset}"
         );
+        assert_eq!(rt; line_at(text, offset), shown, "at {offset}");
     }
 }
 
-#[test]
-fn after_the_end_is_the_end(rt: HostRuntime) {
-    assert_eq!(rt; position_of(TEXT, 26), Position { line: 5, column: 1 });
-    assert_eq!(rt; position_of(TEXT, 27), Position { line: 5, column: 1 });
-    assert_eq!(rt;
-        position_of(b"", usize::MAX),
-        Position { line: 1, column: 1 }
-    );
-}
-
-#[test]
-fn a_line_ends_before_its_line_feed(rt: HostRuntime) {
-    assert_eq!(rt; line_at(TEXT, 12), b"let x = 1 in".as_slice());
-    assert_eq!(rt; line_at(TEXT, 16), b"\tx +".as_slice());
-    assert_eq!(rt; line_at(TEXT, 18), b"".as_slice());
-    assert_eq!(rt; line_at(b"1 +", 9), b"1 +".as_slice());
-}
+// Lines and columns, each with the line below that has a caret under the column. A letter of two bytes is one character.
+const CARETS: [(&[u8], usize, &[u8]); 3] = [
+    (b"\tx +", 4, b"\t  ^"),
+    (b"\xc3\xa9 x", 4, b"  ^"),
+    (b"1 +", 9, b"   ^"),
+];
 
 #[test]
 fn a_caret_stands_under_its_column(rt: HostRuntime) -> Result<(), Fail> {
-    assert_eq!(rt;
-        caret_line(rt.alloc(), b"\tx +", 4)?.as_slice(),
-        b"\t  ^".as_slice()
-    );
-    // A letter of two bytes is one character.
-    assert_eq!(rt;
-        caret_line(rt.alloc(), b"\xc3\xa9 x", 4)?.as_slice(),
-        b"  ^".as_slice()
-    );
-    assert_eq!(rt;
-        caret_line(rt.alloc(), b"1 +", 9)?.as_slice(),
-        b"   ^".as_slice()
-    );
+    for (line, column, caret) in CARETS {
+        assert_eq!(rt; caret_line(rt.alloc(), line, column)?.as_slice(), caret);
+    }
+    // Control characters are not shown.
+    let shown = shown_line(rt.alloc(), b"\t1\x1b[\x7f\r")?;
+    assert_eq!(rt; shown.as_slice(), b"\t1 [  ".as_slice());
     Ok(())
 }
 
-#[test]
-fn control_characters_are_not_shown(rt: HostRuntime) -> Result<(), Fail> {
-    assert_eq!(rt;
-        shown_line(rt.alloc(), b"\t1\x1b[\x7f\r")?.as_slice(),
-        b"\t1 [  ".as_slice()
-    );
-    Ok(())
-}
-
-fn near(rt: &HostRuntime, program: &[u8], at: usize) -> Result<Vec<u8>, Fail> {
-    Ok(near_name(rt.alloc(), program, at)?.unwrap_or(Vec::new(rt.alloc())))
-}
-
-#[test]
-fn the_first_of_the_nearest_is_meant(rt: HostRuntime) -> Result<(), Fail> {
-    let program = b"let totem = 1 in let total = 2 in let totals = 3 in totl";
-    assert_eq!(rt; near(&rt, program, 52)?.as_slice(), b"total".as_slice());
-    let program = b"input hat : int; input cat : int; bat";
-    assert_eq!(rt; near(&rt, program, 34)?.as_slice(), b"hat".as_slice());
-    Ok(())
-}
-
-#[test]
-fn a_built_in_function_may_be_meant(rt: HostRuntime) -> Result<(), Fail> {
-    assert_eq!(rt;
-        near(&rt, b"reduce_sdd({1})", 0)?.as_slice(),
-        b"reduce_add".as_slice()
-    );
-    Ok(())
-}
-
-#[test]
-fn none_may_be_meant(rt: HostRuntime) -> Result<(), Fail> {
-    // A keyword is never meant.
-    assert_eq!(rt;
-        near(&rt, b"let a = 1 in lett", 13)?.as_slice(),
-        b"".as_slice()
-    );
+// Programs with an unbound name at an offset, and the name that may be meant, nothing where there is none.
+const NEAR: [(&[u8], usize, &[u8]); 7] = [
+    // The first of the nearest.
+    (
+        b"let totem = 1 in let total = 2 in let totals = 3 in totl",
+        52,
+        b"total",
+    ),
+    (b"input hat : int; input cat : int; bat", 34, b"hat"),
+    // A built-in function may be meant, but no keyword.
+    (b"reduce_sdd({1})", 0, b"reduce_add"),
+    (b"let a = 1 in lett", 13, b""),
     // Three bytes are too many.
-    assert_eq!(rt;
-        near(&rt, b"let abcdef = 1 in abcxyz", 18)?.as_slice(),
-        b"".as_slice()
-    );
+    (b"let abcdef = 1 in abcxyz", 18, b""),
     // The name is bound, but not here.
-    let program = b"input totals : int; input total : int; function f(x : int) : int = total; 1";
-    assert_eq!(rt; near(&rt, program, 67)?.as_slice(), b"".as_slice());
+    (
+        b"input totals : int; input total : int; function f(x : int) : int = total; 1",
+        67,
+        b"",
+    ),
     // 65 bytes are too many.
-    let program = [b'a'; 65];
-    assert_eq!(rt; near(&rt, &program, 0)?.as_slice(), b"".as_slice());
+    (&[b'a'; 65], 0, b""),
+];
+
+#[test]
+fn a_near_name_is_meant(rt: HostRuntime) -> Result<(), Fail> {
+    for (program, at, name) in NEAR {
+        let near = near_name(rt.alloc(), program, at)?.unwrap_or(Vec::new(rt.alloc()));
+        assert_eq!(rt; near.as_slice(), name, "at {at}");
+    }
     Ok(())
 }
 
 const PROGRAM: &[u8] =
     b"dialect 2; input n : int;\nfunction half(x : int) : int = {x : y in {1}; z in {2}} ! 0;\nhalf(n) + {a : b in {1}; c in {2}} ! 0";
 
-#[test]
-fn a_semicolon_in_a_bracket_ends_no_declaration(rt: HostRuntime) {
-    assert_eq!(rt; function_at(PROGRAM, 58), Some(b"half".as_slice()));
-    assert_eq!(rt; function_at(PROGRAM, 83), Some(b"half".as_slice()));
-    assert_eq!(rt; function_at(PROGRAM, 95), None);
-    assert_eq!(rt; function_at(PROGRAM, 111), None);
-}
+// Offsets, and the function in which each stands. A semicolon in a bracket ends no declaration, and an input is no function.
+const FUNCTIONS: [(&[u8], usize, Option<&[u8]>); 6] = [
+    (PROGRAM, 12, None),
+    (PROGRAM, 58, Some(b"half")),
+    (PROGRAM, 83, Some(b"half")),
+    (PROGRAM, 95, None),
+    (PROGRAM, 111, None),
+    (b"", 0, None),
+];
 
 #[test]
-fn an_input_is_no_function(rt: HostRuntime) {
-    assert_eq!(rt; function_at(PROGRAM, 12), None);
-    assert_eq!(rt; function_at(b"", 0), None);
+fn a_place_is_in_a_function(rt: HostRuntime) {
+    for (program, at, function) in FUNCTIONS {
+        assert_eq!(rt; function_at(program, at), function, "at {at}");
+    }
+}
+
+// What is said of operands that do not fit.
+fn operands_message(alloc: Global) -> Result<Vec<u8>, AllocError> {
+    clash_message(alloc, 2, b"x + true", &Clash::Operands(Ty::Int, Ty::Bool))
 }
 
 #[test]
 fn a_mismatch_tells_the_types_of_its_operands(rt: HostRuntime) -> Result<(), Fail> {
-    let clash = Clash::Operands(Ty::Int, Ty::Bool);
-    let message = clash_message(rt.alloc(), 2, b"x + true", &clash)?;
+    let message = operands_message(rt.alloc())?;
     let want = b"error: a value of another type, or another number of values, is needed here
  --> line 1, column 3
   |
@@ -149,66 +128,74 @@ fn a_mismatch_tells_the_types_of_its_operands(rt: HostRuntime) -> Result<(), Fai
     Ok(())
 }
 
-#[test]
-fn a_refusal_is_shown_in_its_line(rt: HostRuntime) -> Result<(), Fail> {
-    let message = refusal_message(
-        rt.alloc(),
+// Refusals of jobs, by program and input text, and their messages: in the line of the program; with the name that may be meant, and with
+// none; in the input text; with no place.
+const REFUSALS: [(Refusal, &[u8], &[u8], &[u8]); 5] = [
+    (
         Refusal::Mismatch(15),
         b"let x = 1 in\nx + true",
         b"",
-    )?;
-    let want = b"error: a value of another type, or another number of values, is needed here
+        b"error: a value of another type, or another number of values, is needed here
  --> line 2, column 3
   |
 2 | x + true
   |   ^
   = hint: operators take single values; for each element of a sequence `s` write `{x + 1 : x in s}`
-";
-    assert_eq!(rt; message.as_slice(), want.as_slice());
-    Ok(())
-}
-
-#[test]
-fn a_name_that_is_meant_is_shown(rt: HostRuntime) -> Result<(), Fail> {
-    let program = b"let total = 1 in totl + 1";
-    let message = refusal_message(rt.alloc(), Refusal::Name(17), program, b"")?;
-    let want = b"error: this name is not bound here, or it is bound twice
+",
+    ),
+    (
+        Refusal::Name(17),
+        b"let total = 1 in totl + 1",
+        b"",
+        b"error: this name is not bound here, or it is bound twice
  --> line 1, column 18
   |
 1 | let total = 1 in totl + 1
   |                  ^
   = hint: did you mean `total`?
-";
-    assert_eq!(rt; message.as_slice(), want.as_slice());
-    Ok(())
-}
-
-#[test]
-fn a_name_with_none_near_has_a_hint(rt: HostRuntime) -> Result<(), Fail> {
-    let message = refusal_message(rt.alloc(), Refusal::Name(0), b"total + 1", b"")?;
-    let want = b"error: this name is not bound here, or it is bound twice
+",
+    ),
+    (
+        Refusal::Name(0),
+        b"total + 1",
+        b"",
+        b"error: this name is not bound here, or it is bound twice
  --> line 1, column 1
   |
 1 | total + 1
   | ^
   = hint: a function sees its parameters and the functions before it, and no inputs
-";
-    assert_eq!(rt; message.as_slice(), want.as_slice());
-    Ok(())
-}
-
-#[test]
-fn a_bad_input_is_shown_in_the_input_text(rt: HostRuntime) -> Result<(), Fail> {
-    let input = b"a = 1;\n\n\n\n\n\n\n\n\n\tb = }";
-    let message = refusal_message(rt.alloc(), Refusal::BadInput(20), b"a + b", input)?;
-    let want = b"error: the input text is not as the program declares its inputs
+",
+    ),
+    (
+        Refusal::BadInput(20),
+        b"a + b",
+        b"a = 1;\n\n\n\n\n\n\n\n\n\tb = }",
+        b"error: the input text is not as the program declares its inputs
   --> line 10, column 6 of the input text
    |
 10 | \tb = }
    | \t    ^
    = hint: each input in order, as `n = 1; v = [1,2]; s = {(1,true)}`
-";
-    assert_eq!(rt; message.as_slice(), want.as_slice());
+",
+    ),
+    (
+        Refusal::Read,
+        b"1",
+        b"",
+        b"error: the job could not be read\n",
+    ),
+];
+
+#[test]
+fn a_refusal_is_shown_where_it_stands(rt: HostRuntime) -> Result<(), Fail> {
+    for (refusal, program, input, want) in REFUSALS {
+        let message = refusal_message(rt.alloc(), refusal, program, input)?;
+        assert_eq!(rt; message.as_slice(), want);
+    }
+    // Of a long line a part is shown.
+    let message = refusal_message(rt.alloc(), Refusal::Name(100), &[b'X'; 200], b"")?;
+    assert_eq!(rt; message.iter().filter(|byte| **byte == b'X').count(), 120);
     Ok(())
 }
 
@@ -231,50 +218,44 @@ fn a_fault_names_its_function(rt: HostRuntime) -> Result<(), Fail> {
     Ok(())
 }
 
-#[test]
-fn a_message_may_have_no_place(rt: HostRuntime) -> Result<(), Fail> {
-    let stalled = stalled_message(rt.alloc(), b"", None, Enough::Unknown)?;
-    let want = b"error: the program has stalled: its edges hold too few messages
+// What is known of stalls: the program, the place of the form whose stream is full, how many messages are enough; and their messages.
+const STALLS: [(&[u8], Option<usize>, Enough, &[u8]); 3] = [
+    (
+        b"",
+        None,
+        Enough::Unknown,
+        b"error: the program has stalled: its edges hold too few messages
   = hint: let them hold more, as by `--capacity 4096`, at most 65536
-";
-    assert_eq!(rt; stalled.as_slice(), want.as_slice());
-    let unread = refusal_message(rt.alloc(), Refusal::Read, b"1", b"")?;
-    assert_eq!(rt;
-        unread.as_slice(),
-        b"error: the job could not be read\n".as_slice()
-    );
-    Ok(())
-}
-
-#[test]
-fn a_stall_tells_how_many_messages_are_enough(rt: HostRuntime) -> Result<(), Fail> {
-    let message = stalled_message(rt.alloc(), b"", None, Enough::Messages(301))?;
-    let want = b"error: the program has stalled: its edges hold too few messages
+",
+    ),
+    (
+        b"",
+        None,
+        Enough::Messages(301),
+        b"error: the program has stalled: its edges hold too few messages
   = note: 301 messages are enough, as by `--capacity 301`
-";
-    assert_eq!(rt; message.as_slice(), want.as_slice());
-    Ok(())
-}
-
-#[test]
-fn a_stall_shows_the_form_whose_stream_is_full(rt: HostRuntime) -> Result<(), Fail> {
-    let program = b"let s =\n iota(300) in\nlength(s ++ s)";
-    let message = stalled_message(rt.alloc(), program, Some(9), Enough::Messages(300))?;
-    let want = b"error: the program has stalled: its edges hold too few messages
+",
+    ),
+    (
+        b"let s =\n iota(300) in\nlength(s ++ s)",
+        Some(9),
+        Enough::Messages(300),
+        b"error: the program has stalled: its edges hold too few messages
  --> line 2, column 2
   |
 2 |  iota(300) in
   |  ^
   = note: a stream that this form writes is full
   = note: 300 messages are enough, as by `--capacity 300`
-";
-    assert_eq!(rt; message.as_slice(), want.as_slice());
-    Ok(())
-}
+",
+    ),
+];
 
 #[test]
-fn of_a_long_line_a_part_is_shown(rt: HostRuntime) -> Result<(), Fail> {
-    let message = refusal_message(rt.alloc(), Refusal::Name(100), &[b'X'; 200], b"")?;
-    assert_eq!(rt; message.iter().filter(|byte| **byte == b'X').count(), 120);
+fn a_stall_tells_what_is_known_of_it(rt: HostRuntime) -> Result<(), Fail> {
+    for (program, at, enough, want) in STALLS {
+        let message = stalled_message(rt.alloc(), program, at, enough)?;
+        assert_eq!(rt; message.as_slice(), want);
+    }
     Ok(())
 }

@@ -9,19 +9,21 @@ ghost use Rattle.flow_nodes.specs.StreamNodes.{node_behaviour};
 use crate::inputs::network_for;
 use flow_graph::{Graph, settle};
 use flow_nodes::StreamNode;
+use snesl_data::Refusal;
 use snesl_syntax::parse;
-use snesl_types::check;
+use snesl_types::{Typed, check};
 use std::alloc::{AllocError, Global};
 use std::process::Abort;
 use std::test::Fail;
 
-// The schedule of this number: 99, which names no node, and so many numbers, of which some name none either.
+// The schedule of this number: so many numbers, of which the first and some others name no node.
 fn schedule(alloc: Global, number: usize) -> Result<Vec<usize>, AllocError> {
-    let mut nodes = vec![in alloc; 99; 1]?;
-    let mut last = number;
+    let mut nodes = Vec::new(alloc);
+    let (mut node, mut last) = (99, number);
     for _ in 0..number {
+        nodes.push(node)?;
         last = last.wrapping_mul(75).wrapping_add(74) % 65_537;
-        nodes.push(last % 16)?;
+        node = last % 16;
     }
     Ok(nodes)
 }
@@ -45,41 +47,64 @@ fn counts_of(
     Ok(counts)
 }
 
-// How many messages were sent and received on all edges together, where a program settles by no schedule. Asserts that on each edge
-// they are as many by ninety-nine others.
+// The same of the network of a program, by the schedule of this number.
+fn counts_by(
+    rt: &impl Abort,
+    alloc: Global,
+    typed: &Typed<'_>,
+    capacity: usize,
+    number: usize,
+) -> Result<Vec<(u64, u64)>, Refusal>
+    requires some { 0 < capacity }
+    requires limit { capacity ≤ greatest_capacity }
+{
+    let schedule = schedule(alloc, number)?;
+    let graph = network_for(rt, alloc, typed, b"")?;
+    Ok(counts_of(alloc, graph, capacity, &schedule)?)
+}
+
+// The same by no schedule. Asserts that they are as many by ninety-nine others.
+fn counts_by_all(
+    rt: &impl Abort,
+    alloc: Global,
+    typed: &Typed<'_>,
+    capacity: usize,
+) -> Result<Vec<(u64, u64)>, Refusal>
+    requires some { 0 < capacity }
+    requires limit { capacity ≤ greatest_capacity }
+{
+    let first = counts_by(rt, alloc, typed, capacity, 0)?;
+    for number in 1..100 {
+        let counts = counts_by(rt, alloc, typed, capacity, number)?;
+        assert_eq!(rt; counts.as_slice(), first.as_slice(), "schedule {number}");
+    }
+    Ok(first)
+}
+
+// The same of a program.
 fn settled_alike(
     rt: &impl Abort,
     alloc: Global,
     text: &[u8],
     capacity: usize,
-) -> Result<(u64, u64), Fail>
+) -> Result<Vec<(u64, u64)>, Refusal>
     requires some { 0 < capacity }
     requires limit { capacity ≤ greatest_capacity }
 {
     let program = parse(alloc, text)?;
     let typed = check(alloc, &program)?;
-    let first = counts_of(alloc, network_for(rt, alloc, &typed, b"")?, capacity, &[])?;
-    for number in 1..100 {
-        let graph = network_for(rt, alloc, &typed, b"")?;
-        let counts = counts_of(alloc, graph, capacity, &schedule(alloc, number)?)?;
-        assert_eq!(rt; counts.as_slice(), first.as_slice(), "schedule {number}");
-    }
-    Ok(sums_of(&first))
+    counts_by_all(rt, alloc, &typed, capacity)
 }
 
-fn sums_of(counts: &[(u64, u64)]) -> (u64, u64) {
-    let (mut sent, mut received) = (0u64, 0u64);
-    for &(put, taken) in counts {
-        sent = sent.saturating_add(put);
-        received = received.saturating_add(taken);
-    }
-    (sent, received)
-}
+// The message of the source and its end, the number five and its end, the flags and the numbers, the sum.
+const SUM_OF_FIVE: [(u64, u64); 5] = [(2, 2), (2, 2), (7, 7), (6, 6), (2, 2)];
 
 #[test]
 fn a_stall_and_a_sum_by_any_schedule(rt: HostRuntime) -> Result<(), Fail> {
     settled_alike(&rt, rt.alloc(), b"let s = iota(100) in s ++ s", 4)?;
-    let sums = settled_alike(&rt, rt.alloc(), b"reduce_add(iota(5))", 1)?;
-    assert_eq!(rt; sums, (19, 19));
+    let small = settled_alike(&rt, rt.alloc(), b"reduce_add(iota(5))", 1)?;
+    assert_eq!(rt; small.as_slice(), SUM_OF_FIVE.as_slice());
+    let greater = settled_alike(&rt, rt.alloc(), b"reduce_add(iota(5))", 2)?;
+    assert_eq!(rt; greater.as_slice(), SUM_OF_FIVE.as_slice());
     Ok(())
 }
