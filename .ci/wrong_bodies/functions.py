@@ -32,6 +32,8 @@ class Function:
     end: int
     # the name that functions that call one another share, and with it their proof
     cycle: str | None
+    # it calls itself, alone or with the others of its cycle
+    recurs: bool
     # callers know no more of it than its contract, as of a const fn
     is_plain: bool
     # a proof file with a hole can stand for its proof, which no function has that calls itself or that a trait declares
@@ -42,6 +44,12 @@ class Function:
     @property
     def proofs(self):
         return f"proofs/{self.name.replace('::', '/')}"
+
+    @property
+    def cycle_proofs(self):
+        """The folder of the proof files of a function that calls itself, and of the others of its cycle."""
+        above, _, name = self.proofs.rpartition("/")
+        return f"{above}/+{self.cycle or name}"
 
     def holds(self, file, begin, end):
         return self.file == file and self.begin <= begin and end <= self.end
@@ -79,7 +87,7 @@ class Code:
         path = self.path(file, around)
         has_measure = pathlib.Path(self.folder, "proofs", *path, f"+{name}").is_dir()
         calls_itself = has_measure or calls_alike(inside, name, any("impl" in it for it in heads), bool(self.nested & {*path[-1:]}))
-        has_stub = is_plain and cycle is None and not any("trait" in it for it in heads) and not calls_itself
+        recurs, is_own = cycle is not None or calls_itself, is_plain and not any("trait" in it for it in heads)
         return Function(
             name="::".join([*path, name]),
             file=file,
@@ -88,9 +96,10 @@ class Code:
             begin=block.brace.end,
             end=end.begin,
             cycle=cycle,
+            recurs=recurs,
             is_plain=is_plain,
-            has_stub=has_stub,
-            has_copy=has_stub and not any("impl" in it and "for" in it for it in heads[:-1]),
+            has_stub=is_own and not recurs,
+            has_copy=is_own and not any("impl" in it and "for" in it for it in heads[:-1]),
         )
 
     def path(self, file, around):

@@ -16,11 +16,18 @@ from reports import Report
 # What a try comes to: only the first passes.
 REFUSED, NOT_REFUSED, BAD, BY_NAME, UNSURE = "refused", "NOT REFUSED", "BAD EDIT", "ONLY BY A NAME", "NOT TRIED"
 Verdict = collections.namedtuple("Verdict", "kind text")
+# A proof that is left out. The hole has a goal of its own, since what a goal says is printed, and a statement is long.
 STUB = """use Rattle.{crate}.proofs.{path}.Statement as stated
 
+left_out : {{A : Type 2}} → A
+left_out = ?
+
 pub {name}_spec : {{M : Type 1}} → stated.statement M
-{name}_spec = ?
+{name}_spec = left_out
 """
+# The line that puts a function into a cycle, and that of a goal which a proof file answers.
+OF_CYCLE = re.compile(r"\s*#\[cycle\(\w+\)\]")
+OF_GOAL = re.compile(r"(?m)^(?:abbrev )?pub (\S+) : goal\.\1$")
 
 
 class Trials:
@@ -88,7 +95,7 @@ class Trials:
         """What a check with these edits says of the functions of these names, or of the whole crate where none are given."""
         while True:
             self.lay_out(batch, struck)
-            functions = Code(types.SimpleNamespace(folder=self.copy)).functions if batch.copies else self.functions
+            functions = Code(types.SimpleNamespace(folder=self.copy)).functions if struck else self.functions
             words = [*(word for name in sorted(struck) for word in ("--only", name)), "--allow-holes"] if struck else []
             words += ["--incremental", self.kept] if self.is_kept else []
             report = Report(self.crate, functions, *self.check(words))
@@ -99,27 +106,39 @@ class Trials:
             self.misfits |= misfits
 
     def lay_out(self, batch, struck):
-        """Makes a copy of the crate with these edits. Where functions are struck, holes stand for the proofs of the others."""
+        """Makes a copy of the crate with these edits. Where functions are struck, holes stand for the proofs of the others, which do nothing."""
         shutil.rmtree(self.copy, ignore_errors=True)
         for part in rt.rtlib.PARTS:
             if os.path.isdir(f"{self.crate.folder}/{part}"):
                 shutil.copytree(f"{self.crate.folder}/{part}", f"{self.copy}/{part}")
-        for path in {path for edit in batch.edits for path, _ in edit.lines}:
+        hollow = self.hollow(struck | {it.name for it in self.functions if batch.is_in(it)}) if struck else []
+        for path in {path for edit in batch.edits for path, _ in edit.lines} | {it.file for it in hollow}:
             text = pathlib.Path(self.copy, path).read_text(encoding="utf-8")
-            pathlib.Path(self.copy, path).write_text(batch.laid_out(path, text), encoding="utf-8")
-        for edit, name in batch.copies.items():
-            self.copy_proofs(edit.struck[0], name)
+            now = hollowed(text, [it for it in hollow if it.file == path])
+            pathlib.Path(self.copy, path).write_text(batch.laid_out(path, text, now), encoding="utf-8")
+        for function, name in batch.copied:
+            self.copy_proofs(function, name)
         for edit in batch.edits:
             if edit.besides and edit.has_holes:
                 self.leave_out(edit.besides, *batch.names_of(edit))
-        for function in self.functions if struck else ():
-            if function.has_stub and function.name not in struck | self.misfits:
-                folder, name = pathlib.Path(self.copy, function.proofs), function.name.rpartition("::")[2]
-                folder.mkdir(parents=True, exist_ok=True)
-                for file in ("Answers.antt", "Invariants.antt"):
-                    (folder / file).unlink(missing_ok=True)
-                text = STUB.format(crate=self.crate.name, path=function.name.replace("::", "."), name=name)
-                (folder / "Proof.antt").write_text(text, encoding="utf-8")
+        for function in hollow:
+            if function.recurs:
+                shutil.rmtree(f"{self.copy}/{function.cycle_proofs}", ignore_errors=True)
+            folder, name = pathlib.Path(self.copy, function.proofs), function.name.rpartition("::")[2]
+            folder.mkdir(parents=True, exist_ok=True)
+            for file in ("Answers.antt", "Invariants.antt"):
+                (folder / file).unlink(missing_ok=True)
+            text = STUB.format(crate=self.crate.name, path=function.name.replace("::", "."), name=name)
+            (folder / "Proof.antt").write_text(text, encoding="utf-8")
+
+    def hollow(self, others):
+        """The functions but these for whose proofs a hole can stand. Their bodies are left out, since the prover walks over a body whatever
+        its proof. Of those that call one another, all are, or none."""
+        cycles = collections.defaultdict(list)
+        for function in self.functions:
+            cycles[function.cycle_proofs if function.recurs else function.name].append(function)
+        fits = lambda it: (it.has_copy if it.recurs else it.has_stub) and it.name not in others | self.misfits
+        return [it for its in cycles.values() if all(map(fits, its)) for it in its]
 
     def leave_out(self, goals, name):
         """Has axioms stand for these goals of a function, so that no tactic is tried on them, and nothing is printed of them."""
@@ -130,14 +149,15 @@ class Trials:
         file.write_text(text + "".join(f"\naxiom pub {it} : goal.{it}\n" for it in goals), encoding="utf-8")
 
     def copy_proofs(self, function, name):
-        """Gives a copy of a function, of this name, the proof files of the function, which name themselves by it."""
-        path = function.name.replace("::", ".")
-        was, now = f".proofs.{path}.", f".proofs.{path.rpartition('.')[0]}.{name}.".replace("..", ".")
-        found = pathlib.Path(self.crate.folder, function.proofs)
+        """Gives a copy of a function, of this name, the proof files of the function, which name themselves by it. Of those of a cycle it gets
+        what is said of this function."""
+        found = pathlib.Path(self.crate.folder, function.cycle_proofs if function.recurs else function.proofs)
+        above = str(pathlib.PurePath(function.proofs).parent).replace("/", ".")
         for file in found.rglob("*.antt"):
+            text = file.read_text(encoding="utf-8").replace(f".{above}.{found.name}.", f".{above}.{name}.")
             made = pathlib.Path(self.copy, function.proofs).with_name(name) / file.relative_to(found)
             made.parent.mkdir(parents=True, exist_ok=True)
-            made.write_text(file.read_text(encoding="utf-8").replace(was, now), encoding="utf-8")
+            made.write_text(said_of(function, text) if function.recurs else text, encoding="utf-8")
 
     def check(self, words):
         """Runs a check of the copy, once more where it is killed, as for memory, and returns its status and what it said."""
@@ -164,33 +184,51 @@ class Trials:
 class Batch:
     """Edits that one check tries.
 
-    `copies` are the names of copies of functions, each for an edit whose function another edit strikes. `struck` are the names of the
-    functions that the check proves, none for the whole crate. `places` are the lines of each edit by file and number, as they are laid out.
-    `shared_cycles` are the cycles of functions that more than one edit strikes.
+    `copies` are the names of copies of functions, each for an edit whose function another edit strikes. All but one that strike a function
+    get one, and where there are several edits, each that strikes a function that calls itself. `controls` are the names of further copies of
+    the latter, which have no edit: where such a copy is not proved, that of an edit says nothing. `struck` are the names of the functions
+    that the check proves, none for the whole crate. `places` are the lines of each edit by file and number, as they are laid out.
+    `shared_cycles` are the cycles of functions that more than one edit strikes themselves.
     """
 
     def __init__(self, edits):
-        self.edits, self.copies, self.places = edits, {}, {it: set() for it in edits}
+        self.edits, self.copies, self.controls, self.places = edits, {}, {}, {it: set() for it in edits}
         names = set()
         for edit in edits:
-            own = {it.name for it in edit.struck}
-            if own & names and edit.has_copy:
+            own, recurs = {it.name for it in edit.struck}, len(edits) > 1 and edit.has_copy and edit.struck[0].recurs
+            if recurs or own & names and edit.has_copy:
                 self.copies[edit] = f"{edit.struck[0].name.rpartition('::')[2]}_copy{len(self.copies) + 1}"
+            if recurs:
+                self.controls[edit.struck[0]] = f"{edit.struck[0].name.rpartition('::')[2]}_copy0"
             names |= self.names_of(edit)
-        self.struck = names if all(it.struck for it in edits) else set()
-        struck = collections.Counter(cycle for edit in edits for cycle in {it.cycle for it in edit.struck})
+        self.struck = names | {beside(*it) for it in self.controls.items()} if all(it.struck for it in edits) else set()
+        struck = collections.Counter(it for edit in edits if edit not in self.copies for it in {it.cycle for it in edit.struck})
         self.shared_cycles = {cycle for cycle, number in struck.items() if cycle and number > 1}
+
+    @property
+    def copied(self):
+        """Each function that has a copy, with the copy's name."""
+        return [*((edit.struck[0], name) for edit, name in self.copies.items()), *self.controls.items()]
 
     def names_of(self, edit):
         """The names of the functions that the edit strikes, as they are laid out."""
         if edit not in self.copies:
             return {it.name for it in edit.struck}
-        return {edit.struck[0].name.rpartition("::")[0] + "::" * ("::" in edit.struck[0].name) + self.copies[edit]}
+        return {beside(edit.struck[0], self.copies[edit])}
 
-    def laid_out(self, path, text):
-        """The text of a file with these edits. A copy of a function stands behind it."""
+    def is_in(self, function):
+        """Whether an edit changes a line of the function itself."""
+        lines = [line for edit in self.edits if edit not in self.copies for line in edit.lines]
+        return any(file == function.file and function.first <= number + 1 <= function.last for file, number in lines)
+
+    def is_sound(self, edit, report):
+        """Whether a copy that the edit strikes would be proved without it, as the copy of the same function that has no edit is."""
+        return all(beside(it, name) in report.fit for it, name in self.controls.items() if edit in self.copies and it in edit.struck)
+
+    def laid_out(self, path, text, now):
+        """The text of a file as it is now, with these edits. A copy of a function, as it was in this text, stands behind the function."""
         was = text.split("\n")
-        rows = [[(it, None)] for it in was]
+        rows = [[(it, None)] for it in now.split("\n")]
         for edit in self.edits:
             lines = {number: line for (file, number), line in edit.lines.items() if file == path}
             if edit not in self.copies:
@@ -200,6 +238,10 @@ class Batch:
                 function = edit.struck[0]
                 own = [(lines.get(it, was[it]), edit if it in lines else None) for it in range(function.first - 1, function.last)]
                 rows[function.last - 1] += renamed(own, function.name.rpartition("::")[2], self.copies[edit])
+        for function, name in self.controls.items():
+            if function.file == path:
+                own = [(it, None) for it in was[function.first - 1 : function.last]]
+                rows[function.last - 1] += renamed(own, function.name.rpartition("::")[2], name)
         made = [row for its in rows for row in its]
         for number, (_, edit) in enumerate(made):
             if edit is not None:
@@ -207,11 +249,44 @@ class Batch:
         return "\n".join(line for line, _ in made)
 
 
+def beside(function, name):
+    """The whole name of a function of this name that stands beside another."""
+    return function.name.rpartition("::")[0] + "::" * ("::" in function.name) + name
+
+
 def renamed(rows, name, now):
-    """The lines of a function with this name in place of its own."""
+    """The lines of a function with this name in place of its own, and in no cycle."""
+    rows = [("" if OF_CYCLE.fullmatch(line) else line, edit) for line, edit in rows]
     head = next(number for number, (line, _) in enumerate(rows) if re.search(rf"\bfn {name}\b", line))
     line, edit = rows[head]
     return [*rows[:head], (re.sub(rf"\bfn {name}\b", f"fn {now}", line, count=1), edit), *rows[head + 1 :]]
+
+
+def hollowed(text, functions):
+    """The text of a file in which these functions do nothing and call nothing, on as many lines."""
+    code = text.encode()
+    for function in sorted(functions, key=lambda it: -it.begin):
+        body = code[function.begin : function.end]
+        code = code[: function.begin] + b" loop {} " + b"\n" * body.count(b"\n") + code[function.end :]
+    lines = code.decode().split("\n")
+    for function in functions:
+        for number in range(function.first - 1, function.last):
+            lines[number] = "" if OF_CYCLE.fullmatch(lines[number]) else lines[number]
+    return "\n".join(lines)
+
+
+def said_of(function, text):
+    """What a proof file of a cycle says of this function, as if it called itself no more: it has no measure, its goals are named without it,
+    and none is given what the others of the cycle promise."""
+    own, kept = function.name.rpartition("::")[2], []
+    for part in text.split("\n\n"):
+        goal = OF_GOAL.search(part)
+        if goal and (goal[1].startswith("decreases-") or function.cycle and not re.match(rf"(?:invariant-)?{own}-", goal[1])):
+            continue
+        if function.cycle:
+            part = re.sub(rf"(goal\.|(?<![\w.-]))(invariant-)?{own}-", lambda it: it[1] + (it[2] or ""), part)
+        kept.append(re.sub(rf"(?m)^({re.escape(OF_GOAL.search(part)[1])}) t ", r"\1 ", part) if goal else part)
+    return "\n\n".join(kept)
 
 
 def proved_with(edits):
@@ -227,10 +302,10 @@ def unfit_for(edit, report):
 
 def refused_in(batch, report):
     """The edits of a batch that are refused, or None where the check does not tell its edits apart."""
-    struck = {name for edit in batch.edits for name in batch.names_of(edit)}
+    struck = {beside(*it) for it in batch.controls.items()}.union(*map(batch.names_of, batch.edits))
     if not report.has_ended or report.elsewhere or {*report.own} - struck or batch.shared_cycles & report.unread_cycles:
         return None
-    goals = {edit: goals_of(edit, batch.names_of(edit), report) for edit in batch.edits}
+    goals = {it: goals_of(it, batch.names_of(it), report) for it in batch.edits if batch.is_sound(it, report)}
     return {edit: Verdict(REFUSED, its[0]) for edit, its in goals.items() if its}
 
 
