@@ -7,6 +7,8 @@ import re
 from kit import rt
 
 PLACE = re.compile(r"(?:note: )?(?:\./)?((?:src|proofs|specs)/\S+?):(\d+):\d+: (.*)")
+# Where a long line of a report goes on.
+FOLD = re.compile(r"\n  (?=\S)")
 GOAL = re.compile(r"^error: |it is not proved that|`search` found no proof")
 # A goal that no proof file answers, and that the tactics did not prove. Not each says what it is for.
 SEARCHED = re.compile(r"(?:it is not proved that .*|`search` found no proof )\(`([^`]+)`\)")
@@ -32,7 +34,7 @@ class Report:
         self.fit = {it for it, text in lines.items() if text.startswith(("proved", "no holes", "depends on a hole"))}
         self.own, self.by_name, self.elsewhere, self.unread_loops, self.unread_cycles = {}, {}, [], set(), set()
         self.searched, self.answered = collections.defaultdict(list), set()
-        for line in said.split("\n"):
+        for line in FOLD.sub(" ", said).split("\n"):
             place = PLACE.match(line)
             if place and GOAL.search(place[3]):
                 self.add(line, place[1], int(place[2]), place[3])
