@@ -13,7 +13,7 @@ const TEXT: &[u8] = b"let x = 1 in\n\tx +\n\n  true\n";
 
 // Texts and offsets, each with its line and its column, which are counted from one, and the text of the line. An offset after the end is
 // the end.
-const PLACES: [(&[u8], usize, usize, usize, &[u8]); 9] = [
+const PLACES: [(&[u8], usize, usize, usize, &[u8]); 10] = [
     (TEXT, 0, 1, 1, b"let x = 1 in"),
     (TEXT, 12, 1, 13, b"let x = 1 in"),
     (TEXT, 13, 2, 1, b"\tx +"),
@@ -22,6 +22,7 @@ const PLACES: [(&[u8], usize, usize, usize, &[u8]); 9] = [
     (TEXT, 21, 4, 3, b"  true"),
     (TEXT, 26, 5, 1, b""),
     (TEXT, 27, 5, 1, b""),
+    (b"1 +", 9, 1, 4, b"1 +"),
     (b"", usize::MAX, 1, 1, b""),
 ];
 
