@@ -1,12 +1,12 @@
 // Networks that run in threads.
 ghost use Rattle.std.specs.Prelude.{◌≡◌, ◌⊎◌, IfErr, IfOk};
-ghost use Rattle.flow_graph.specs.Graphs.{states_of, edges_of};
-ghost use Rattle.flow_graph.specs.Networks.{AreOpened};
-ghost use Rattle.flow_drive.specs.declared.driver.DriveError.TheVariants.{NoMemory, NoThread};
+ghost use Rattle.flow_networks.specs.Graphs.{states_of, edges_of};
+ghost use Rattle.flow_networks.specs.Networks.{AreOpened};
+ghost use Rattle.flow_drives.specs.declared.driver.DriveError.TheVariants.{NoMemory, NoThread};
 ghost use Rattle.callers.specs.Drive.{CameOutAs};
 
-use flow_drive::{Config, Drive, DriveError, NoGate, Outcome, drive, rested_is_sound};
-use flow_graph::Graph;
+use flow_drives::{Config, Drive, DriveError, NoGate, Outcome, drive, rested_is_sound};
+use flow_networks::Graph;
 use flow_scalar::Transducer;
 use std::alloc::{AllocError, Global};
 use std::sync::Arc;

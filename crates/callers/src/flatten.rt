@@ -3,7 +3,7 @@ ghost use Rattle.std.specs.Prelude.{IfOk};
 ghost use Rattle.snesl_flatten.specs.Graphs.{states_of, edges_of};
 ghost use Rattle.callers.specs.Flatten.{IsNetworkOf};
 
-use flow_graph::Graph;
+use flow_networks::Graph;
 use snesl_flatten::{StreamNode, flatten};
 use snesl_syntax::parse;
 use snesl_types::check;

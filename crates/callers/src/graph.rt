@@ -1,9 +1,9 @@
 // A network of one's own.
 ghost use Rattle.std.specs.Prelude.{◌≡◌, ◌+◌, ◌<◌, ◌≤◌, IfErr, IfOk, IfSome};
-ghost use Rattle.flow_graph.specs.EdgeLimits.{greatest_capacity};
-ghost use Rattle.flow_graph.specs.Refusal.TheVariants.{NoMemory};
+ghost use Rattle.flow_networks.specs.EdgeLimits.{greatest_capacity};
+ghost use Rattle.flow_networks.specs.Refusal.TheVariants.{NoMemory};
 
-use flow_graph::{Edge, GraphBuilder, settle};
+use flow_networks::{Edge, GraphBuilder, settle};
 use flow_scalar::Transducer;
 use snesl_values::Refusal;
 use std::alloc::Global;

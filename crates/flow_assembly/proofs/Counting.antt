@@ -5,7 +5,7 @@ use Rattle.std.proofs.lemmas.Bool.{cases_eq}
 use Rattle.std.proofs.Math.ListN.{drop_of_length-le}
 use Rattle.std.proofs.Math.Seq.{drop-cons}
 use Rattle.snesl_data.specs.declared.dialect.Dialect.{Dialect}
-use Rattle.flow_graph.specs.Limits.{most_edges}
+use Rattle.flow_networks.specs.Limits.{most_edges}
 use Rattle.flow_plans.specs.declared.operation.Step.{Step as StepData}
 use Rattle.flow_plans.specs.Layouts.{times, uses}
 use Rattle.flow_plans.specs.Views.{step_of, steps_of}

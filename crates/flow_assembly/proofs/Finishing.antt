@@ -7,9 +7,9 @@ use Rattle.std.proofs.lemmas.List.{length-drop, length-map}
 use Rattle.std.proofs.lemmas.List.Elements.{All-from_get_or}
 use Rattle.std.proofs.lemmas.Option.{slice_get_within}
 use Rattle.flow_messages.specs.declared.message.Kind.{Kind}
-use Rattle.flow_graph.specs.declared.edge.Edge.{Edge}
-use Rattle.flow_graph.specs.Limits.{most_nodes, most_edges}
-use Rattle.flow_graph.specs.Networks.{AreOpened, IsJoined, state_at}
+use Rattle.flow_networks.specs.declared.edge.Edge.{Edge}
+use Rattle.flow_networks.specs.Limits.{most_nodes, most_edges}
+use Rattle.flow_networks.specs.Networks.{AreOpened, IsJoined, state_at}
 use Rattle.flow_nodes.specs.StreamNodes.{NodeKind, member, node_behaviour}
 use Rattle.flow_plans.specs.Plans.{Step}
 use Rattle.flow_plans.specs.Ports.{kinds_read}

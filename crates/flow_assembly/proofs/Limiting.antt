@@ -5,8 +5,8 @@ use Rattle.std.proofs.Common.{ap, arith, inl, inr}
 use Rattle.std.proofs.lemmas.Bool.Decides.{nat_tests}
 use Rattle.std.proofs.lemmas.List.{length_push}
 use Rattle.std.proofs.lemmas.Option.{slice_get_within}
-use Rattle.flow_graph.specs.declared.edge.Edge.{Edge}
-use Rattle.flow_graph.specs.Limits.{most_nodes, most_edges}
+use Rattle.flow_networks.specs.declared.edge.Edge.{Edge}
+use Rattle.flow_networks.specs.Limits.{most_nodes, most_edges}
 use Rattle.flow_nodes.specs.StreamNodes.{NodeKind, member}
 use Rattle.flow_plans.specs.Plans.{Step}
 use Rattle.flow_plans.specs.Ports.{kinds_written}

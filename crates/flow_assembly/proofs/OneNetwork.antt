@@ -8,7 +8,7 @@ use Rattle.flow_messages.specs.declared.message.Kind.{Kind}
 use Rattle.flow_base.specs.Ranges.{AllOf}
 use Rattle.flow_scalar.specs.Streams.{Items}
 use Rattle.flow_scalar.specs.SourceBehaviour.{source_opening}
-use Rattle.flow_graph.specs.Networks.{state_at}
+use Rattle.flow_networks.specs.Networks.{state_at}
 use Rattle.flow_nodes.specs.StreamNodes.{NodeKind, member, node_behaviour, a_source}
 use Rattle.flow_plans.specs.Plans.{Operation, source}
 use Rattle.flow_plans.specs.Layouts.{layout}

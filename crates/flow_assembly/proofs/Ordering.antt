@@ -6,7 +6,7 @@ use Rattle.std.proofs.lemmas.Bool.{cases_eq, cases_lt}
 use Rattle.std.proofs.lemmas.Bool.Decides.{nat_tests}
 use Rattle.std.proofs.lemmas.Option.{slice_get_within}
 use Rattle.std.proofs.Math.ListN.{drop_of_length-le}
-use Rattle.flow_graph.specs.declared.edge.Edge.{Edge}
+use Rattle.flow_networks.specs.declared.edge.Edge.{Edge}
 use Rattle.flow_rows.specs.Lists.{bind}
 use Rattle.flow_plans.specs.Layouts.{Placed, StreamPort, ports_from, inputs_from, outputs_from, first_at, without_first, edge_between, edges_from, edges_between, stream_from, stream_to}
 use Rattle.flow_assembly.specs.declared.network.Port.{Port}

@@ -6,9 +6,9 @@ use Rattle.std.proofs.lemmas.Bool.{cases_eq, cases_lt}
 use Rattle.std.proofs.lemmas.Bool.Decides.{nat_tests}
 use Rattle.std.proofs.lemmas.List.{length_push, length-set}
 use Rattle.flow_messages.specs.declared.message.Kind.{Kind}
-use Rattle.flow_graph.specs.declared.edge.Edge.{Edge}
-use Rattle.flow_graph.specs.Limits.{most_nodes, most_edges}
-use Rattle.flow_graph.specs.Networks.{MayJoin}
+use Rattle.flow_networks.specs.declared.edge.Edge.{Edge}
+use Rattle.flow_networks.specs.Limits.{most_nodes, most_edges}
+use Rattle.flow_networks.specs.Networks.{MayJoin}
 use Rattle.flow_nodes.specs.StreamNodes.{NodeKind, member, node_behaviour}
 use Rattle.flow_rows.specs.Lists.{bind}
 use Rattle.flow_plans.specs.Plans.{Step, fork, sink}

@@ -7,9 +7,9 @@ use Rattle.std.proofs.lemmas.Bool.Decides.{nat_tests}
 use Rattle.std.proofs.lemmas.List.{length-append}
 use Rattle.std.proofs.Math.Seq.{drop-cons}
 use Rattle.flow_messages.specs.declared.message.Kind.{Kind}
-use Rattle.flow_graph.specs.declared.edge.Edge.{Edge}
-use Rattle.flow_graph.specs.Limits.{most_edges}
-use Rattle.flow_graph.specs.Networks.{MayJoin}
+use Rattle.flow_networks.specs.declared.edge.Edge.{Edge}
+use Rattle.flow_networks.specs.Limits.{most_edges}
+use Rattle.flow_networks.specs.Networks.{MayJoin}
 use Rattle.flow_nodes.specs.StreamNodes.{NodeKind, member, node_behaviour}
 use Rattle.flow_plans.specs.Plans.{Step}
 use Rattle.flow_plans.specs.Layouts.{Placed, times, uses, places_after, all_after, layout, stream_to}

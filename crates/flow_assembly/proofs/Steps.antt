@@ -9,8 +9,8 @@ use Rattle.std.proofs.lemmas.List.FromFn.{get_or-map-range_with_len, length-map-
 use Rattle.std.proofs.lemmas.Option.{slice_get_within}
 use Rattle.std.proofs.Math.Seq.{drop-append_seam}
 use Rattle.flow_messages.specs.declared.message.Kind.{Kind}
-use Rattle.flow_graph.specs.declared.edge.Edge.{Edge}
-use Rattle.flow_graph.specs.Limits.{most_nodes}
+use Rattle.flow_networks.specs.declared.edge.Edge.{Edge}
+use Rattle.flow_networks.specs.Limits.{most_nodes}
 use Rattle.flow_nodes.specs.StreamNodes.{NodeKind, member, node_behaviour}
 use Rattle.flow_rows.specs.Lists.{bind, each}
 use Rattle.flow_plans.specs.Plans.{Step}

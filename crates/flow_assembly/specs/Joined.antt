@@ -1,9 +1,9 @@
 -- A network while it is built: what is joined so far, and where the next reader of each stream gets it.
 use Rattle.std.specs.Prelude.{◌≡◌, ℕ, zero, suc, ◌+◌, ◌<◌, ◌≤◌, ◌^◌, ◌==◌, ◌⊎◌, List, [], ◌∷◌, ◌++◌, length, drop, Some, if◌then◌else◌, slice_index_or}
 use Rattle.std.specs.List.{slice_get}
-use Rattle.flow_graph.specs.declared.edge.Edge.{Edge}
-use Rattle.flow_graph.specs.Edges.{edge_at, out_edge, IsTakenIn, IsTakenOut}
-use Rattle.flow_graph.specs.Networks.{state_at}
+use Rattle.flow_networks.specs.declared.edge.Edge.{Edge}
+use Rattle.flow_networks.specs.Edges.{edge_at, out_edge, IsTakenIn, IsTakenOut}
+use Rattle.flow_networks.specs.Networks.{state_at}
 use Rattle.flow_nodes.specs.StreamNodes.{NodeKind, member, node_behaviour}
 use Rattle.flow_plans.specs.Layouts.{Placed, StreamPort, ports_from, inputs_from, outputs_from, edges_from, edges_between, stream_from, stream_to}
 use Rattle.flow_assembly.specs.declared.network.Port.{Port}

@@ -1,6 +1,6 @@
 -- A plan has one network.
 use Rattle.std.specs.Prelude.{◌≡◌, List}
-use Rattle.flow_graph.specs.declared.edge.Edge.{Edge}
+use Rattle.flow_networks.specs.declared.edge.Edge.{Edge}
 use Rattle.flow_nodes.specs.StreamNodes.{NodeKind, member, node_behaviour}
 use Rattle.flow_plans.specs.Plans.{Step}
 use Rattle.flow_plans.specs.Layouts.{layout, IsNetworkOfPlan}

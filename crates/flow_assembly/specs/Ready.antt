@@ -2,8 +2,8 @@
 use Rattle.std.specs.Prelude.{◌≡◌, ℕ, ◌+◌, ◌<◌, ◌≤◌, ◌⊎◌, List, [], ◌++◌, length, map, take, drop, Some, if◌then◌else◌, nat_lt, slice_index_or}
 use Rattle.std.specs.List.{slice_get, range_with_len}
 use Rattle.flow_messages.specs.declared.message.Kind.{Kind}
-use Rattle.flow_graph.specs.declared.edge.Edge.{Edge}
-use Rattle.flow_graph.specs.Limits.{most_nodes, most_edges}
+use Rattle.flow_networks.specs.declared.edge.Edge.{Edge}
+use Rattle.flow_networks.specs.Limits.{most_nodes, most_edges}
 use Rattle.flow_nodes.specs.StreamNodes.{NodeKind, member, node_behaviour}
 use Rattle.flow_plans.specs.Plans.{Step}
 use Rattle.flow_plans.specs.Ports.{kinds_after}

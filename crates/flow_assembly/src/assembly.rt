@@ -2,9 +2,9 @@
 
 ghost use Rattle.std.specs.Prelude.{◌≡◌, ◌<◌, ◌≤◌, ◌⊎◌, [], length, IfOk, IfErr};
 ghost use Rattle.snesl_data.specs.declared.refusal.Refusal.TheVariants.{TooBig, NoMemory};
-ghost use Rattle.flow_graph.specs.Graphs.{states_of, edges_of, states_so_far, edges_so_far};
-ghost use Rattle.flow_graph.specs.Limits.{most_nodes, most_edges};
-ghost use Rattle.flow_graph.specs.Networks.{AreOpened};
+ghost use Rattle.flow_networks.specs.Graphs.{states_of, edges_of, states_so_far, edges_so_far};
+ghost use Rattle.flow_networks.specs.Limits.{most_nodes, most_edges};
+ghost use Rattle.flow_networks.specs.Networks.{AreOpened};
 ghost use Rattle.flow_nodes.specs.StreamNodes.{node_behaviour};
 ghost use Rattle.flow_plans.specs.Layouts.{layout, places, edges_needed, edges_between, IsNetworkOfPlan};
 ghost use Rattle.flow_plans.specs.Ports.{AreWired};
@@ -15,7 +15,7 @@ ghost use Rattle.flow_assembly.specs.Ready.{plan_of, IsBuiltTo};
 use crate::counted_steps::CountedSteps;
 use crate::laws::openings_perform;
 use crate::network::Network;
-use flow_graph::Graph;
+use flow_networks::Graph;
 use flow_nodes::StreamNode;
 use flow_plans::Step;
 use snesl_data::{Dialect, Refusal};

@@ -3,7 +3,7 @@
 ghost use Rattle.std.specs.Prelude.{◌≡◌, ℕ, ◌+◌, ◌<◌, ◌≤◌, ◌⊎◌, [], length, drop, Some, OnOk, IfErr};
 ghost use Rattle.std.specs.List.{slice_get};
 ghost use Rattle.snesl_data.specs.declared.refusal.Refusal.TheVariants.{TooBig, NoMemory};
-ghost use Rattle.flow_graph.specs.Graphs.{states_so_far, edges_so_far};
+ghost use Rattle.flow_networks.specs.Graphs.{states_so_far, edges_so_far};
 ghost use Rattle.flow_plans.specs.Layouts.{times, uses, places_after, all_after, layout, stream_to};
 ghost use Rattle.flow_plans.specs.Ports.{AreWired, kinds_after};
 ghost use Rattle.flow_assembly.specs.Joined.{IsJoinedTo};

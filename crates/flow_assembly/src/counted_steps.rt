@@ -2,12 +2,12 @@
 
 ghost use Rattle.std.specs.Prelude.{◌≡◌, ℕ, ◌+◌, ◌<◌, ◌≤◌, ◌⊎◌, length, slice_index_or, IfOk, OnOk, IfErr};
 ghost use Rattle.snesl_data.specs.declared.refusal.Refusal.TheVariants.{TooBig, NoMemory};
-ghost use Rattle.flow_graph.specs.Limits.{most_edges};
+ghost use Rattle.flow_networks.specs.Limits.{most_edges};
 ghost use Rattle.flow_plans.specs.Layouts.{times};
 ghost use Rattle.flow_plans.specs.Views.{steps_of};
 ghost use Rattle.flow_assembly.specs.Ready.{plan_of, IsCounted, IsTooBig};
 
-use flow_graph::MAX_EDGES;
+use flow_networks::MAX_EDGES;
 use flow_plans::Step;
 use snesl_data::{Dialect, Refusal};
 use std::alloc::{AllocError, Global};

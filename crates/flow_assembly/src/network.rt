@@ -2,14 +2,14 @@
 
 ghost use Rattle.std.specs.Prelude.{◌≡◌, ◌+◌, ◌<◌, ◌^◌, ◌⊎◌, ◌++◌, ◌∷◌, [], length, drop, slice_set, IfOk, OnOk, IfErr};
 ghost use Rattle.snesl_data.specs.declared.refusal.Refusal.TheVariants.{TooBig, NoMemory};
-ghost use Rattle.flow_graph.specs.Graphs.{states_so_far, edges_so_far};
-ghost use Rattle.flow_graph.specs.Limits.{most_nodes, most_edges};
-ghost use Rattle.flow_graph.specs.Networks.{MayJoin};
+ghost use Rattle.flow_networks.specs.Graphs.{states_so_far, edges_so_far};
+ghost use Rattle.flow_networks.specs.Limits.{most_nodes, most_edges};
+ghost use Rattle.flow_networks.specs.Networks.{MayJoin};
 ghost use Rattle.flow_nodes.specs.StreamNodes.{node_behaviour, state_of};
 ghost use Rattle.flow_assembly.specs.Joined.{supplier, edge_from, port_after};
 ghost use Rattle.flow_assembly.specs.Ready.{ports_of};
 
-use flow_graph::{Edge, GraphBuilder};
+use flow_networks::{Edge, GraphBuilder};
 use flow_nodes::StreamNode;
 use snesl_data::Refusal;
 use std::alloc::{AllocError, Global};

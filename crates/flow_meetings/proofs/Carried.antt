@@ -4,8 +4,8 @@ use Rattle.std.proofs.lemmas.Bool.{cases_lt}
 use Rattle.std.proofs.lemmas.List.{get_or_past}
 use Rattle.flow_messages.specs.Ends.{View, SameTraffic}
 use Rattle.flow_base.specs.declared.transducer.Transducer.{Ghosts}
-use Rattle.flow_graph.specs.declared.edge.Edge.{Edge}
-use Rattle.flow_graph.specs.Networks.{state_at}
+use Rattle.flow_networks.specs.declared.edge.Edge.{Edge}
+use Rattle.flow_networks.specs.Networks.{state_at}
 use Rattle.flow_boxes.specs.Contents.{Contents}
 use Rattle.flow_meetings.specs.Joints.{no_contents, boxes_at, views_of, writer_view, reader_view, end_view}
 use Rattle.flow_meetings.specs.RoundTheorems.{NothingMoved, CarryingKeepsTheConfiguration}

@@ -7,13 +7,13 @@ use Rattle.flow_messages.specs.declared.message.Kind.TheVariants.{Unit as UnitKi
 use Rattle.flow_messages.specs.Kinds.{TakesKind}
 use Rattle.flow_messages.specs.Ends.{View}
 use Rattle.flow_base.specs.declared.transducer.Transducer.{Ghosts}
-use Rattle.flow_graph.specs.declared.edge.Edge.{Edge}
-use Rattle.flow_graph.specs.declared.placed.Placed.{Placed}
-use Rattle.flow_graph.specs.Edges.{edge_at, in_edge, out_edge}
-use Rattle.flow_graph.specs.Networks.{AreOpened, state_at, inputs_at, outputs_at}
-use Rattle.flow_graph.specs.Places.{placed_state, states_in}
-use Rattle.flow_graph.specs.Skeletons.{FitTogether}
-use Rattle.flow_graph.proofs.Seats.{state_here, inputs_here, outputs_here, input_here, output_here}
+use Rattle.flow_networks.specs.declared.edge.Edge.{Edge}
+use Rattle.flow_networks.specs.declared.placed.Placed.{Placed}
+use Rattle.flow_networks.specs.Edges.{edge_at, in_edge, out_edge}
+use Rattle.flow_networks.specs.Networks.{AreOpened, state_at, inputs_at, outputs_at}
+use Rattle.flow_networks.specs.Places.{placed_state, states_in}
+use Rattle.flow_networks.specs.Skeletons.{FitTogether}
+use Rattle.flow_networks.proofs.Seats.{state_here, inputs_here, outputs_here, input_here, output_here}
 use Rattle.flow_meetings.specs.declared.owners.EdgeOwners.{EdgeOwners}
 use Rattle.flow_shares.specs.Deals.{share_of, node_at, AreJustDealt}
 use Rattle.flow_shares.specs.Shares.{row_of, StandOnce, HasItsEnds, HasHistory}

@@ -4,10 +4,10 @@ use Rattle.std.proofs.lemmas.List.{get_or-map, length-map}
 use Rattle.flow_messages.specs.declared.ends.Ends.{Ghosts as EndsGhosts}
 use Rattle.flow_base.specs.Transducers.{BehaviourLaws}
 use Rattle.flow_base.specs.declared.transducer.Transducer.{Ghosts}
-use Rattle.flow_graph.specs.declared.placed.Placed.{Placed}
-use Rattle.flow_graph.specs.Places.{placed_state, states_in}
-use Rattle.flow_graph.specs.Skeletons.{FitTogether, AreSamePlaces}
-use Rattle.flow_graph.proofs.Skeletons.{later_fit}
+use Rattle.flow_networks.specs.declared.placed.Placed.{Placed}
+use Rattle.flow_networks.specs.Places.{placed_state, states_in}
+use Rattle.flow_networks.specs.Skeletons.{FitTogether, AreSamePlaces}
+use Rattle.flow_networks.proofs.Skeletons.{later_fit}
 use Rattle.flow_shares.specs.Deals.{share_of, node_at, AreDealt, AreJustDealt, AreSameAsDealt}
 use Rattle.flow_shares.specs.declared.share.Share.{Share}
 use Rattle.flow_meetings.specs.Joints.{AreStates}

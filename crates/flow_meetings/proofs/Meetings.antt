@@ -11,11 +11,11 @@ use Rattle.flow_messages.specs.Signals.{Signal}
 use Rattle.flow_messages.specs.Ends.{View}
 use Rattle.flow_messages.specs.Tables.{IsFresh}
 use Rattle.flow_base.specs.declared.transducer.Transducer.{Ghosts}
-use Rattle.flow_graph.specs.declared.edge.Edge.{Edge}
-use Rattle.flow_graph.specs.declared.placed.Placed.{Placed}
-use Rattle.flow_graph.specs.Places.{placed_state, states_in}
-use Rattle.flow_graph.specs.Skeletons.{FitTogether}
-use Rattle.flow_graph.proofs.Nets.{opens}
+use Rattle.flow_networks.specs.declared.edge.Edge.{Edge}
+use Rattle.flow_networks.specs.declared.placed.Placed.{Placed}
+use Rattle.flow_networks.specs.Places.{placed_state, states_in}
+use Rattle.flow_networks.specs.Skeletons.{FitTogether}
+use Rattle.flow_networks.proofs.Nets.{opens}
 use Rattle.flow_shares.specs.Shares.{inputs_of, outputs_of, HasHistory}
 use Rattle.flow_shares.specs.Deals.{share_of, AreDealt}
 use Rattle.flow_meetings.specs.Joints.{reader_boxes, views_of, box_view, AreStates}

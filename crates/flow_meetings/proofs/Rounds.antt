@@ -12,12 +12,12 @@ use Rattle.kahn.proofs.AllHistories.{all_histories_are_one_run}
 use Rattle.flow_messages.specs.Signals.{Signal}
 use Rattle.flow_base.specs.Transducers.{BehaviourLaws}
 use Rattle.flow_base.specs.declared.transducer.Transducer.{Ghosts}
-use Rattle.flow_graph.specs.declared.edge.Edge.{Edge}
-use Rattle.flow_graph.specs.declared.placed.Placed.{Placed}
-use Rattle.flow_graph.specs.Networks.{state_at}
-use Rattle.flow_graph.specs.Places.{states_in}
-use Rattle.flow_graph.specs.Skeletons.{FitTogether}
-use Rattle.flow_graph.proofs.Nets.{lawful_net}
+use Rattle.flow_networks.specs.declared.edge.Edge.{Edge}
+use Rattle.flow_networks.specs.declared.placed.Placed.{Placed}
+use Rattle.flow_networks.specs.Networks.{state_at}
+use Rattle.flow_networks.specs.Places.{states_in}
+use Rattle.flow_networks.specs.Skeletons.{FitTogether}
+use Rattle.flow_networks.proofs.Nets.{lawful_net}
 use Rattle.flow_boxes.specs.Contents.{Contents}
 use Rattle.flow_shares.specs.Deals.{AreDealt}
 use Rattle.flow_meetings.specs.Joints.{views_of, BoxesHaveMet, AreStates}

@@ -3,13 +3,13 @@ use Rattle.std.proofs.Common.{◌≡◌, ℕ, ◌<◌, List, length, get_or, sym
 use Rattle.std.proofs.lemmas.List.{get_or-map, get_or_default, length-map}
 use Rattle.flow_base.specs.Visits.{edge_of}
 use Rattle.flow_base.specs.declared.transducer.Transducer.{Ghosts}
-use Rattle.flow_graph.specs.declared.edge.Edge.{Edge}
-use Rattle.flow_graph.specs.declared.placed.Placed.{Placed}
-use Rattle.flow_graph.specs.Edges.{edge_at, in_edge, out_edge}
-use Rattle.flow_graph.specs.Networks.{inputs_at, outputs_at}
-use Rattle.flow_graph.specs.Places.{states_in}
-use Rattle.flow_graph.specs.Skeletons.{FitTogether, AreSamePlaces}
-use Rattle.flow_graph.proofs.Seats.{inputs_here, outputs_here, input_here, output_here}
+use Rattle.flow_networks.specs.declared.edge.Edge.{Edge}
+use Rattle.flow_networks.specs.declared.placed.Placed.{Placed}
+use Rattle.flow_networks.specs.Edges.{edge_at, in_edge, out_edge}
+use Rattle.flow_networks.specs.Networks.{inputs_at, outputs_at}
+use Rattle.flow_networks.specs.Places.{states_in}
+use Rattle.flow_networks.specs.Skeletons.{FitTogether, AreSamePlaces}
+use Rattle.flow_networks.proofs.Seats.{inputs_here, outputs_here, input_here, output_here}
 use Rattle.flow_shares.specs.Shares.{inputs_of, outputs_of}
 use Rattle.flow_shares.specs.Deals.{share_of, AreDealt}
 use Rattle.flow_meetings.specs.Joints.{nodes_at}

@@ -2,11 +2,11 @@
 use Rattle.std.proofs.Common.{◌≡◌, ℕ, ◌<◌, List, length, get_or, refl, sym, ◌∙◌, ap, arith, ext_get_or}
 use Rattle.std.proofs.lemmas.List.{get_or-map, get_or_default, length-map}
 use Rattle.flow_base.specs.declared.transducer.Transducer.{Ghosts}
-use Rattle.flow_graph.specs.declared.edge.Edge.{Edge}
-use Rattle.flow_graph.specs.declared.placed.Placed.{Placed}
-use Rattle.flow_graph.specs.Networks.{state_at}
-use Rattle.flow_graph.specs.Places.{placed_state}
-use Rattle.flow_graph.specs.Skeletons.{FitTogether, AreSamePlaces}
+use Rattle.flow_networks.specs.declared.edge.Edge.{Edge}
+use Rattle.flow_networks.specs.declared.placed.Placed.{Placed}
+use Rattle.flow_networks.specs.Networks.{state_at}
+use Rattle.flow_networks.specs.Places.{placed_state}
+use Rattle.flow_networks.specs.Skeletons.{FitTogether, AreSamePlaces}
 use Rattle.flow_shares.specs.Deals.{share_of, AreDealt}
 use Rattle.flow_meetings.specs.Joints.{nodes_at, states_in_shares, AreStates}
 use Rattle.flow_meetings.proofs.Parts.{any_of}

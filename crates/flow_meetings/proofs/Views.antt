@@ -2,7 +2,7 @@
 use Rattle.std.proofs.Common.{◌≡◌, ℕ, ◌<◌, ◌≤◌, List, [], length, lt-ltb}
 use Rattle.std.proofs.lemmas.Bool.{cond-true, cond-false, le-ltb}
 use Rattle.flow_messages.specs.Ends.{View}
-use Rattle.flow_graph.specs.declared.edge.Edge.{Edge}
+use Rattle.flow_networks.specs.declared.edge.Edge.{Edge}
 use Rattle.flow_meetings.specs.Joints.{writer_view, reader_view, end_view}
 
 module _ (share : List ℕ) (edges : List Edge) (view_at : ℕ → View) (e : ℕ) where

@@ -8,10 +8,10 @@ use Rattle.kahn.specs.Runs.{AtRest}
 use Rattle.flow_messages.specs.Signals.{Signal}
 use Rattle.flow_messages.specs.Ends.{View}
 use Rattle.flow_base.specs.declared.transducer.Transducer.{Ghosts}
-use Rattle.flow_graph.specs.declared.edge.Edge.{Edge}
-use Rattle.flow_graph.specs.declared.placed.Placed.{Placed}
-use Rattle.flow_graph.specs.Networks.{configuration_of}
-use Rattle.flow_graph.specs.Skeletons.{FitTogether}
+use Rattle.flow_networks.specs.declared.edge.Edge.{Edge}
+use Rattle.flow_networks.specs.declared.placed.Placed.{Placed}
+use Rattle.flow_networks.specs.Networks.{configuration_of}
+use Rattle.flow_networks.specs.Skeletons.{FitTogether}
 use Rattle.flow_shares.specs.Shares.{IsOwn, AreStuck}
 use Rattle.flow_meetings.specs.Met.{Met}
 use Rattle.flow_shares.specs.Deals.{AreDealt}

@@ -2,11 +2,11 @@
 use Rattle.std.specs.Prelude.{◌≡◌, ℕ, ◌<◌, false, cond, ltb, List, [], length, map, slice_index_or, None}
 use Rattle.flow_messages.specs.Ends.{View}
 use Rattle.flow_base.specs.declared.transducer.Transducer.{Ghosts}
-use Rattle.flow_graph.specs.declared.edge.Edge.{Edge}
-use Rattle.flow_graph.specs.declared.placed.Placed.{Placed}
-use Rattle.flow_graph.specs.Edges.{edge_at}
-use Rattle.flow_graph.specs.Places.{placed_state}
-use Rattle.flow_graph.specs.Networks.{state_at}
+use Rattle.flow_networks.specs.declared.edge.Edge.{Edge}
+use Rattle.flow_networks.specs.declared.placed.Placed.{Placed}
+use Rattle.flow_networks.specs.Edges.{edge_at}
+use Rattle.flow_networks.specs.Places.{placed_state}
+use Rattle.flow_networks.specs.Networks.{state_at}
 use Rattle.flow_boxes.specs.Contents.{Contents}
 use Rattle.flow_boxes.specs.Rounds.{IsLinked, IsCarried}
 use Rattle.flow_shares.specs.Deals.{share_of, AreDealt}

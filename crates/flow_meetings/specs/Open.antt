@@ -6,9 +6,9 @@ use Rattle.flow_messages.specs.Kinds.{TakesKind}
 use Rattle.flow_messages.specs.Ends.{View}
 use Rattle.flow_messages.specs.Tables.{at_line}
 use Rattle.flow_base.specs.Transducers.{Behaviour}
-use Rattle.flow_graph.specs.declared.edge.Edge.{Edge}
-use Rattle.flow_graph.specs.Edges.{edge_at}
-use Rattle.flow_graph.specs.Networks.{state_at}
+use Rattle.flow_networks.specs.declared.edge.Edge.{Edge}
+use Rattle.flow_networks.specs.Edges.{edge_at}
+use Rattle.flow_networks.specs.Networks.{state_at}
 use Rattle.flow_meetings.specs.declared.owners.EdgeOwners.{EdgeOwners}
 use Rattle.flow_meetings.specs.Met.{Met}
 use Rattle.flow_shares.specs.Deals.{share_of}

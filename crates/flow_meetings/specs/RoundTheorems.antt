@@ -8,11 +8,11 @@ use Rattle.kahn.specs.Runs.{Reaches, AtRest}
 use Rattle.flow_messages.specs.Signals.{Signal}
 use Rattle.flow_messages.specs.Ends.{SameTraffic}
 use Rattle.flow_base.specs.declared.transducer.Transducer.{Ghosts}
-use Rattle.flow_graph.specs.declared.edge.Edge.{Edge}
-use Rattle.flow_graph.specs.declared.placed.Placed.{Placed}
-use Rattle.flow_graph.specs.Networks.{AreOpened, network_of, configuration_of}
-use Rattle.flow_graph.specs.Places.{states_in}
-use Rattle.flow_graph.specs.Skeletons.{FitTogether, AreSamePlaces}
+use Rattle.flow_networks.specs.declared.edge.Edge.{Edge}
+use Rattle.flow_networks.specs.declared.placed.Placed.{Placed}
+use Rattle.flow_networks.specs.Networks.{AreOpened, network_of, configuration_of}
+use Rattle.flow_networks.specs.Places.{states_in}
+use Rattle.flow_networks.specs.Skeletons.{FitTogether, AreSamePlaces}
 use Rattle.flow_boxes.specs.Contents.{Contents}
 use Rattle.flow_boxes.specs.Rounds.{KeepsRound}
 use Rattle.flow_shares.specs.Shares.{IsOwn, HaveMoved, AreStuck}

@@ -5,11 +5,11 @@ use Rattle.kahn.specs.Basics.{total}
 use Rattle.flow_messages.specs.Ends.{View}
 use Rattle.flow_messages.specs.declared.ends.Ends.{Ghosts as EndsGhosts}
 use Rattle.flow_base.specs.declared.transducer.Transducer.{Ghosts}
-use Rattle.flow_graph.specs.declared.edge.Edge.{Edge}
-use Rattle.flow_graph.specs.declared.placed.Placed.{Placed}
-use Rattle.flow_graph.specs.declared.graph.Graph.{Graph}
-use Rattle.flow_graph.specs.Graphs.{edges_of}
-use Rattle.flow_graph.specs.Skeletons.{nodes_of, FitTogether}
+use Rattle.flow_networks.specs.declared.edge.Edge.{Edge}
+use Rattle.flow_networks.specs.declared.placed.Placed.{Placed}
+use Rattle.flow_networks.specs.declared.graph.Graph.{Graph}
+use Rattle.flow_networks.specs.Graphs.{edges_of}
+use Rattle.flow_networks.specs.Skeletons.{nodes_of, FitTogether}
 use Rattle.flow_shares.specs.declared.share.Share.{Share}
 use Rattle.flow_shares.specs.Looks.{IsLookedAt}
 use Rattle.flow_shares.specs.Shares.{AreStuck}

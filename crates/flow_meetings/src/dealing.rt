@@ -2,8 +2,8 @@
 ghost use Rattle.std.specs.Prelude.{◌≡◌, ◌<◌, ◌≤◌, length, map, IfOk};
 ghost use Rattle.std.specs.List.{All, AllZip};
 ghost use Rattle.flow_messages.specs.Limits.{greatest_capacity};
-ghost use Rattle.flow_graph.specs.Graphs.{states_of};
-ghost use Rattle.flow_graph.specs.Networks.{AreOpened};
+ghost use Rattle.flow_networks.specs.Graphs.{states_of};
+ghost use Rattle.flow_networks.specs.Networks.{AreOpened};
 ghost use Rattle.flow_shares.specs.Deals.{lists_in};
 ghost use Rattle.flow_meetings.specs.Deals.{MakeAShare, nodes_in, ends_in, AreNew, IsDealt};
 
@@ -13,8 +13,8 @@ use crate::opening::Opening;
 use crate::opening_everywhere::open_all;
 use crate::owners::owners_of;
 use flow_base::Transducer;
-use flow_graph::{Graph, Placed};
 use flow_messages::Ends;
+use flow_networks::{Graph, Placed};
 use flow_shares::{Share, deal_nodes};
 use std::alloc::{AllocError, Global};
 

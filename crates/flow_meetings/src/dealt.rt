@@ -1,8 +1,8 @@
 // What a graph that was dealt out is.
 use crate::owners::EdgeOwners;
 use flow_base::Transducer;
-use flow_graph::Skeleton;
 use flow_messages::Ends;
+use flow_networks::Skeleton;
 use flow_shares::Share;
 
 /// A graph that was dealt out to shares.

@@ -1,17 +1,17 @@
 // Shares gathered into a graph again.
 ghost use Rattle.std.specs.Prelude.{◌≡◌, ◌<◌, length, IfOk};
 ghost use Rattle.flow_shares.specs.Deals.{lists_in, AreDealt};
-ghost use Rattle.flow_graph.specs.Places.{states_in};
-ghost use Rattle.flow_graph.specs.Graphs.{states_of, edges_of};
-ghost use Rattle.flow_graph.specs.Skeletons.{edges_in};
-ghost use Rattle.flow_graph.specs.Shapes.{IsSameNetwork};
+ghost use Rattle.flow_networks.specs.Places.{states_in};
+ghost use Rattle.flow_networks.specs.Graphs.{states_of, edges_of};
+ghost use Rattle.flow_networks.specs.Skeletons.{edges_in};
+ghost use Rattle.flow_networks.specs.Shapes.{IsSameNetwork};
 ghost use Rattle.flow_meetings.specs.Joints.{AreStates};
 ghost use Rattle.flow_meetings.specs.Deals.{nodes_in, ends_in};
 ghost use Rattle.flow_meetings.specs.SharedNetworks.{SharedNetwork};
 
 use flow_base::Transducer;
-use flow_graph::{Graph, Placed, Skeleton};
 use flow_messages::Ends;
+use flow_networks::{Graph, Placed, Skeleton};
 use flow_shares::{Share, gather};
 use std::alloc::{AllocError, Global};
 

@@ -1,11 +1,11 @@
 // The kinds of the edges of a graph.
 ghost use Rattle.std.specs.Prelude.{◌≡◌, IfOk};
-ghost use Rattle.flow_graph.specs.Graphs.{states_of, edges_of};
+ghost use Rattle.flow_networks.specs.Graphs.{states_of, edges_of};
 ghost use Rattle.flow_meetings.specs.Open.{edge_kinds};
 
 use flow_base::Transducer;
-use flow_graph::Graph;
 use flow_messages::Kind;
+use flow_networks::Graph;
 use std::alloc::{AllocError, Global};
 
 /// Of each edge of the graph, the kind of its items: that of its writer's port.

@@ -2,7 +2,7 @@
 ghost use Rattle.std.specs.Prelude.{◌<◌, length, IfOk};
 ghost use Rattle.flow_meetings.specs.Open.{AreOwners};
 
-use flow_graph::Edge;
+use flow_networks::Edge;
 use flow_shares::share_of;
 use std::alloc::{AllocError, Global};
 

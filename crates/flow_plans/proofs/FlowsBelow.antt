@@ -9,8 +9,8 @@ use Rattle.flow_base.specs.Ports.{ports}
 use Rattle.flow_base.specs.Transducers.{Behaviour}
 use Rattle.flow_rows.specs.Lists.{bind}
 use Rattle.flow_rows.proofs.Options.{bind_gives}
-use Rattle.flow_graph.specs.declared.edge.Edge.{Edge}
-use Rattle.flow_graph.specs.Edges.{edge_at, in_edge}
+use Rattle.flow_networks.specs.declared.edge.Edge.{Edge}
+use Rattle.flow_networks.specs.Edges.{edge_at, in_edge}
 use Rattle.flow_plans.specs.Plans.{Step}
 use Rattle.flow_plans.specs.Layouts.{Placed, layout}
 use Rattle.flow_plans.proofs.Places.{get_left, get_right, replicate_place}

@@ -12,11 +12,11 @@ use Rattle.flow_base.specs.Transducers.{Behaviour, BehaviourLaws}
 use Rattle.flow_rows.specs.Lists.{bind}
 use Rattle.flow_rows.proofs.Options.{bind_gives, some_same}
 use Rattle.flow_rows.proofs.Decoding.{items_forth}
-use Rattle.flow_graph.specs.declared.edge.Edge.{Edge}
-use Rattle.flow_graph.specs.Edges.{edge_at, in_edge, out_edge}
-use Rattle.flow_graph.specs.Networks.{state_at}
-use Rattle.flow_graph.specs.Laws.{IsNetwork, IsWithinLimits}
-use Rattle.flow_graph.specs.Flows.{bodies_in, bodies_out, HasRow, IsLawfulFlow}
+use Rattle.flow_networks.specs.declared.edge.Edge.{Edge}
+use Rattle.flow_networks.specs.Edges.{edge_at, in_edge, out_edge}
+use Rattle.flow_networks.specs.Networks.{state_at}
+use Rattle.flow_networks.specs.Laws.{IsNetwork, IsWithinLimits}
+use Rattle.flow_networks.specs.Flows.{bodies_in, bodies_out, HasRow, IsLawfulFlow}
 use Rattle.flow_plans.specs.Plans.{Step, made_by, streams_at, run}
 use Rattle.flow_plans.specs.Ports.{kinds_written}
 use Rattle.flow_plans.specs.Layouts.{Placed, layout, layout_from, all_after, AreCarried}

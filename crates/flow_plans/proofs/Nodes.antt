@@ -13,11 +13,11 @@ use Rattle.flow_base.specs.Columns.{columns, columns_same}
 use Rattle.flow_base.specs.Histories.{closed_inside}
 use Rattle.flow_base.specs.Transducers.{Behaviour, BehaviourLaws, closed}
 use Rattle.flow_rows.specs.Lists.{bind}
-use Rattle.flow_graph.specs.declared.edge.Edge.{Edge}
-use Rattle.flow_graph.specs.Edges.{edge_at, in_edge, out_edge}
-use Rattle.flow_graph.specs.Networks.{state_at, inputs_at, outputs_at}
-use Rattle.flow_graph.specs.Laws.{IsNetwork, IsWithinLimits}
-use Rattle.flow_graph.specs.Flows.{bodies_in, bodies_out, HasRow}
+use Rattle.flow_networks.specs.declared.edge.Edge.{Edge}
+use Rattle.flow_networks.specs.Edges.{edge_at, in_edge, out_edge}
+use Rattle.flow_networks.specs.Networks.{state_at, inputs_at, outputs_at}
+use Rattle.flow_networks.specs.Laws.{IsNetwork, IsWithinLimits}
+use Rattle.flow_networks.specs.Flows.{bodies_in, bodies_out, HasRow}
 use Rattle.flow_plans.specs.Plans.{Step, made_by}
 use Rattle.flow_plans.specs.Ports.{kinds_written}
 use Rattle.flow_plans.specs.Layouts.{Placed, layout, stream_from, stream_to, Performs, IsNetworkOfPlan}

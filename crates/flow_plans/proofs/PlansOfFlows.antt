@@ -11,10 +11,10 @@ use Rattle.flow_rows.specs.Decoded.{items_of_kind}
 use Rattle.flow_rows.proofs.Edges.{columns_length}
 use Rattle.flow_rows.proofs.Options.{map_gives}
 use Rattle.flow_rows.proofs.Decoding.{items_back}
-use Rattle.flow_graph.specs.declared.edge.Edge.{Edge}
-use Rattle.flow_graph.specs.Edges.{edge_at, in_edge, out_edge}
-use Rattle.flow_graph.specs.Laws.{IsNetwork, IsWithinLimits}
-use Rattle.flow_graph.specs.Flows.{bodies_in, bodies_out, IsLawfulFlow}
+use Rattle.flow_networks.specs.declared.edge.Edge.{Edge}
+use Rattle.flow_networks.specs.Edges.{edge_at, in_edge, out_edge}
+use Rattle.flow_networks.specs.Laws.{IsNetwork, IsWithinLimits}
+use Rattle.flow_networks.specs.Flows.{bodies_in, bodies_out, IsLawfulFlow}
 use Rattle.flow_plans.specs.Plans.{Step, made_by, streams_at, run}
 use Rattle.flow_plans.specs.Ports.{kinds_written}
 use Rattle.flow_plans.specs.Layouts.{Placed, layout, layout_from, all_after, AreCarried}

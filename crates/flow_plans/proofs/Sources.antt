@@ -12,10 +12,10 @@ use Rattle.flow_base.specs.Ports.{ports}
 use Rattle.flow_base.specs.Transducers.{Behaviour}
 use Rattle.flow_rows.specs.Lists.{bind}
 use Rattle.flow_rows.proofs.Options.{some_same}
-use Rattle.flow_graph.specs.declared.edge.Edge.{Edge}
-use Rattle.flow_graph.specs.Edges.{edge_at}
-use Rattle.flow_graph.specs.Networks.{state_at}
-use Rattle.flow_graph.specs.Replacements.{MayReplace}
+use Rattle.flow_networks.specs.declared.edge.Edge.{Edge}
+use Rattle.flow_networks.specs.Edges.{edge_at}
+use Rattle.flow_networks.specs.Networks.{state_at}
+use Rattle.flow_networks.specs.Replacements.{MayReplace}
 use Rattle.flow_plans.specs.Plans.{Operation, Step, source}
 use Rattle.flow_plans.specs.Ports.{kinds_read, kinds_written}
 use Rattle.flow_plans.specs.Layouts.{Placed, times, uses, places_after, numbered, all_after, layout_from, places_from, layout, places, stream_from, stream_to, ports_from, inputs_from, outputs_from, edges_from, edges_between, Performs, IsNetworkOfPlan}

@@ -9,9 +9,9 @@ use Rattle.flow_base.specs.Columns.{Columns}
 use Rattle.flow_base.specs.Transducers.{Behaviour}
 use Rattle.flow_rows.specs.Lists.{bind}
 use Rattle.flow_rows.specs.RowsAreFunctions.{IsFunction}
-use Rattle.flow_graph.specs.declared.edge.Edge.{Edge}
-use Rattle.flow_graph.specs.Edges.{edge_at}
-use Rattle.flow_graph.specs.Networks.{state_at}
+use Rattle.flow_networks.specs.declared.edge.Edge.{Edge}
+use Rattle.flow_networks.specs.Edges.{edge_at}
+use Rattle.flow_networks.specs.Networks.{state_at}
 use Rattle.flow_plans.specs.Plans.{Operation, Step, fork, sink, made_by}
 use Rattle.flow_plans.specs.Ports.{kinds_read, kinds_written}
 

@@ -3,8 +3,8 @@ use Rattle.std.specs.Prelude.{◌≡◌, ℕ, List, [], Some}
 use Rattle.flow_messages.specs.Cells.{Cell}
 use Rattle.flow_base.specs.Columns.{Columns}
 use Rattle.flow_base.specs.Transducers.{Behaviour}
-use Rattle.flow_graph.specs.declared.edge.Edge.{Edge}
-use Rattle.flow_graph.specs.Flows.{IsLawfulFlow}
+use Rattle.flow_networks.specs.declared.edge.Edge.{Edge}
+use Rattle.flow_networks.specs.Flows.{IsLawfulFlow}
 use Rattle.flow_plans.specs.Plans.{Step, run}
 use Rattle.flow_plans.specs.Layouts.{IsNetworkOfPlan, AreCarried}
 

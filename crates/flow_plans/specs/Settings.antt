@@ -4,8 +4,8 @@ use Rattle.std.specs.List.{slice_get}
 use Rattle.flow_messages.specs.Cells.{Cell}
 use Rattle.flow_messages.specs.declared.message.Kind.{Kind}
 use Rattle.flow_base.specs.Transducers.{Behaviour}
-use Rattle.flow_graph.specs.declared.edge.Edge.{Edge}
-use Rattle.flow_graph.specs.Replacements.{MayReplace}
+use Rattle.flow_networks.specs.declared.edge.Edge.{Edge}
+use Rattle.flow_networks.specs.Replacements.{MayReplace}
 use Rattle.flow_plans.specs.Plans.{Operation, Step, source}
 use Rattle.flow_plans.specs.Layouts.{Placed, layout, places, Performs, IsNetworkOfPlan}
 

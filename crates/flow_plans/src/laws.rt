@@ -1,11 +1,11 @@
 // What holds of the network of a plan. The functions do nothing: their contracts are the theorems.
 
-ghost use Rattle.flow_graph.specs.Graphs.{states_of, edges_of};
+ghost use Rattle.flow_networks.specs.Graphs.{states_of, edges_of};
 ghost use Rattle.flow_plans.specs.PlanFlows.{PlanIsFlow, FlowIsPlan};
 ghost use Rattle.flow_plans.specs.Settings.{SourceIsSet};
 
 use flow_base::Transducer;
-use flow_graph::Graph;
+use flow_networks::Graph;
 
 /// The lawful flows of the network of a plan are the streams to which the plan runs: where it runs, they are such a flow,
 /// and where there is such a flow, it runs to them.

@@ -5,7 +5,7 @@ use Rattle.std.specs.List.{AllZip}
 use Rattle.flow_messages.specs.Ends.{View}
 use Rattle.flow_messages.specs.declared.ends.Ends.{Ghosts as EndsGhosts}
 use Rattle.flow_base.specs.declared.transducer.Transducer.{Ghosts}
-use Rattle.flow_graph.specs.Edges.{edge_at}
+use Rattle.flow_networks.specs.Edges.{edge_at}
 use Rattle.flow_lanes.specs.declared.rings.Rings.{Rings}
 use Rattle.flow_lanes.specs.Rings.{Kept, ends_of, SameRings}
 use Rattle.flow_meetings.specs.declared.owners.EdgeOwners.{EdgeOwners}

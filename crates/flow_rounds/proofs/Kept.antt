@@ -6,8 +6,8 @@ use Rattle.flow_messages.specs.Ends.{View, SameEnds, SameTraffic}
 use Rattle.flow_messages.proofs.Fitting.{takes_still}
 use Rattle.flow_base.specs.Visits.{edge_of, TakeKinds}
 use Rattle.flow_base.specs.declared.transducer.Transducer.{Ghosts}
-use Rattle.flow_graph.specs.declared.placed.Placed.{Placed}
-use Rattle.flow_graph.specs.Places.{placed_state}
+use Rattle.flow_networks.specs.declared.placed.Placed.{Placed}
+use Rattle.flow_networks.specs.Places.{placed_state}
 use Rattle.flow_shares.specs.Shares.{outputs_of, HasItsEnds, IsOwn}
 
 module _ {X : Type 0} {t : Ghosts X} (nodes : List (Placed X t)) (a v : View) where

@@ -5,9 +5,9 @@ use Rattle.flow_messages.specs.Ends.{View, SameEnds, SameTraffic}
 use Rattle.flow_messages.specs.declared.ends.Ends.{Ghosts as EndsGhosts}
 use Rattle.flow_base.specs.Transducers.{BehaviourLaws}
 use Rattle.flow_base.specs.declared.transducer.Transducer.{Ghosts}
-use Rattle.flow_graph.specs.declared.placed.Placed.{Placed}
-use Rattle.flow_graph.specs.Places.{placed_state}
-use Rattle.flow_graph.specs.Skeletons.{AreSamePlaces}
+use Rattle.flow_networks.specs.declared.placed.Placed.{Placed}
+use Rattle.flow_networks.specs.Places.{placed_state}
+use Rattle.flow_networks.specs.Skeletons.{AreSamePlaces}
 use Rattle.flow_lanes.specs.declared.rings.Rings.{Rings}
 use Rattle.flow_lanes.specs.Rings.{SameRings}
 use Rattle.flow_lanes.proofs.Meetings.{joins-kept}

@@ -14,9 +14,9 @@ use Rattle.flow_messages.specs.Ends.{View, SameTraffic}
 use Rattle.flow_messages.specs.declared.ends.Ends.{Ghosts as EndsGhosts}
 use Rattle.flow_base.specs.Transducers.{BehaviourLaws}
 use Rattle.flow_base.specs.declared.transducer.Transducer.{Ghosts}
-use Rattle.flow_graph.specs.Places.{placed_state, states_in}
-use Rattle.flow_graph.specs.Skeletons.{AreSamePlaces}
-use Rattle.flow_graph.proofs.Nets.{lawful_net}
+use Rattle.flow_networks.specs.Places.{placed_state, states_in}
+use Rattle.flow_networks.specs.Skeletons.{AreSamePlaces}
+use Rattle.flow_networks.proofs.Nets.{lawful_net}
 use Rattle.flow_lanes.specs.declared.rings.Rings.{Rings}
 use Rattle.flow_lanes.specs.Rings.{SameRings}
 use Rattle.flow_lanes.specs.SameEnds.{same_rings_refl, same_rings_trans}

@@ -5,8 +5,8 @@ use Rattle.kahn.specs.Runs.{AtRest}
 use Rattle.flow_messages.specs.Signals.{Signal}
 use Rattle.flow_messages.specs.declared.ends.Ends.{Ghosts as EndsGhosts}
 use Rattle.flow_base.specs.declared.transducer.Transducer.{Ghosts}
-use Rattle.flow_graph.specs.Edges.{edge_at}
-use Rattle.flow_graph.specs.Skeletons.{AreSamePlaces}
+use Rattle.flow_networks.specs.Edges.{edge_at}
+use Rattle.flow_networks.specs.Skeletons.{AreSamePlaces}
 use Rattle.flow_lanes.specs.declared.rings.Rings.{Rings}
 use Rattle.flow_lanes.specs.Rings.{SameRings, Kept}
 use Rattle.flow_meetings.specs.RingMeetings.{RingsJoin, ring_slots}

@@ -5,8 +5,8 @@ use Rattle.kahn.specs.Runs.{Reaches, AtRest}
 use Rattle.flow_messages.specs.Signals.{Signal}
 use Rattle.flow_messages.specs.declared.ends.Ends.{Ghosts as EndsGhosts}
 use Rattle.flow_base.specs.declared.transducer.Transducer.{Ghosts}
-use Rattle.flow_graph.specs.declared.edge.Edge.{Edge}
-use Rattle.flow_graph.specs.Edges.{edge_at}
+use Rattle.flow_networks.specs.declared.edge.Edge.{Edge}
+use Rattle.flow_networks.specs.Edges.{edge_at}
 use Rattle.flow_boxes.specs.Contents.{Contents, contents}
 use Rattle.flow_boxes.specs.Rounds.{IsLinked}
 use Rattle.flow_boxes.specs.declared.boxes.Boxes.{Boxes}

@@ -6,7 +6,7 @@ ghost use Rattle.flow_boxes.specs.Contents.{view_of};
 
 use flow_base::Transducer;
 use flow_boxes::Boxes;
-use flow_graph::Placed;
+use flow_networks::Placed;
 use flow_shares::Share;
 use std::alloc::{AllocError, Global};
 use std::snapshot::Snapshot;

@@ -8,7 +8,7 @@ use Rattle.kahn.specs.Processes.{reads, writes}
 use Rattle.flow_messages.specs.Ends.{View, SameTraffic}
 use Rattle.flow_base.specs.declared.transducer.Transducer.{Ghosts}
 use Rattle.flow_base.specs.Visits.{edge_of, IsNone}
-use Rattle.flow_graph.specs.declared.placed.Placed.{Placed}
+use Rattle.flow_networks.specs.declared.placed.Placed.{Placed}
 use Rattle.flow_shares.specs.Shares.{inputs_of, outputs_of, Grows, HaveMoved, HaveMovedAndLost}
 
 -- an edge is none of these, or is at a port

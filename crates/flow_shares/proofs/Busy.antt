@@ -6,8 +6,8 @@ use Rattle.flow_messages.specs.Ends.{View, SameTraffic}
 use Rattle.flow_base.specs.Transducers.{Behaviour, BehaviourLaws}
 use Rattle.flow_base.specs.declared.transducer.Transducer.{Ghosts}
 use Rattle.flow_base.specs.Visits.{edge_of}
-use Rattle.flow_graph.specs.declared.placed.Placed.{Placed}
-use Rattle.flow_graph.specs.Places.{placed_state}
+use Rattle.flow_networks.specs.declared.placed.Placed.{Placed}
+use Rattle.flow_networks.specs.Places.{placed_state}
 use Rattle.flow_shares.specs.Shares.{inputs_of, outputs_of, HaveMoved}
 use Rattle.flow_shares.proofs.Ports.{HasInputs, HasOutputs, input_port, output_port}
 

@@ -11,10 +11,10 @@ use Rattle.flow_base.specs.Transducers.{BehaviourLaws}
 use Rattle.flow_base.specs.declared.transducer.Transducer.{Ghosts}
 use Rattle.flow_base.specs.Visits.{edge_of, IsNone, LeavesAlone, IsStuck}
 use Rattle.flow_base.proofs.Carried.{prefix_same, prefix_then}
-use Rattle.flow_graph.specs.declared.placed.Placed.{Placed}
-use Rattle.flow_graph.specs.Over.{is_over}
-use Rattle.flow_graph.specs.Places.{placed_state, IsSamePlace}
-use Rattle.flow_graph.specs.Skeletons.{AreSamePlaces}
+use Rattle.flow_networks.specs.declared.placed.Placed.{Placed}
+use Rattle.flow_networks.specs.Over.{is_over}
+use Rattle.flow_networks.specs.Places.{placed_state, IsSamePlace}
+use Rattle.flow_networks.specs.Skeletons.{AreSamePlaces}
 use Rattle.flow_shares.specs.Shares.{inputs_of, outputs_of, AreApart, AreStuck}
 use Rattle.flow_shares.proofs.Ports.{IsAway, input_port, output_port}
 use Rattle.flow_shares.proofs.Later.{it_is, now_is}

@@ -7,8 +7,8 @@ use Rattle.kahn.specs.Processes.{reads, writes}
 use Rattle.flow_messages.specs.Ends.{View, SameTraffic}
 use Rattle.flow_base.specs.declared.transducer.Transducer.{Ghosts}
 use Rattle.flow_base.specs.Visits.{edge_of}
-use Rattle.flow_graph.specs.declared.placed.Placed.{Placed}
-use Rattle.flow_graph.specs.Skeletons.{AreSamePlaces}
+use Rattle.flow_networks.specs.declared.placed.Placed.{Placed}
+use Rattle.flow_networks.specs.Skeletons.{AreSamePlaces}
 use Rattle.flow_shares.specs.Shares.{inputs_of, outputs_of, HaveMoved, count_of}
 use Rattle.flow_shares.proofs.Moves.{moved_none, moved_none_history, moved_then, moved_then_history}
 use Rattle.flow_shares.proofs.Between.{find_node}

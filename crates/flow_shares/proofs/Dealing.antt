@@ -5,7 +5,7 @@ use Rattle.std.specs.declared.vec.Vec.{Vec}
 use Rattle.std.specs.List.{All}
 use Rattle.std.proofs.lemmas.List.{get_or-map, map-set, length-map, length-set, length_push, get_or_push, get_or_append_left, get_or-replicate, length-replicate}
 use Rattle.flow_base.specs.declared.transducer.Transducer.{Ghosts}
-use Rattle.flow_graph.specs.declared.placed.Placed.{Placed}
+use Rattle.flow_networks.specs.declared.placed.Placed.{Placed}
 use Rattle.flow_shares.specs.Deals.{share_of, lists_in, node_at, AreNumbered, AreJustDealt}
 
 -- each share that is named is one of these

@@ -4,8 +4,8 @@ use Rattle.std.proofs.lemmas.Bool.{cases_eq, cases_lt}
 use Rattle.std.specs.declared.vec.Vec.{Vec}
 use Rattle.std.proofs.lemmas.List.{length-set, length-map, length-take-le, map-set, get_or-map, take_all, drop_all, drop_more, reverse-append, same_lists}
 use Rattle.flow_base.specs.declared.transducer.Transducer.{Ghosts}
-use Rattle.flow_graph.specs.declared.placed.Placed.{Placed}
-use Rattle.flow_graph.specs.Places.{IsSamePlace}
+use Rattle.flow_networks.specs.declared.placed.Placed.{Placed}
+use Rattle.flow_networks.specs.Places.{IsSamePlace}
 use Rattle.flow_shares.specs.Deals.{share_of, lists_in, node_at, AreJustDealt, AreSomeDealt, AreSameAsDealt, AreJustAsDealt}
 use Rattle.flow_shares.proofs.Places.{found, length-found, found_are, gathered, equally_many}
 

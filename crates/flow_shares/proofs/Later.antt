@@ -6,9 +6,9 @@ use Rattle.std.proofs.lemmas.List.{length-set}
 use Rattle.std.proofs.lemmas.List.Elements.{at_read}
 use Rattle.flow_messages.specs.Ends.{View, SameEnds}
 use Rattle.flow_base.specs.declared.transducer.Transducer.{Ghosts}
-use Rattle.flow_graph.specs.declared.placed.Placed.{Placed}
-use Rattle.flow_graph.specs.Places.{IsSamePlace, placed_state}
-use Rattle.flow_graph.specs.Skeletons.{AreSamePlaces}
+use Rattle.flow_networks.specs.declared.placed.Placed.{Placed}
+use Rattle.flow_networks.specs.Places.{IsSamePlace, placed_state}
+use Rattle.flow_networks.specs.Skeletons.{AreSamePlaces}
 use Rattle.flow_messages.proofs.Fitting.{takes_still}
 use Rattle.flow_base.specs.Visits.{edge_of, TakeKinds}
 use Rattle.flow_shares.specs.Shares.{StandOnce, inputs_of, outputs_of, HasItsEnds, AreApart}

@@ -4,7 +4,7 @@ use mathlib.Core.Logic.{∥∥₁_map}
 use Rattle.std.specs.List.{All}
 use Rattle.flow_messages.specs.Ends.{View, SameTraffic}
 use Rattle.flow_base.specs.declared.transducer.Transducer.{Ghosts}
-use Rattle.flow_graph.specs.declared.placed.Placed.{Placed}
+use Rattle.flow_networks.specs.declared.placed.Placed.{Placed}
 use Rattle.flow_shares.specs.Shares.{IsOwn}
 
 pub own_stay : {X : Type 0} {t : Ghosts X} (nodes : List (Placed X t)) (a v : View) → SameTraffic a v → All (IsOwn a) nodes → All (IsOwn v) nodes

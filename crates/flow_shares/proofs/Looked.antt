@@ -6,7 +6,7 @@ use Rattle.flow_base.specs.Transducers.{BehaviourLaws}
 use Rattle.flow_base.specs.declared.transducer.Transducer.{Ghosts}
 use Rattle.flow_base.specs.Visits.{LeavesAlone}
 use Rattle.flow_base.proofs.Carried.{same_ends_refl, same_ends_then, prefix_same, prefix_then}
-use Rattle.flow_graph.specs.declared.placed.Placed.{Placed}
+use Rattle.flow_networks.specs.declared.placed.Placed.{Placed}
 use Rattle.flow_shares.specs.Looks.{LookedAround}
 use Rattle.flow_shares.specs.Shares.{inputs_of, outputs_of, AreApart}
 use Rattle.flow_shares.proofs.Later.{it_is}

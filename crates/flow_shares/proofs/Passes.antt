@@ -7,10 +7,10 @@ use Rattle.flow_base.specs.Transducers.{BehaviourLaws}
 use Rattle.flow_base.specs.declared.transducer.Transducer.{Ghosts}
 use Rattle.flow_base.specs.Visits.{Visited, BrokeOff}
 use Rattle.flow_base.proofs.Carried.{same_ends_refl, same_ends_then}
-use Rattle.flow_graph.specs.declared.placed.Placed.{Placed}
-use Rattle.flow_graph.specs.Over.{is_over}
-use Rattle.flow_graph.specs.Places.{placed_state, IsSamePlace}
-use Rattle.flow_graph.specs.Skeletons.{AreSamePlaces}
+use Rattle.flow_networks.specs.declared.placed.Placed.{Placed}
+use Rattle.flow_networks.specs.Over.{is_over}
+use Rattle.flow_networks.specs.Places.{placed_state, IsSamePlace}
+use Rattle.flow_networks.specs.Skeletons.{AreSamePlaces}
 use Rattle.flow_shares.specs.Shares.{inputs_of, outputs_of, HasItsEnds, IsOwn, AreApart, TakesMemory, HaveMoved, HaveMovedAndLost, SpareOthers}
 use Rattle.flow_shares.proofs.Later.{same_places_refl, same_places_then, same_places_set, apart_later, there_later}
 use Rattle.flow_shares.proofs.Moves.{moved_none, moved_then, lost_then, own_later}

@@ -3,7 +3,7 @@ use Rattle.std.proofs.Common.{◌≡◌, ℕ, zero, suc, ◌+◌, ◌<◌, ◌�
 use Rattle.std.proofs.lemmas.Bool.{cases_lt, cases_order}
 use Rattle.std.proofs.lemmas.List.{get_or_default}
 use Rattle.flow_base.specs.declared.transducer.Transducer.{Ghosts}
-use Rattle.flow_graph.specs.declared.placed.Placed.{Placed}
+use Rattle.flow_networks.specs.declared.placed.Placed.{Placed}
 use Rattle.flow_shares.specs.Deals.{share_of, node_at, AreDealtBy, AreJustDealt}
 
 -- each element made anew from its index, counted from n, and what it was

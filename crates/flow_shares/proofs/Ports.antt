@@ -10,8 +10,8 @@ use Rattle.flow_messages.specs.Signals.{Signal, ended}
 use Rattle.flow_base.specs.Transducers.{Behaviour, BehaviourLaws}
 use Rattle.flow_base.specs.Visits.{read_from, sent_after, edge_of, IsReached}
 use Rattle.flow_base.proofs.Reached.{opening_read, opening_wrote, wants_input, wants_output}
-use Rattle.flow_graph.proofs.Reached.{Follows, follows_read, follows_wrote, follows_inputs, follows_outputs}
-use Rattle.flow_graph.proofs.Turns.{ended_has}
+use Rattle.flow_networks.proofs.Reached.{Follows, follows_read, follows_wrote, follows_inputs, follows_outputs}
+use Rattle.flow_networks.proofs.Turns.{ended_has}
 
 -- no edge is at two of these ports
 abbrev pub AreOwn : List ℕ → Type 0

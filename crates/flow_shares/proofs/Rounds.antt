@@ -4,8 +4,8 @@ use Rattle.std.specs.List.{All}
 use Rattle.flow_messages.specs.Ends.{View, SameEnds, SameTraffic}
 use Rattle.flow_base.specs.declared.transducer.Transducer.{Ghosts}
 use Rattle.flow_base.proofs.Carried.{same_ends_refl, same_ends_then}
-use Rattle.flow_graph.specs.declared.placed.Placed.{Placed}
-use Rattle.flow_graph.specs.Skeletons.{AreSamePlaces}
+use Rattle.flow_networks.specs.declared.placed.Placed.{Placed}
+use Rattle.flow_networks.specs.Skeletons.{AreSamePlaces}
 use Rattle.flow_shares.specs.Shares.{HasItsEnds, IsOwn, AreApart, AreStuck, HaveMoved, HaveMovedAndLost, count_of, HaveMovedForTurns, SpareOthers}
 use Rattle.flow_shares.proofs.Later.{same_places_refl, same_places_then, apart_later, there_later}
 use Rattle.flow_shares.proofs.Moves.{moved_none, moved_then, lost_then, own_later}

@@ -4,8 +4,8 @@ use Rattle.flow_messages.specs.Ends.{View}
 use Rattle.flow_base.specs.declared.transducer.Transducer.{Ghosts}
 use Rattle.flow_base.specs.Visits.{IsNone, SparesOthers}
 use Rattle.flow_base.proofs.Carried.{prefix_same, prefix_then}
-use Rattle.flow_graph.specs.declared.placed.Placed.{Placed}
-use Rattle.flow_graph.specs.Skeletons.{AreSamePlaces}
+use Rattle.flow_networks.specs.declared.placed.Placed.{Placed}
+use Rattle.flow_networks.specs.Skeletons.{AreSamePlaces}
 use Rattle.flow_shares.specs.Shares.{inputs_of, outputs_of, SpareOthers}
 use Rattle.flow_shares.proofs.Later.{all_inputs_later, all_outputs_later}
 

@@ -11,8 +11,8 @@ use Rattle.flow_messages.specs.Ends.{View}
 use Rattle.flow_base.specs.Transducers.{Behaviour, BehaviourLaws}
 use Rattle.flow_base.specs.declared.transducer.Transducer.{Ghosts}
 use Rattle.flow_base.specs.Visits.{read_from, sent_after, edge_of, IsNone, Carried, BrokeOff}
-use Rattle.flow_graph.specs.declared.placed.Placed.{Placed}
-use Rattle.flow_graph.specs.Places.{placed_state}
+use Rattle.flow_networks.specs.declared.placed.Placed.{Placed}
+use Rattle.flow_networks.specs.Places.{placed_state}
 use Rattle.flow_shares.specs.Shares.{row_of, StandOnce, inputs_of, outputs_of, IsOwn, HasHistory, AreApart, TakesMemory, HaveMoved, HaveMovedAndLost}
 use Rattle.flow_shares.proofs.Ports.{AreOwn, IsAway, HasInputs, HasOutputs, WroteAll, read_own, read_other, sent_own, sent_other}
 use Rattle.flow_shares.proofs.Later.{it_is, now_is}

@@ -3,7 +3,7 @@ use Rattle.std.specs.Prelude.{◌≡◌, true, false}
 use Rattle.flow_messages.specs.Ends.{SameEnds, SameTraffic}
 use Rattle.flow_messages.specs.declared.ends.Ends.{Ghosts as EndsGhosts}
 use Rattle.flow_base.specs.declared.transducer.Transducer.{Ghosts}
-use Rattle.flow_graph.specs.Skeletons.{AreSamePlaces}
+use Rattle.flow_networks.specs.Skeletons.{AreSamePlaces}
 use Rattle.flow_shares.specs.declared.share.Share.{Share}
 use Rattle.flow_shares.specs.Shares.{AreStuck, HaveMoved, HaveMovedAndLost, SpareOthers}
 

@@ -9,9 +9,9 @@ use Rattle.flow_messages.specs.Signals.{Signal}
 use Rattle.flow_messages.specs.Ends.{View}
 use Rattle.flow_base.specs.Visits.{TakeKinds, edge_of, IsNone, IsStuck}
 use Rattle.flow_base.specs.declared.transducer.Transducer.{Ghosts}
-use Rattle.flow_graph.specs.declared.placed.Placed.{Placed}
-use Rattle.flow_graph.specs.Over.{is_over}
-use Rattle.flow_graph.specs.Places.{number_at, placed_state, inputs_in, outputs_in}
+use Rattle.flow_networks.specs.declared.placed.Placed.{Placed}
+use Rattle.flow_networks.specs.Over.{is_over}
+use Rattle.flow_networks.specs.Places.{number_at, placed_state, inputs_in, outputs_in}
 
 -- the most turns of a pump
 abbrev pub most_turns : ℕ

@@ -5,7 +5,7 @@ ghost use Rattle.flow_shares.specs.Deals.{lists_in, AreNumbered, AreJustDealt};
 
 use crate::entry::share_of;
 use flow_base::Transducer;
-use flow_graph::Placed;
+use flow_networks::Placed;
 use std::alloc::{AllocError, Global};
 
 /// Deals nodes out to so many shares: node `k` goes to the share that `share` names for it, after the nodes of smaller

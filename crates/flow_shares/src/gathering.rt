@@ -4,7 +4,7 @@ ghost use Rattle.flow_shares.specs.Deals.{lists_in, AreSomeDealt, AreJustDealt, 
 
 use crate::entry::share_of;
 use flow_base::Transducer;
-use flow_graph::Placed;
+use flow_networks::Placed;
 use std::alloc::{AllocError, Global};
 
 /// Gathers so many nodes that were dealt out by `share`, in the order of their numbers.

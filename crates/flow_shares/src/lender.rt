@@ -5,8 +5,8 @@ ghost use Rattle.flow_shares.specs.Lending.{share_nodes};
 
 use crate::share::Share;
 use flow_base::Transducer;
-use flow_graph::Placed;
 use flow_messages::Ends;
+use flow_networks::Placed;
 use std::snapshot::Snapshot;
 
 /// What is left of a share while its ends are elsewhere, as where they meet those of other shares.

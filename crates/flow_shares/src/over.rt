@@ -1,11 +1,11 @@
 // Nodes that are over.
 ghost use Rattle.std.specs.Prelude.{◌≡◌, ◌↔◌, IsTrue};
-ghost use Rattle.flow_graph.specs.Over.{is_over};
-ghost use Rattle.flow_graph.specs.Places.{placed_state};
+ghost use Rattle.flow_networks.specs.Over.{is_over};
+ghost use Rattle.flow_networks.specs.Places.{placed_state};
 ghost use Rattle.flow_shares.specs.Shares.{AreOver};
 
 use flow_base::Transducer;
-use flow_graph::Placed;
+use flow_networks::Placed;
 use kahn::Want;
 
 /// Whether the node makes no step again.

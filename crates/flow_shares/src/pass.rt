@@ -2,13 +2,13 @@
 ghost use Rattle.std.specs.Prelude.{◌≡◌, ◌<◌, true, false, IfOk, OnErr};
 ghost use Rattle.std.specs.List.{All};
 ghost use Rattle.flow_messages.specs.Ends.{SameEnds, SameTraffic};
-ghost use Rattle.flow_graph.specs.Skeletons.{AreSamePlaces};
+ghost use Rattle.flow_networks.specs.Skeletons.{AreSamePlaces};
 ghost use Rattle.flow_shares.specs.Shares.{HasItsEnds, AreApart, IsOwn, AreStuck, TakesMemory, HaveMoved, HaveMovedAndLost, SpareOthers};
 
 use crate::over::is_over;
 use flow_base::Transducer;
-use flow_graph::Placed;
 use flow_messages::Ends;
+use flow_networks::Placed;
 use std::alloc::AllocError;
 
 /// Visits each node once, in order, with at most `chunk` steps each, from the first on that is not over. Whether one made a

@@ -4,8 +4,8 @@ ghost use Rattle.std.specs.List.{All};
 ghost use Rattle.flow_shares.specs.Shares.{HasItsEnds, AreApart, IsOwn};
 
 use flow_base::Transducer;
-use flow_graph::Placed;
 use flow_messages::Ends;
+use flow_networks::Placed;
 
 /// Some nodes of a graph, in ascending order, and the ends of the edges at their ports.
 ///

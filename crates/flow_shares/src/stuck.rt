@@ -6,8 +6,8 @@ ghost use Rattle.flow_shares.specs.Shares.{HasItsEnds, AreApart, AreStuck};
 
 use crate::share::Share;
 use flow_base::Transducer;
-use flow_graph::Placed;
 use flow_messages::Ends;
+use flow_networks::Placed;
 
 impl<T: Transducer, E: Ends> Share<T, E> {
     /// Whether none of its nodes can step by what its ends are certain of. It looks at ends that nodes want, which may be

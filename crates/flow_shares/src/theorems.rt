@@ -2,7 +2,7 @@
 ghost use Rattle.flow_shares.specs.Deals.{StayDealt, AreDealtAsGiven};
 
 use flow_base::Transducer;
-use flow_graph::Placed;
+use flow_networks::Placed;
 
 /// Nodes that were dealt out stay so, each at its place, where each share becomes the same nodes later.
 pub fn dealt_stay_dealt<T: Transducer>(nodes: &[Placed<T>])

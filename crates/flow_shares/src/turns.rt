@@ -2,7 +2,7 @@
 ghost use Rattle.std.specs.Prelude.{◌≡◌, ◌<◌, true, false, [], ◌∷◌, ◌++◌, length, IfOk, OnErr};
 ghost use Rattle.std.specs.List.{All};
 ghost use Rattle.flow_messages.specs.Ends.{SameEnds, SameTraffic};
-ghost use Rattle.flow_graph.specs.Skeletons.{AreSamePlaces};
+ghost use Rattle.flow_networks.specs.Skeletons.{AreSamePlaces};
 ghost use Rattle.flow_shares.specs.Pumps.{IsPumped};
 ghost use Rattle.flow_shares.specs.Shares.{most_turns, HasItsEnds, AreApart, IsOwn, AreStuck, TakesMemory, HaveMoved, HaveMovedForTurns, HaveMovedAndLost, SpareOthers};
 
@@ -11,9 +11,9 @@ use crate::over::are_over;
 use crate::pass::pass;
 use crate::share::Share;
 use flow_base::Transducer;
-use flow_graph::Placed;
 use flow_history::History;
 use flow_messages::Ends;
+use flow_networks::Placed;
 use std::alloc::AllocError;
 use std::thread;
 

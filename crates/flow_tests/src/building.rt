@@ -1,11 +1,11 @@
 // How tests build a graph: node by node, each in its opening state, and edge by edge.
 
 ghost use Rattle.std.specs.Prelude.{◌≡◌, IfOk};
-ghost use Rattle.flow_graph.specs.Graphs.{states_of, states_so_far};
-ghost use Rattle.flow_graph.specs.Networks.{AreOpened};
+ghost use Rattle.flow_networks.specs.Graphs.{states_of, states_so_far};
+ghost use Rattle.flow_networks.specs.Networks.{AreOpened};
 
 use flow_base::Transducer;
-use flow_graph::{Edge, Graph, GraphBuilder};
+use flow_networks::{Edge, Graph, GraphBuilder};
 use std::test::Fail;
 
 /// Adds a node in its opening state.

@@ -1,7 +1,7 @@
 // Graphs of sketches, driven until they rest.
 
-ghost use Rattle.flow_graph.specs.Graphs.{states_of};
-ghost use Rattle.flow_graph.specs.Networks.{AreOpened};
+ghost use Rattle.flow_networks.specs.Graphs.{states_of};
+ghost use Rattle.flow_networks.specs.Networks.{AreOpened};
 ghost use Rattle.flow_nodes.specs.StreamNodes.{node_behaviour};
 
 use crate::sketches::{
@@ -9,8 +9,8 @@ use crate::sketches::{
     graph_of,
 };
 use flow_base::{Printing, Transducer};
-use flow_drive::{Config, Drive, DriveError, NoGate, Outcome, Rested, drive};
-use flow_graph::Graph;
+use flow_drives::{Config, Drive, DriveError, NoGate, Outcome, Rested, drive};
+use flow_networks::Graph;
 use flow_nodes::StreamNode;
 use snesl_data::{Fault, FaultKind};
 use std::alloc::{AllocError, Global};

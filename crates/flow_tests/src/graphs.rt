@@ -1,13 +1,13 @@
 // Graphs of sketches, and their single steps.
 
-ghost use Rattle.flow_graph.specs.Graphs.{states_so_far};
-ghost use Rattle.flow_graph.specs.Networks.{AreOpened};
+ghost use Rattle.flow_networks.specs.Graphs.{states_so_far};
+ghost use Rattle.flow_networks.specs.Networks.{AreOpened};
 
 use crate::building::join;
 use crate::sketches::{SUM_OF_FIVE, SUM_OF_UNLIKE, drawn, graph_of};
 use flow_base::Transducer;
-use flow_graph::{Edge, Graph, GraphBuilder, Moved, step_once};
 use flow_messages::{Ends, Item, Msg, Table};
+use flow_networks::{Edge, Graph, GraphBuilder, Moved, step_once};
 use kahn::Want;
 use snesl_data::{Fault, FaultKind};
 use std::alloc::Global;

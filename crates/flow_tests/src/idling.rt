@@ -1,12 +1,12 @@
 // How many turns the shares of a graph make in rounds.
 
-ghost use Rattle.flow_graph.specs.Graphs.{states_of};
-ghost use Rattle.flow_graph.specs.Networks.{AreOpened};
+ghost use Rattle.flow_networks.specs.Graphs.{states_of};
+ghost use Rattle.flow_networks.specs.Networks.{AreOpened};
 
 use crate::sketches::{SUM_OF_FIVE, graph_of};
 use flow_base::Transducer;
-use flow_drive::{Config, Drive, Gate, drive};
-use flow_graph::Graph;
+use flow_drives::{Config, Drive, Gate, drive};
+use flow_networks::Graph;
 use std::alloc::Global;
 use std::sync::Arc;
 use std::sync::atomic::{AtomicU64, Ordering};

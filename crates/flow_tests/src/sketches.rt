@@ -9,14 +9,14 @@
 // Empty lines are passed over. Any other line is refused.
 
 ghost use Rattle.std.specs.Prelude.{IfOk};
-ghost use Rattle.flow_graph.specs.Graphs.{states_of, states_so_far};
-ghost use Rattle.flow_graph.specs.Networks.{AreOpened};
+ghost use Rattle.flow_networks.specs.Graphs.{states_of, states_so_far};
+ghost use Rattle.flow_networks.specs.Networks.{AreOpened};
 ghost use Rattle.flow_nodes.specs.StreamNodes.{node_behaviour};
 
 use crate::building::{add, built, join};
 use crate::node_words::node_of;
 use crate::words::{WordError, number_of};
-use flow_graph::{Graph, GraphBuilder};
+use flow_networks::{Graph, GraphBuilder};
 use flow_nodes::StreamNode;
 use std::alloc::Global;
 use std::test::Fail;

@@ -2,7 +2,7 @@
 use Rattle.std.proofs.Common.{◌≡◌, ℕ, zero, suc, List, [], ◌∷◌, length, get_or, Option, Some, None, ap, arith}
 use Rattle.std.specs.List.{filter_map, last_or, cons_option}
 use Rattle.std.specs.Option.{unwrap_or}
-use Rattle.flow_drive.specs.Texts.{last_text}
+use Rattle.flow_drives.specs.Texts.{last_text}
 
 behind_one : {B : Type 0} (one o : Option B) (others : List B) (t : B) → ((before : Option B) → last_or before others ≡ Some t) → last_or o (cons_option one others) ≡ Some t
 behind_one None o others t h = h o

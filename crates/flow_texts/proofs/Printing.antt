@@ -21,13 +21,13 @@ use Rattle.flow_values.specs.PrintMachine.{print_opening, print_behaviour}
 use Rattle.flow_values.specs.laws.Print.{PrintedValue, prints_text}
 use Rattle.flow_rows.proofs.ValueDecoding.{all_cons, laid_injective}
 use Rattle.flow_nodes.specs.StreamNodes.{a_source, a_print, member, node_behaviour, text_in}
-use Rattle.flow_graph.specs.declared.edge.Edge.{Edge}
-use Rattle.flow_graph.specs.Edges.{in_edge}
-use Rattle.flow_graph.specs.Laws.{IsNetwork}
-use Rattle.flow_graph.specs.Networks.{AreOpened, network_of, configuration_of, state_at, inputs_at}
-use Rattle.flow_graph.specs.Flows.{HasCarried}
-use Rattle.flow_graph.proofs.Flows.{same_bodies}
-use Rattle.flow_drive.specs.Texts.{last_text}
+use Rattle.flow_networks.specs.declared.edge.Edge.{Edge}
+use Rattle.flow_networks.specs.Edges.{in_edge}
+use Rattle.flow_networks.specs.Laws.{IsNetwork}
+use Rattle.flow_networks.specs.Networks.{AreOpened, network_of, configuration_of, state_at, inputs_at}
+use Rattle.flow_networks.specs.Flows.{HasCarried}
+use Rattle.flow_networks.proofs.Flows.{same_bodies}
+use Rattle.flow_drives.specs.Texts.{last_text}
 use Rattle.flow_texts.specs.PrintedTexts.{NodeState, PrintsAtTheEnd, PrintTells}
 use Rattle.flow_texts.proofs.LastTexts.{last_is}
 

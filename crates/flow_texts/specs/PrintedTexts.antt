@@ -10,11 +10,11 @@ use Rattle.flow_values.specs.Shapes.{is_a}
 use Rattle.flow_values.specs.Flats.{width, flat}
 use Rattle.flow_values.specs.PrintMachine.{print_opening}
 use Rattle.flow_nodes.specs.StreamNodes.{NodeKind, a_print, member, node_behaviour, text_in}
-use Rattle.flow_graph.specs.declared.edge.Edge.{Edge}
-use Rattle.flow_graph.specs.Edges.{in_edge}
-use Rattle.flow_graph.specs.Networks.{AreOpened, network_of, configuration_of, state_at}
-use Rattle.flow_graph.specs.Flows.{HasCarried}
-use Rattle.flow_drive.specs.Texts.{last_text}
+use Rattle.flow_networks.specs.declared.edge.Edge.{Edge}
+use Rattle.flow_networks.specs.Edges.{in_edge}
+use Rattle.flow_networks.specs.Networks.{AreOpened, network_of, configuration_of, state_at}
+use Rattle.flow_networks.specs.Flows.{HasCarried}
+use Rattle.flow_drives.specs.Texts.{last_text}
 
 abbrev pub NodeState : Type 0
 NodeState = (t : NodeKind) × (member t).State

@@ -1,9 +1,9 @@
 // What a Print gathers. The function does nothing: its contract is the theorem.
 
-ghost use Rattle.flow_graph.specs.Graphs.{states_of, edges_of};
+ghost use Rattle.flow_networks.specs.Graphs.{states_of, edges_of};
 ghost use Rattle.flow_texts.specs.PrintedTexts.{PrintTells};
 
-use flow_graph::{Graph, graph_is_a_network};
+use flow_networks::{Graph, graph_is_a_network};
 use flow_nodes::StreamNode;
 
 /// The law that the text of a network whose last node is a Print is, once all nodes have ended, that of the value whose

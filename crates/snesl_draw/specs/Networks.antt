@@ -1,8 +1,8 @@
 -- The edges of a network, as they are drawn.
 use Rattle.std.specs.Prelude.{List, None}
 use Rattle.flow_nodes.specs.StreamNodes.{NodeKind, member, node_behaviour}
-use Rattle.flow_graph.specs.declared.edge.Edge.{Edge}
-use Rattle.flow_graph.specs.Networks.{state_at}
+use Rattle.flow_networks.specs.declared.edge.Edge.{Edge}
+use Rattle.flow_networks.specs.Networks.{state_at}
 use Rattle.snesl_draw.specs.declared.drawing.DrawnEdge.{DrawnEdge}
 
 -- an edge, with the kind that its writer writes to it: no traffic is known

@@ -1,7 +1,7 @@
 // What is drawn of a network.
 
-use flow_graph::Edge;
 use flow_messages::Kind;
+use flow_networks::Edge;
 
 /// The network of a program, as it is drawn.
 #[derive(Debug, Drop)]

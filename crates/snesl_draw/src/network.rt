@@ -1,15 +1,15 @@
 // A network, for a drawing.
 
 ghost use Rattle.std.specs.Prelude.{◌≡◌, ◌<◌, IfOk, length, map};
-ghost use Rattle.flow_graph.specs.Edges.{edge_at};
-ghost use Rattle.flow_graph.specs.Graphs.{edges_of, states_of};
+ghost use Rattle.flow_networks.specs.Edges.{edge_at};
+ghost use Rattle.flow_networks.specs.Graphs.{edges_of, states_of};
 ghost use Rattle.snesl_draw.specs.Networks.{drawn_edge};
 
 use crate::drawing::{Drawing, DrawnEdge, DrawnNode};
 use crate::steps::steps_of_program;
 use crate::words::operation_word;
 use flow_base::Transducer;
-use flow_graph::{Graph, graph_is_a_network};
+use flow_networks::{Graph, graph_is_a_network};
 use flow_nodes::StreamNode;
 use flow_plans::Step;
 use snesl_data::Refusal;

@@ -11,8 +11,8 @@ use Rattle.flow_scalar.specs.Streams.{Items}
 use Rattle.flow_scalar.specs.SourceBehaviour.{source_opening}
 use Rattle.flow_values.specs.PrintMachine.{print_opening}
 use Rattle.flow_nodes.specs.StreamNodes.{a_source, a_print, node_behaviour}
-use Rattle.flow_graph.specs.Networks.{state_at}
-use Rattle.flow_graph.specs.Replacements.{MayReplace}
+use Rattle.flow_networks.specs.Networks.{state_at}
+use Rattle.flow_networks.specs.Replacements.{MayReplace}
 use Rattle.flow_plans.specs.Plans.{Step, print}
 use Rattle.flow_plans.specs.Ports.{kinds_written}
 use Rattle.flow_plans.specs.Layouts.{Placed, all_after, layout_from, layout, numbered}

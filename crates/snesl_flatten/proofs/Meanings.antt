@@ -25,17 +25,17 @@ use Rattle.flow_rows.specs.Lists.{bind}
 use Rattle.flow_rows.specs.Made.{columns_of_values}
 use Rattle.flow_rows.proofs.Options.{some_same}
 use Rattle.flow_nodes.specs.StreamNodes.{node_behaviour, text_in}
-use Rattle.flow_graph.specs.declared.edge.Edge.{Edge}
-use Rattle.flow_graph.specs.Edges.{in_edge}
-use Rattle.flow_graph.specs.Networks.{network_of, configuration_of, inputs_at}
-use Rattle.flow_graph.specs.Laws.{IsNetwork}
-use Rattle.flow_graph.specs.Flows.{IsLawfulFlow}
-use Rattle.flow_graph.specs.FlowTheorems.{EndedIsLawful}
+use Rattle.flow_networks.specs.declared.edge.Edge.{Edge}
+use Rattle.flow_networks.specs.Edges.{in_edge}
+use Rattle.flow_networks.specs.Networks.{network_of, configuration_of, inputs_at}
+use Rattle.flow_networks.specs.Laws.{IsNetwork}
+use Rattle.flow_networks.specs.Flows.{IsLawfulFlow}
+use Rattle.flow_networks.specs.FlowTheorems.{EndedIsLawful}
 use Rattle.flow_plans.specs.Plans.{Step, streams_at, run}
 use Rattle.flow_plans.specs.Layouts.{Placed, layout, stream_to, AreCarried}
 use Rattle.flow_plans.specs.PlanFlows.{PlanIsFlow, FlowIsPlan}
 use Rattle.flow_plans.proofs.Places.{each_place, columns_place}
-use Rattle.flow_drive.specs.Texts.{last_text}
+use Rattle.flow_drives.specs.Texts.{last_text}
 use Rattle.flow_texts.specs.PrintedTexts.{PrintsAtTheEnd, PrintTells}
 use Rattle.snesl_translation.specs.Wires.{Wires, type_of_wires, numbers_of}
 use Rattle.snesl_translation.specs.Programs.{first_offset, program_plan, unset_cells, columns_of, cells_of, PlansMean}

@@ -15,9 +15,9 @@ use Rattle.flow_inputs.specs.TextSources.{items_in, text_source_state}
 use Rattle.flow_inputs.specs.declared.source.TextSource.{TextSource}
 use Rattle.flow_scalar.specs.SourceBehaviour.{source_opening}
 use Rattle.flow_nodes.specs.StreamNodes.{a_source, node_behaviour}
-use Rattle.flow_graph.specs.declared.edge.Edge.{Edge}
-use Rattle.flow_graph.specs.Networks.{state_at, AreOpened}
-use Rattle.flow_graph.specs.Replacements.{MayReplace}
+use Rattle.flow_networks.specs.declared.edge.Edge.{Edge}
+use Rattle.flow_networks.specs.Networks.{state_at, AreOpened}
+use Rattle.flow_networks.specs.Replacements.{MayReplace}
 use Rattle.flow_plans.specs.Plans.{Step, source}
 use Rattle.flow_plans.specs.Ports.{kinds_written}
 use Rattle.flow_plans.specs.Layouts.{Placed, all_after, layout, places, places_from, IsNetworkOfPlan}

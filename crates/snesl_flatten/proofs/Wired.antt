@@ -10,7 +10,7 @@ use Rattle.snesl_types.specs.declared.typed.Typed.{Typed}
 use Rattle.snesl_types.specs.Typed.{typed_inputs, typed_text, typed_tree, typed_ty}
 use Rattle.flow_messages.specs.declared.message.Kind.{Kind}
 use Rattle.flow_messages.specs.contracts.message.Kind.{the_type}
-use Rattle.flow_graph.proofs.KindTests.{same_kind}
+use Rattle.flow_networks.proofs.KindTests.{same_kind}
 use Rattle.flow_plans.specs.Plans.{Step}
 use Rattle.flow_plans.specs.Ports.{AreWired, kinds_written}
 use Rattle.flow_plans.specs.Layouts.{all_after, layout_from, layout}

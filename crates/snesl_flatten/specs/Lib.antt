@@ -7,9 +7,9 @@ pub use Rattle.snesl_values.specs.Inputs
 pub use Rattle.snesl_data.specs.declared.refusal.Refusal
 pub use Rattle.snesl_types.specs.Typed
 pub use Rattle.flow_nodes.specs.StreamNodes
-pub use Rattle.flow_graph.specs.Graphs
-pub use Rattle.flow_graph.specs.Limits
-pub use Rattle.flow_graph.specs.Networks as GraphNetworks
+pub use Rattle.flow_networks.specs.Graphs
+pub use Rattle.flow_networks.specs.Limits
+pub use Rattle.flow_networks.specs.Networks as GraphNetworks
 pub use Rattle.flow_plans.specs.Layouts
 pub use Rattle.flow_assembly.specs.Openings
 pub use Rattle.snesl_translation.specs.Programs

@@ -11,12 +11,12 @@ use Rattle.kahn.specs.Configurations.{IsComplete}
 use Rattle.flow_messages.specs.Cells.{Cell}
 use Rattle.flow_messages.specs.Ends.{View}
 use Rattle.flow_nodes.specs.StreamNodes.{NodeKind, member, node_behaviour, text_in}
-use Rattle.flow_graph.specs.declared.edge.Edge.{Edge}
-use Rattle.flow_graph.specs.Networks.{network_of, configuration_of}
-use Rattle.flow_graph.specs.Flows.{IsLawfulFlow}
+use Rattle.flow_networks.specs.declared.edge.Edge.{Edge}
+use Rattle.flow_networks.specs.Networks.{network_of, configuration_of}
+use Rattle.flow_networks.specs.Flows.{IsLawfulFlow}
 use Rattle.flow_plans.specs.Plans.{Step}
 use Rattle.snesl_translation.specs.Programs.{program_plan}
-use Rattle.flow_drive.specs.Texts.{last_text}
+use Rattle.flow_drives.specs.Texts.{last_text}
 
 -- the state of a node of any kind
 abbrev pub NodeState : Type 0

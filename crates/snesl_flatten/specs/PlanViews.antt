@@ -1,8 +1,8 @@
 -- What callers see of a plan.
 use Rattle.std.specs.Prelude.{◌≡◌, ℕ, suc, ◌<◌, List, [], length, slice_index_or}
-use Rattle.flow_graph.specs.declared.edge.Edge.{Edge}
-use Rattle.flow_graph.specs.Graphs.{states_of, edges_of}
-use Rattle.flow_graph.specs.Networks.{state_at}
+use Rattle.flow_networks.specs.declared.edge.Edge.{Edge}
+use Rattle.flow_networks.specs.Graphs.{states_of, edges_of}
+use Rattle.flow_networks.specs.Networks.{state_at}
 use Rattle.flow_nodes.specs.StreamNodes.{node_behaviour}
 use Rattle.flow_plans.specs.Layouts.{places}
 use Rattle.flow_plans.specs.Plans.{Step}

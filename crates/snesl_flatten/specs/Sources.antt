@@ -10,8 +10,8 @@ use Rattle.flow_values.specs.Shapes.{kinds_of}
 use Rattle.flow_inputs.specs.declared.source.TextSource.{TextSource}
 use Rattle.flow_inputs.specs.TextSources.{items_in, text_source_state}
 use Rattle.flow_nodes.specs.StreamNodes.{node_behaviour}
-use Rattle.flow_graph.specs.declared.edge.Edge.{Edge}
-use Rattle.flow_graph.specs.Networks.{AreOpened}
+use Rattle.flow_networks.specs.declared.edge.Edge.{Edge}
+use Rattle.flow_networks.specs.Networks.{AreOpened}
 use Rattle.flow_plans.specs.Layouts.{layout, places, IsNetworkOfPlan}
 use Rattle.flow_assembly.specs.Openings.{AllOpen}
 use Rattle.snesl_translation.specs.Wires.{type_of_wires}

@@ -4,7 +4,7 @@ ghost use Rattle.std.specs.Prelude.{◌≡◌, ◌<◌, ◌≤◌, ◌⊎◌, Er
 ghost use Rattle.snesl_data.specs.declared.refusal.Refusal.TheVariants.{TooBig, NoMemory};
 ghost use Rattle.snesl_types.specs.Typed.{typed_inputs, typed_text, typed_tree};
 ghost use Rattle.flow_nodes.specs.StreamNodes.{node_behaviour};
-ghost use Rattle.flow_graph.specs.Limits.{most_nodes, most_edges};
+ghost use Rattle.flow_networks.specs.Limits.{most_nodes, most_edges};
 ghost use Rattle.flow_plans.specs.Layouts.{layout, edges_needed, IsNetworkOfPlan};
 ghost use Rattle.flow_assembly.specs.Openings.{AllOpen};
 ghost use Rattle.snesl_translation.specs.Programs.{unset_cells};

@@ -4,8 +4,8 @@ ghost use Rattle.std.specs.Prelude.{◌≡◌, ◌↔◌, [], map, IsTrue, IfOk}
 ghost use Rattle.snesl_values.specs.Inputs.{declarations_of, dialect_of, environment_of};
 ghost use Rattle.snesl_types.specs.Typed.{typed_dialect, typed_inputs, typed_text, typed_tree};
 ghost use Rattle.flow_nodes.specs.StreamNodes.{node_behaviour};
-ghost use Rattle.flow_graph.specs.Graphs.{states_of, edges_of};
-ghost use Rattle.flow_graph.specs.Networks.{AreOpened};
+ghost use Rattle.flow_networks.specs.Graphs.{states_of, edges_of};
+ghost use Rattle.flow_networks.specs.Networks.{AreOpened};
 ghost use Rattle.flow_plans.specs.Layouts.{layout, places, IsNetworkOfPlan};
 ghost use Rattle.flow_assembly.specs.Openings.{AllOpen};
 ghost use Rattle.snesl_translation.specs.Programs.{cells_of, columns_of};
@@ -15,8 +15,8 @@ ghost use Rattle.snesl_flatten.specs.Sources.{all_kinds, cells_in, kind_in, AreF
 
 use crate::inputs::sources_of_inputs;
 use flow_assembly::openings_perform;
-use flow_graph::{Graph, ended_is_lawful, graph_is_a_network};
 use flow_inputs::TextSource;
+use flow_networks::{Graph, ended_is_lawful, graph_is_a_network};
 use flow_nodes::StreamNode;
 use flow_plans::{plan_is_its_flow, source_is_set};
 use flow_texts::print_tells;

@@ -5,7 +5,7 @@ ghost use Rattle.snesl_data.specs.declared.refusal.Refusal.TheVariants.{TooBig, 
 ghost use Rattle.snesl_values.specs.Inputs.{declared};
 ghost use Rattle.snesl_tree.specs.View.{tree_of};
 ghost use Rattle.snesl_types.specs.Typed.{typed_dialect, typed_inputs, typed_text, typed_tree};
-ghost use Rattle.flow_graph.specs.Limits.{most_nodes};
+ghost use Rattle.flow_networks.specs.Limits.{most_nodes};
 ghost use Rattle.flow_plans.specs.Views.{steps_of};
 ghost use Rattle.snesl_translation.specs.Programs.{inputs_sourced, program_plan, unset_cells};
 ghost use Rattle.snesl_steps.specs.Views.{bindings_of, dialect_of_steps, next_in, wires_of};

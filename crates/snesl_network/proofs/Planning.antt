@@ -15,9 +15,9 @@ use Rattle.snesl_types.specs.Typed.{program_of, typed_dialect, typed_inputs, typ
 use Rattle.snesl_types.specs.declared.typed.Typed.{Typed}
 use Rattle.snesl_meaning.specs.Meaning.{bad_input}
 use Rattle.flow_nodes.specs.StreamNodes.{node_behaviour}
-use Rattle.flow_graph.specs.declared.edge.Edge.{Edge}
-use Rattle.flow_graph.specs.Laws.{IsNetwork}
-use Rattle.flow_graph.specs.Networks.{AreOpened}
+use Rattle.flow_networks.specs.declared.edge.Edge.{Edge}
+use Rattle.flow_networks.specs.Laws.{IsNetwork}
+use Rattle.flow_networks.specs.Networks.{AreOpened}
 use Rattle.flow_plans.specs.Layouts.{layout, IsNetworkOfPlan}
 use Rattle.flow_assembly.specs.Openings.{AllOpen}
 use Rattle.snesl_translation.specs.Programs.{cells_of}

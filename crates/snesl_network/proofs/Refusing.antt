@@ -9,8 +9,8 @@ use Rattle.snesl_syntax.specs.Parse.{Parses, IsOfText, IsRight}
 use Rattle.snesl_types.specs.Programs.{IsFirstViolation}
 use Rattle.snesl_types.proofs.TypingRefusals.{program_of_typing}
 use Rattle.snesl_meaning.specs.Meaning.{no_program, ill_typed}
-use Rattle.flow_graph.specs.declared.edge.Edge.{Edge}
-use Rattle.flow_drive.specs.declared.config.Config.{Config}
+use Rattle.flow_networks.specs.declared.edge.Edge.{Edge}
+use Rattle.flow_drives.specs.declared.config.Config.{Config}
 use Rattle.snesl_flatten.specs.Networks.{NodeState}
 use Rattle.snesl_network.specs.Driven.{HasNetwork, WasRefused}
 use Rattle.snesl_network.specs.Meant.{IsMeantFor, HasNoNetwork}

@@ -19,15 +19,15 @@ use Rattle.flow_messages.specs.Cells.{Cell}
 use Rattle.flow_messages.specs.Signals.{Signal}
 use Rattle.flow_base.specs.Transducers.{closed}
 use Rattle.flow_nodes.specs.StreamNodes.{node_behaviour, text_in}
-use Rattle.flow_graph.specs.declared.edge.Edge.{Edge}
-use Rattle.flow_graph.specs.Networks.{network_of, configuration_of}
-use Rattle.flow_graph.specs.Flows.{IsLawfulFlow}
-use Rattle.flow_graph.specs.FlowTheorems.{FlowIsBegun, FlowNeverStalls}
-use Rattle.flow_graph.specs.Shapes.{IsSameNetwork}
-use Rattle.flow_drive.specs.declared.config.Config.{Config}
-use Rattle.flow_drive.specs.Configs.{IsLawful, IsInSteps}
-use Rattle.flow_drive.specs.Drives.{EndsMaximalRun, IsSoundAt, RestsAt}
-use Rattle.flow_drive.specs.Texts.{last_text}
+use Rattle.flow_networks.specs.declared.edge.Edge.{Edge}
+use Rattle.flow_networks.specs.Networks.{network_of, configuration_of}
+use Rattle.flow_networks.specs.Flows.{IsLawfulFlow}
+use Rattle.flow_networks.specs.FlowTheorems.{FlowIsBegun, FlowNeverStalls}
+use Rattle.flow_networks.specs.Shapes.{IsSameNetwork}
+use Rattle.flow_drives.specs.declared.config.Config.{Config}
+use Rattle.flow_drives.specs.Configs.{IsLawful, IsInSteps}
+use Rattle.flow_drives.specs.Drives.{EndsMaximalRun, IsSoundAt, RestsAt}
+use Rattle.flow_drives.specs.Texts.{last_text}
 use Rattle.snesl_flatten.specs.Networks.{NodeState}
 use Rattle.snesl_network.specs.NodesAtRest.{FinalView}
 use Rattle.snesl_network.specs.Driven.{HaveEnded, IsNamed, CameToRest}

@@ -17,19 +17,19 @@ use Rattle.kahn.specs.Outcomes.{NamesFault}
 use Rattle.flow_messages.specs.Cells.{Cell}
 use Rattle.flow_base.specs.Transducers.{closed}
 use Rattle.flow_nodes.specs.StreamNodes.{node_behaviour, text_in}
-use Rattle.flow_graph.specs.Limits.{most_nodes, most_edges}
-use Rattle.flow_graph.specs.declared.edge.Edge.{Edge}
-use Rattle.flow_graph.specs.Networks.{AreOpened, network_of, configuration_of}
-use Rattle.flow_graph.specs.Laws.{IsNetwork}
-use Rattle.flow_graph.specs.Flows.{IsLawfulFlow}
-use Rattle.flow_graph.specs.Shapes.{IsSameNetwork}
+use Rattle.flow_networks.specs.Limits.{most_nodes, most_edges}
+use Rattle.flow_networks.specs.declared.edge.Edge.{Edge}
+use Rattle.flow_networks.specs.Networks.{AreOpened, network_of, configuration_of}
+use Rattle.flow_networks.specs.Laws.{IsNetwork}
+use Rattle.flow_networks.specs.Flows.{IsLawfulFlow}
+use Rattle.flow_networks.specs.Shapes.{IsSameNetwork}
 use Rattle.flow_plans.specs.Layouts.{layout, edges_needed, IsNetworkOfPlan}
 use Rattle.flow_assembly.specs.Openings.{AllOpen}
 use Rattle.snesl_translation.specs.Programs.{cells_of, unset_cells}
-use Rattle.flow_drive.specs.declared.config.Config.{Config}
-use Rattle.flow_drive.specs.Configs.{IsLawful, StartsThreads, IsInSteps}
-use Rattle.flow_drive.specs.Drives.{EndsMaximalRun, IsSoundAt, RestsAt}
-use Rattle.flow_drive.specs.Texts.{last_text}
+use Rattle.flow_drives.specs.declared.config.Config.{Config}
+use Rattle.flow_drives.specs.Configs.{IsLawful, StartsThreads, IsInSteps}
+use Rattle.flow_drives.specs.Drives.{EndsMaximalRun, IsSoundAt, RestsAt}
+use Rattle.flow_drives.specs.Texts.{last_text}
 use Rattle.snesl_flatten.specs.Networks.{NodeState, program_steps}
 use Rattle.snesl_network.specs.NodesAtRest.{FinalView}
 

@@ -1,8 +1,8 @@
 -- The network of a program before any step, and why there may be none.
 use Rattle.std.specs.Prelude.{List, ℕ}
 use Rattle.snesl_data.specs.declared.refusal.Refusal.{Refusal}
-use Rattle.flow_graph.specs.declared.edge.Edge.{Edge}
-use Rattle.flow_drive.specs.declared.config.Config.{Config}
+use Rattle.flow_networks.specs.declared.edge.Edge.{Edge}
+use Rattle.flow_drives.specs.declared.config.Config.{Config}
 use Rattle.snesl_flatten.specs.Networks.{NodeState, NetworkMeans}
 use Rattle.snesl_network.specs.Driven.{IsNetworkFor, IsWithinLimits, WasRefused}
 

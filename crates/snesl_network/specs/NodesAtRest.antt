@@ -2,9 +2,9 @@
 use Rattle.std.specs.Prelude.{ℕ, List}
 use Rattle.flow_messages.specs.Ends.{View}
 use Rattle.flow_base.specs.declared.transducer.Transducer.{Ghosts}
-use Rattle.flow_graph.specs.declared.edge.Edge.{Edge}
-use Rattle.flow_drive.specs.declared.rested.Rested.{Rested}
-use Rattle.flow_drive.specs.Resteds.{rested_states, rested_edges, rested_capacity, traffic_of}
+use Rattle.flow_networks.specs.declared.edge.Edge.{Edge}
+use Rattle.flow_drives.specs.declared.rested.Rested.{Rested}
+use Rattle.flow_drives.specs.Resteds.{rested_states, rested_edges, rested_capacity, traffic_of}
 
 -- The states of the nodes, their edges, what was sent and received on these, and how much each may hold.
 pub record FinalView (S : Type 0) : Type 0 where

@@ -1,6 +1,6 @@
 -- A program with an input text has one network.
 use Rattle.std.specs.Prelude.{◌≡◌, ℕ, List}
-use Rattle.flow_graph.specs.declared.edge.Edge.{Edge}
+use Rattle.flow_networks.specs.declared.edge.Edge.{Edge}
 use Rattle.snesl_flatten.specs.Networks.{NodeState}
 use Rattle.snesl_network.specs.Driven.{IsNetworkFor}
 

@@ -1,11 +1,11 @@
 -- Which drive drove a graph.
 use Rattle.std.specs.Prelude.{◌≡◌, ◌↔◌}
 use Rattle.flow_base.specs.declared.transducer.Transducer.{Ghosts}
-use Rattle.flow_drive.specs.declared.config.Drive.{Drive}
-use Rattle.flow_drive.specs.declared.config.Drive.TheVariants.{Rings}
-use Rattle.flow_drive.specs.declared.rested.Rested.{Rested}
-use Rattle.flow_drive.specs.Epochs.{TookRounds, TookEpochs}
-use Rattle.flow_drive.specs.Resteds.{rested_rounds, rested_epochs, moves_of, IsOverRings}
+use Rattle.flow_drives.specs.declared.config.Drive.{Drive}
+use Rattle.flow_drives.specs.declared.config.Drive.TheVariants.{Rings}
+use Rattle.flow_drives.specs.declared.rested.Rested.{Rested}
+use Rattle.flow_drives.specs.Epochs.{TookRounds, TookEpochs}
+use Rattle.flow_drives.specs.Resteds.{rested_rounds, rested_epochs, moves_of, IsOverRings}
 
 module _ {X : Type 0} {t : Ghosts X} where
   -- This drive drove it: over rings exactly where that is the drive, and in as many rounds and epochs as the drive takes.

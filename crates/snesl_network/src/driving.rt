@@ -3,18 +3,18 @@
 ghost use Rattle.std.specs.Prelude.{◌≡◌, ◌⊎◌, Err, IfErr, IfOk, List, ℕ};
 ghost use Rattle.snesl_data.specs.declared.refusal.Refusal.TheVariants.{BadConfig, NoThread};
 ghost use Rattle.flow_nodes.specs.StreamNodes.{node_behaviour};
-ghost use Rattle.flow_graph.specs.Graphs.{states_of, edges_of};
-ghost use Rattle.flow_graph.specs.Networks.{AreOpened};
-ghost use Rattle.flow_drive.specs.Configs.{IsLawful};
+ghost use Rattle.flow_networks.specs.Graphs.{states_of, edges_of};
+ghost use Rattle.flow_networks.specs.Networks.{AreOpened};
+ghost use Rattle.flow_drives.specs.Configs.{IsLawful};
 ghost use Rattle.snesl_network.specs.Driven.{CameToRest, WasRefused};
 ghost use Rattle.snesl_network.specs.Meant.{IsMeantFor, HasNoNetwork};
 ghost use Rattle.snesl_network.specs.NodesAtRest.{final_view};
 ghost use Rattle.snesl_network.specs.WhichDrive.{WasDrivenBy};
 
-use flow_drive::{
+use flow_drives::{
     AlwaysStart, Config, DriveError, Gate, Rested, Start, drive_with, rested_is_sound,
 };
-use flow_graph::{Graph, flow_is_carried, flow_runs_to_end, graph_is_a_network};
+use flow_networks::{Graph, flow_is_carried, flow_runs_to_end, graph_is_a_network};
 use flow_nodes::StreamNode;
 use snesl_data::Refusal;
 use snesl_flatten::flatten;

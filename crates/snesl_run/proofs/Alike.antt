@@ -1,8 +1,8 @@
 -- How a program comes out by drives in steps.
 use Rattle.std.proofs.Common.{◌≡◌, ◌∙◌, List, ap, length, subst, sym, ℕ}
-use Rattle.flow_graph.specs.Alike.{RunsRestAlike}
-use Rattle.flow_drive.specs.Drives.{ComesOut, EndsMaximalRun}
-use Rattle.flow_graph.specs.declared.edge.Edge.{Edge}
+use Rattle.flow_networks.specs.Alike.{RunsRestAlike}
+use Rattle.flow_drives.specs.Drives.{ComesOut, EndsMaximalRun}
+use Rattle.flow_networks.specs.declared.edge.Edge.{Edge}
 use Rattle.flow_nodes.specs.StreamNodes.{node_behaviour}
 use Rattle.kahn.specs.declared.outcome.Outcome.{Outcome}
 use Rattle.snesl_network.specs.NodesAtRest.{FinalView}

@@ -2,7 +2,7 @@
 use Rattle.std.proofs.Common.{Err, List, Ok, arith, inl, inr, length, subst, sym, take, ◌<◌, ◌≡◌, ◌∙◌, ◌++◌, ◌⊎◌, ℕ, ⊎_elim}
 use Rattle.std.proofs.lemmas.Bool.{cases_lt}
 use Rattle.std.proofs.lemmas.List.{length-take-le, take_all}
-use Rattle.flow_drive.specs.declared.config.Config.{Config}
+use Rattle.flow_drives.specs.declared.config.Config.{Config}
 use Rattle.snesl_console.specs.Job.{IsJob}
 use Rattle.snesl_console.specs.Parts.{AreParts, most_of_program}
 use Rattle.snesl_console.specs.Reads.{HoldsOfJob}

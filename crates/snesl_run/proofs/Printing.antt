@@ -8,7 +8,7 @@ use Rattle.snesl_data.specs.declared.refusal.Refusal.{Refusal}
 use Rattle.snesl_data.specs.declared.refusal.Refusal.TheVariants.{NoMemory, Output, Read}
 use Rattle.snesl_data.specs.Refusals.{is_of_the_system, status_of_refusal}
 use Rattle.kahn.specs.declared.outcome.Outcome.TheVariants.{Value as Ended, Fault as Failed, Stalled}
-use Rattle.flow_drive.specs.declared.config.Config.{Config}
+use Rattle.flow_drives.specs.declared.config.Config.{Config}
 use Rattle.snesl_settings.specs.Settings.{AreLawful, RefusesBut}
 use Rattle.snesl_network.specs.Driven.{WasRefused}
 use Rattle.snesl_run.specs.Runs.{outcome_of, WroteFor, HasWritten, IsReported, HasError}

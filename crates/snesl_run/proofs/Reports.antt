@@ -7,8 +7,8 @@ use Rattle.snesl_data.specs.Values.{Value}
 use Rattle.kahn.specs.declared.outcome.Outcome.{Outcome}
 use Rattle.kahn.specs.declared.outcome.Outcome.TheVariants.{Value as Ended, Fault as Failed, Stalled}
 use Rattle.flow_nodes.specs.StreamNodes.{text_in}
-use Rattle.flow_drive.specs.declared.config.Config.{Config}
-use Rattle.flow_drive.specs.Texts.{last_text}
+use Rattle.flow_drives.specs.declared.config.Config.{Config}
+use Rattle.flow_drives.specs.Texts.{last_text}
 use Rattle.snesl_meaning.specs.Meaning.{Means, has_value}
 use Rattle.snesl_network.specs.Driven.{WasRefused}
 use Rattle.snesl_run.specs.Runs.{view_in_report, outcome_of, refusal_of, value_line, CameOut, WroteFor, HasWritten, IsReported, IsCutShort, HasError, IsErrorOf, IsRefusedWith}

@@ -1,7 +1,7 @@
 -- How a program comes out does not hang on its drive, where this makes a run in steps.
 use Rattle.std.specs.Prelude.{◌≡◌, ℕ, List}
-use Rattle.flow_drive.specs.declared.config.Config.{Config}
-use Rattle.flow_drive.specs.Configs.{IsInSteps}
+use Rattle.flow_drives.specs.declared.config.Config.{Config}
+use Rattle.flow_drives.specs.Configs.{IsInSteps}
 use Rattle.snesl_run.specs.declared.report.Report.{Report}
 use Rattle.snesl_run.specs.Runs.{view_in_report, outcome_of, IsReported}
 

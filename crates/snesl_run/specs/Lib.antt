@@ -8,7 +8,7 @@ pub use Rattle.snesl_data.specs.Refusals
 pub use Rattle.snesl_data.specs.declared.refusal.Refusal
 pub use Rattle.snesl_meaning.specs.Meaning
 pub use Rattle.kahn.specs.declared.outcome.Outcome
-pub use Rattle.flow_drive.specs.Configs
+pub use Rattle.flow_drives.specs.Configs
 pub use Rattle.snesl_network.specs.Driven
 pub use Rattle.snesl_network.specs.NodesAtRest
 pub use Rattle.snesl_network.specs.WhichDrive

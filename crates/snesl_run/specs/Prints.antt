@@ -5,8 +5,8 @@ use Rattle.snesl_data.specs.declared.refusal.Refusal.TheVariants.{BadConfig, NoM
 use Rattle.snesl_data.specs.Values.{Value}
 use Rattle.kahn.specs.declared.outcome.Outcome.{Outcome}
 use Rattle.kahn.specs.declared.outcome.Outcome.TheVariants.{Value as Ended, Fault as Failed, Stalled}
-use Rattle.flow_drive.specs.declared.config.Config.{Config}
-use Rattle.flow_drive.specs.Configs.{IsLawful}
+use Rattle.flow_drives.specs.declared.config.Config.{Config}
+use Rattle.flow_drives.specs.Configs.{IsLawful}
 use Rattle.snesl_meaning.specs.Meaning.{Means, has_value}
 use Rattle.snesl_settings.specs.Settings.{AreLawful, SaysSo}
 use Rattle.snesl_network.specs.Driven.{WasRefused}

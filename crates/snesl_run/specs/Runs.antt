@@ -8,8 +8,8 @@ use Rattle.snesl_data.specs.Text.{text}
 use Rattle.kahn.specs.declared.outcome.Outcome.{Outcome}
 use Rattle.kahn.specs.declared.outcome.Outcome.TheVariants.{Value as Ended, Fault as Failed, Stalled}
 use Rattle.flow_nodes.specs.StreamNodes.{node_behaviour}
-use Rattle.flow_drive.specs.declared.config.Config.{Config}
-use Rattle.flow_drive.specs.Drives.{ComesOut}
+use Rattle.flow_drives.specs.declared.config.Config.{Config}
+use Rattle.flow_drives.specs.Drives.{ComesOut}
 use Rattle.snesl_flatten.specs.Networks.{NodeState}
 use Rattle.snesl_meaning.specs.Meaning.{Means, has_value, has_fault}
 use Rattle.snesl_network.specs.NodesAtRest.{FinalView, final_view}

@@ -10,7 +10,7 @@ ghost use Rattle.snesl_data.specs.declared.refusal.Refusal.TheVariants.{BadConfi
 
 use crate::report::{Report, RunError};
 use crate::runs::run;
-use flow_drive::{Config, NoGate, Outcome};
+use flow_drives::{Config, NoGate, Outcome};
 use snesl_console::{
     BAD_CONFIG_LINE, STALLED_LINE, complain, fault_line, print, refusal_line, split_job,
 };

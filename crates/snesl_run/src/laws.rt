@@ -3,7 +3,7 @@
 ghost use Rattle.snesl_run.specs.Alike.{HaveOneOutcome};
 ghost use Rattle.snesl_run.specs.Cuts.{CutsChangeNothing};
 
-use flow_drive::runs_rest_alike;
+use flow_drives::runs_rest_alike;
 use flow_nodes::StreamNode;
 use snesl_network::one_network;
 use snesl_syntax::one_answer;

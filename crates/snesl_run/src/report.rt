@@ -3,7 +3,7 @@
 ghost use Rattle.std.specs.Prelude.{◌≡◌};
 ghost use Rattle.snesl_run.specs.Runs.{outcome_of, refusal_of};
 
-use flow_drive::{Outcome, Rested};
+use flow_drives::{Outcome, Rested};
 use flow_nodes::StreamNode;
 use snesl_data::Refusal;
 use thiserror::Error;

@@ -2,14 +2,14 @@
 
 ghost use Rattle.std.specs.Prelude.{◌≡◌, ◌++◌, ◌∷◌, ◌⊎◌, IfErr, IfOk, []};
 ghost use Rattle.snesl_data.specs.declared.refusal.Refusal.TheVariants.{BadConfig, NoMemory, NoThread};
-ghost use Rattle.flow_drive.specs.Configs.{IsLawful};
+ghost use Rattle.flow_drives.specs.Configs.{IsLawful};
 ghost use Rattle.snesl_console.specs.Streams.{write_effect};
 ghost use Rattle.snesl_run.specs.Alike.{IsTheOneWay};
 ghost use Rattle.snesl_run.specs.Runs.{IsReported, HasWritten, IsErrorOf, IsRefusedWith};
 
 use crate::laws::one_outcome;
 use crate::report::{Report, RunError};
-use flow_drive::{AlwaysStart, Config, Gate, Outcome, Start};
+use flow_drives::{AlwaysStart, Config, Gate, Outcome, Start};
 use snesl_console::send;
 use snesl_data::{Counted, Refusal};
 use snesl_network::drive_program_with;

@@ -4,10 +4,10 @@ use Rattle.std.specs.Prelude.{Result, IfErr, IsErrAnd}
 use Rattle.snesl_data.specs.declared.refusal.Refusal.{Refusal}
 use Rattle.std.specs.List.{All}
 use Rattle.clap.specs.Words.{Row, Text, first_of, matches_of}
-use Rattle.flow_drive.specs.Configs.{IsLawful, IsWithin}
-use Rattle.flow_drive.specs.declared.config.Config.{Config}
+use Rattle.flow_drives.specs.Configs.{IsLawful, IsWithin}
+use Rattle.flow_drives.specs.declared.config.Config.{Config}
 use Rattle.flow_messages.specs.Limits.{greatest_capacity}
-use Rattle.flow_drive.specs.Limits.{greatest_chunk, most_entries, most_idle_turns, most_threads}
+use Rattle.flow_drives.specs.Limits.{greatest_chunk, most_entries, most_idle_turns, most_threads}
 use Rattle.snesl_settings.specs.Settings.{HasFields, RefusesBut, SaysNumber, SaysShare, SaysSo, command_line}
 
 same_number : (value : Option Text) (default a b : ℕ) → SaysNumber value default a → SaysNumber value default b → a ≡ b

@@ -8,10 +8,10 @@ use Rattle.clap.specs.Simple.{on_top}
 use Rattle.clap.specs.Words.{App, Rule, Text, fault_of, first_of, matches_of, new_app, new_rule, with_rule}
 use Rattle.snesl_data.specs.declared.refusal.Refusal.{Refusal}
 use Rattle.snesl_data.specs.declared.refusal.Refusal.TheVariants.{BadConfig, NoMemory}
-use Rattle.flow_drive.specs.Configs.{IsLawful, IsWithin}
-use Rattle.flow_drive.specs.declared.config.Config.{Config}
-use Rattle.flow_drive.specs.declared.config.Drive.{Drive}
-use Rattle.flow_drive.specs.declared.config.Drive.TheVariants.{Serial, Rounds, Rings}
+use Rattle.flow_drives.specs.Configs.{IsLawful, IsWithin}
+use Rattle.flow_drives.specs.declared.config.Config.{Config}
+use Rattle.flow_drives.specs.declared.config.Drive.{Drive}
+use Rattle.flow_drives.specs.declared.config.Drive.TheVariants.{Serial, Rounds, Rings}
 
 -- ---- the options
 

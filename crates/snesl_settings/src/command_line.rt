@@ -4,14 +4,14 @@ ghost use Rattle.std.specs.Prelude.{◌≡◌, ◌⊎◌, IfOk, IfErr};
 ghost use Rattle.clap.specs.Walk.{texts};
 ghost use Rattle.clap.specs.Words.{first_of, found_of, rows_of};
 ghost use Rattle.snesl_data.specs.declared.refusal.Refusal.TheVariants.{BadConfig, NoMemory};
-ghost use Rattle.flow_drive.specs.Configs.{IsLawful};
-ghost use Rattle.flow_drive.specs.declared.config.Config.{Config as ConfigSpec};
+ghost use Rattle.flow_drives.specs.Configs.{IsLawful};
+ghost use Rattle.flow_drives.specs.declared.config.Config.{Config as ConfigSpec};
 ghost use Rattle.snesl_settings.specs.Settings.{AreLawful, HasFields, RefusesBut, SaysSo};
 
 use crate::options::{matched, value_of};
 use crate::values::{drive_said, number_said, share_said};
 use clap::ArgMatches;
-use flow_drive::{Config, MAX_CHUNK, MAX_IDLE_TURNS, MAX_THREADS};
+use flow_drives::{Config, MAX_CHUNK, MAX_IDLE_TURNS, MAX_THREADS};
 use flow_messages::MAX_CAPACITY;
 use snesl_data::Refusal;
 use std::alloc::Global;

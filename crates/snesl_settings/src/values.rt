@@ -3,12 +3,12 @@
 ghost use Rattle.std.specs.Prelude.{◌≡◌, ◌≤◌, ◌<◌, ◌^◌, ℕ, List, IfOk, IfErr, option_map};
 ghost use Rattle.std.specs.Char.{digit_value};
 ghost use Rattle.std.specs.List.{range_with_len};
-ghost use Rattle.flow_drive.specs.Configs.{IsWithin};
-ghost use Rattle.flow_drive.specs.Limits.{most_threads};
+ghost use Rattle.flow_drives.specs.Configs.{IsWithin};
+ghost use Rattle.flow_drives.specs.Limits.{most_threads};
 ghost use Rattle.snesl_data.specs.declared.refusal.Refusal.TheVariants.{BadConfig};
 ghost use Rattle.snesl_settings.specs.Settings.{IsShareDigit, RefusesBut, drive_word, SaysDrive, SaysNumber, SaysShare, SpellsNumber, SpellsShare};
 
-use flow_drive::Drive;
+use flow_drives::Drive;
 use snesl_data::Refusal;
 use std::alloc::{AllocError, Global};
 

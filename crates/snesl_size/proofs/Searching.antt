@@ -7,11 +7,11 @@ use Rattle.snesl_data.specs.declared.refusal.Refusal.{Refusal}
 use Rattle.snesl_data.specs.declared.refusal.Refusal.TheVariants.{BadConfig, NoMemory, NoThread}
 use Rattle.kahn.specs.declared.outcome.Outcome.TheVariants.{Value as Ended, Fault as Failed, Stalled}
 use Rattle.flow_messages.specs.Limits.{greatest_capacity}
-use Rattle.flow_drive.specs.declared.config.Config.{Config}
-use Rattle.flow_drive.specs.declared.config.Drive.{Drive}
-use Rattle.flow_drive.specs.declared.config.Drive.TheVariants.{Serial}
-use Rattle.flow_drive.specs.Configs.{IsInSteps, IsLawful, IsWithin, StartsThreads}
-use Rattle.flow_drive.specs.Limits.{greatest_chunk}
+use Rattle.flow_drives.specs.declared.config.Config.{Config}
+use Rattle.flow_drives.specs.declared.config.Drive.{Drive}
+use Rattle.flow_drives.specs.declared.config.Drive.TheVariants.{Serial}
+use Rattle.flow_drives.specs.Configs.{IsInSteps, IsLawful, IsWithin, StartsThreads}
+use Rattle.flow_drives.specs.Limits.{greatest_chunk}
 use Rattle.snesl_flatten.specs.Networks.{NodeState}
 use Rattle.snesl_meaning.specs.Meaning.{HaveOneMeaning, has_fault, has_value}
 use Rattle.snesl_network.specs.Driven.{CameToRest, HaveEnded, WasRefused}

@@ -10,12 +10,12 @@ use Rattle.kahn.proofs.Outcomes.{same_outcome}
 use Rattle.kahn.proofs.Traffic.{ended_rests}
 use Rattle.flow_messages.specs.Ends.{View}
 use Rattle.flow_base.specs.Transducers.{Behaviour}
-use Rattle.flow_graph.specs.Alike.{RunsRestAlike}
-use Rattle.flow_graph.specs.declared.edge.Edge.{Edge}
-use Rattle.flow_graph.specs.Laws.{IsNetwork}
-use Rattle.flow_graph.specs.MaximalRuns.{EndsMaximalRun}
-use Rattle.flow_graph.specs.Networks.{configuration_of, network_of}
-use Rattle.flow_drive.specs.declared.config.Config.{Config}
+use Rattle.flow_networks.specs.Alike.{RunsRestAlike}
+use Rattle.flow_networks.specs.declared.edge.Edge.{Edge}
+use Rattle.flow_networks.specs.Laws.{IsNetwork}
+use Rattle.flow_networks.specs.MaximalRuns.{EndsMaximalRun}
+use Rattle.flow_networks.specs.Networks.{configuration_of, network_of}
+use Rattle.flow_drives.specs.declared.config.Config.{Config}
 use Rattle.flow_nodes.specs.StreamNodes.{node_behaviour}
 use Rattle.snesl_flatten.specs.Networks.{NodeState}
 use Rattle.snesl_network.specs.Driven.{CameToRest, HaveEnded}

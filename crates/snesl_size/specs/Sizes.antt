@@ -4,9 +4,9 @@ use Rattle.snesl_data.specs.declared.fault.Fault.{Fault}
 use Rattle.snesl_data.specs.declared.refusal.Refusal.{Refusal}
 use Rattle.kahn.specs.declared.outcome.Outcome.TheVariants.{Value as Ended, Stalled}
 use Rattle.flow_messages.specs.Limits.{greatest_capacity}
-use Rattle.flow_drive.specs.declared.config.Config.{Config}
-use Rattle.flow_drive.specs.declared.config.Drive.TheVariants.{Serial}
-use Rattle.flow_drive.specs.Configs.{IsInSteps}
+use Rattle.flow_drives.specs.declared.config.Config.{Config}
+use Rattle.flow_drives.specs.declared.config.Drive.TheVariants.{Serial}
+use Rattle.flow_drives.specs.Configs.{IsInSteps}
 use Rattle.snesl_flatten.specs.Networks.{NodeState}
 use Rattle.snesl_network.specs.Driven.{CameToRest, HaveEnded, IsNamed, WasRefused}
 use Rattle.snesl_network.specs.NodesAtRest.{FinalView, final_view}

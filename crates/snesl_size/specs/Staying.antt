@@ -1,8 +1,8 @@
 -- A program that ends at one capacity ends at each greater one.
 use Rattle.std.specs.Prelude.{◌≡◌, ℕ, ◌≤◌, List}
 use Rattle.kahn.specs.declared.outcome.Outcome.TheVariants.{Value as Ended}
-use Rattle.flow_drive.specs.declared.config.Config.{Config}
-use Rattle.flow_drive.specs.Configs.{IsInSteps}
+use Rattle.flow_drives.specs.declared.config.Config.{Config}
+use Rattle.flow_drives.specs.Configs.{IsInSteps}
 use Rattle.snesl_flatten.specs.Networks.{NodeState}
 use Rattle.snesl_network.specs.Driven.{CameToRest, HaveEnded}
 use Rattle.snesl_network.specs.NodesAtRest.{FinalView}

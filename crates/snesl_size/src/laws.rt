@@ -2,7 +2,7 @@
 
 ghost use Rattle.snesl_size.specs.Staying.{EndedNetworksStay, EndingStays};
 
-use flow_drive::runs_rest_alike;
+use flow_drives::runs_rest_alike;
 use flow_nodes::StreamNode;
 use snesl_network::one_network;
 

@@ -2,13 +2,13 @@
 
 ghost use Rattle.std.specs.Prelude.{◌+◌, ◌<◌, ◌≤◌, IfErr, IfOk};
 ghost use Rattle.flow_messages.specs.Limits.{greatest_capacity};
-ghost use Rattle.flow_drive.specs.Configs.{IsWithin};
+ghost use Rattle.flow_drives.specs.Configs.{IsWithin};
 ghost use Rattle.snesl_network.specs.NodesAtRest.{final_view};
 ghost use Rattle.snesl_size.specs.Sizes.{IsLeft, IsRefusedAtAll, IsSizeOf};
 
 use crate::laws::ending_stays;
 use crate::size::Size;
-use flow_drive::{Config, Drive, NoGate, Outcome, Rested};
+use flow_drives::{Config, Drive, NoGate, Outcome, Rested};
 use flow_messages::MAX_CAPACITY;
 use flow_nodes::StreamNode;
 use snesl_data::Refusal;

@@ -1,6 +1,6 @@
 // How much a program's edges must hold.
 
-use flow_drive::Rested;
+use flow_drives::Rested;
 use flow_nodes::StreamNode;
 use snesl_data::Fault;
 

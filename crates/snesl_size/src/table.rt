@@ -4,7 +4,7 @@ ghost use Rattle.std.specs.Prelude.{◌≡◌, ◌++◌, IfOk, MatchOption, OnOk
 ghost use Rattle.snesl_network.specs.NodesAtRest.{final_view};
 ghost use Rattle.snesl_size.specs.Tables.{AddedTo, BusiestLines, IsBusiest, IsSizeTable, count_over, full_part, message_count, name_and_number, sizes_part};
 
-use flow_drive::Rested;
+use flow_drives::Rested;
 use flow_nodes::StreamNode;
 use itoa::Buffer;
 use std::alloc::{AllocError, Global};

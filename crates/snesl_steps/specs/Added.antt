@@ -2,7 +2,7 @@
 use Rattle.std.specs.Prelude.{◌≡◌, ℕ, List, ◌<◌, ◌+◌, ◌++◌, length, Result, Ok, Err}
 use Rattle.snesl_data.specs.declared.refusal.Refusal.{Refusal}
 use Rattle.snesl_data.specs.declared.refusal.Refusal.TheVariants.{TooBig, NoMemory}
-use Rattle.flow_graph.specs.Limits.{most_nodes}
+use Rattle.flow_networks.specs.Limits.{most_nodes}
 use Rattle.flow_plans.specs.Plans.{Step}
 use Rattle.snesl_translation.specs.Makings.{Making}
 use Rattle.snesl_steps.specs.Views.{dialect_of_steps, steps_in, next_in}

@@ -1,11 +1,11 @@
 // Steps in the order in which they are made.
 
 ghost use Rattle.std.specs.Prelude.{◌≤◌, vec_len};
-ghost use Rattle.flow_graph.specs.Limits.{most_nodes};
+ghost use Rattle.flow_networks.specs.Limits.{most_nodes};
 
 use crate::wires::{Wires, next_number, next_wires};
-use flow_graph::MAX_NODES;
 use flow_messages::Kind;
+use flow_networks::MAX_NODES;
 use flow_plans::{Operation, Step};
 use flow_values::kinds;
 use snesl_data::{Dialect, Refusal, Ty};

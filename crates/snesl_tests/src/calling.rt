@@ -1,6 +1,6 @@
 // Each caller of the public crates runs.
-ghost use Rattle.flow_graph.specs.Graphs.{states_of};
-ghost use Rattle.flow_graph.specs.Networks.{AreOpened};
+ghost use Rattle.flow_networks.specs.Graphs.{states_of};
+ghost use Rattle.flow_networks.specs.Networks.{AreOpened};
 ghost use Rattle.snesl_flatten.specs.StreamNodes.{node_behaviour};
 
 use callers::drive::outcome_on_two_threads;
@@ -13,9 +13,9 @@ use callers::segment::printed;
 use callers::syntax::is_program;
 use callers::types::value_of;
 use callers::values::value_text;
-use flow_drive::{DriveError, Outcome};
+use flow_drives::{DriveError, Outcome};
 use flow_edges::{Item, Kind, Msg};
-use flow_graph::Graph;
+use flow_networks::Graph;
 use flow_scalar::{Node, Sink, Source, Stream};
 use snesl_flatten::StreamNode;
 use snesl_values::{FaultKind, Refusal, Ty, text_of};

@@ -1,6 +1,6 @@
 // What command lines say: tables of them, as text.
 
-use flow_drive::{Config, Drive};
+use flow_drives::{Config, Drive};
 use snesl_settings::settings;
 use std::alloc::{AllocError, Global};
 use std::process::Abort;

@@ -1,7 +1,7 @@
 // Drawings: words and colours, strings, the text of a network, and its picture in DOT.
 
-use flow_graph::Edge;
 use flow_messages::Kind;
+use flow_networks::Edge;
 use flow_plans::Operation;
 use snesl_draw::{
     Drawing, DrawnEdge, DrawnNode, kind_colour, kind_word, network_dot, network_text,

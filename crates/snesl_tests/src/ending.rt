@@ -2,7 +2,7 @@
 // under lawful ones stands in the tables of `tool_runs`.
 
 use crate::running::assert_done;
-use flow_drive::Outcome;
+use flow_drives::Outcome;
 use snesl_data::Refusal;
 use snesl_trials::{Done, ran_alone};
 use std::alloc::{AllocError, Global};

@@ -1,13 +1,13 @@
 // One network of a program, for several inputs.
 
 ghost use Rattle.std.specs.Prelude.{IfOk};
-ghost use Rattle.flow_graph.specs.Graphs.{states_of};
-ghost use Rattle.flow_graph.specs.Networks.{AreOpened};
+ghost use Rattle.flow_networks.specs.Graphs.{states_of};
+ghost use Rattle.flow_networks.specs.Networks.{AreOpened};
 ghost use Rattle.flow_nodes.specs.StreamNodes.{node_behaviour};
 
 use flow_base::{Printing, Transducer};
-use flow_drive::{Config, NoGate, Outcome, Rested, drive};
-use flow_graph::Graph;
+use flow_drives::{Config, NoGate, Outcome, Rested, drive};
+use flow_networks::Graph;
 use flow_nodes::StreamNode;
 use snesl_data::Refusal;
 use snesl_flatten::flatten;

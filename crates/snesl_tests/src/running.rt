@@ -1,7 +1,7 @@
 // Runs of programs over memory, and what is asserted of them.
 
 use crate::limping::{LimpingWriter, Trouble};
-use flow_drive::{Config, Gate, Outcome};
+use flow_drives::{Config, Gate, Outcome};
 use snesl_data::{Counted, Refusal};
 use snesl_run::{AlwaysStart, Report, RunError, Start, run_with};
 use snesl_trials::Done;

@@ -1,6 +1,6 @@
 // How large networks are, and how many messages go over their edges. The numbers are counted by hand.
 
-use flow_drive::Outcome;
+use flow_drives::Outcome;
 use snesl_trials::{Done, ran_alone};
 use std::alloc::{AllocError, Global};
 use std::process::Abort;

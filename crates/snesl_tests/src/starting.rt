@@ -2,7 +2,7 @@
 
 use crate::limping::SOUND;
 use crate::running::ran_with;
-use flow_drive::{Drive, Gate, Outcome};
+use flow_drives::{Drive, Gate, Outcome};
 use snesl_data::Refusal;
 use snesl_run::Start;
 use snesl_trials::in_threads;

@@ -3,7 +3,7 @@
 
 use crate::limping::SOUND;
 use crate::running::{Ran, ran_over};
-use flow_drive::{Config, Drive, Gate, Outcome};
+use flow_drives::{Config, Drive, Gate, Outcome};
 use snesl_trials::in_threads;
 use std::alloc::{AllocError, Global};
 use std::process::Abort;

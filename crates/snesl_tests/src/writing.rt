@@ -2,7 +2,7 @@
 
 use crate::limping::{Stop, Trouble};
 use crate::running::{Ran, ran_over};
-use flow_drive::{NoGate, Outcome};
+use flow_drives::{NoGate, Outcome};
 use snesl_data::{Fault, FaultKind, Refusal};
 use snesl_trials::alone;
 use std::alloc::{AllocError, Global};

@@ -2,7 +2,7 @@
 
 ghost use Rattle.std.specs.Prelude.{◌≡◌, IfOk};
 
-use flow_drive::{Config, Drive};
+use flow_drives::{Config, Drive};
 use std::alloc::{AllocError, Global};
 
 /// Edges that hold so many messages, and shares in so many threads, each of which ends after one turn without a step. Its

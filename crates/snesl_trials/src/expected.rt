@@ -1,7 +1,7 @@
 // What plain evaluation gives, and allows.
 
 use crate::running::Done;
-use flow_drive::Outcome;
+use flow_drives::Outcome;
 use snesl_data::{Datum, Refusal, text_of};
 use snesl_syntax::parse;
 use snesl_types::{check, plain};

@@ -1,8 +1,8 @@
 // Runs of a program over memory.
 ghost use Rattle.std.specs.Prelude.{◌≡◌, IfOk};
-ghost use Rattle.flow_drive.specs.declared.config.Drive.TheVariants.{Serial};
+ghost use Rattle.flow_drives.specs.declared.config.Drive.TheVariants.{Serial};
 
-use flow_drive::{Config, Drive, NoGate, Outcome, Rested};
+use flow_drives::{Config, Drive, NoGate, Outcome, Rested};
 use flow_nodes::StreamNode;
 use snesl_data::{Counted, Refusal};
 use snesl_run::run;

@@ -1,6 +1,6 @@
 // How runs ended, counted.
 
-use flow_drive::Outcome;
+use flow_drives::Outcome;
 use snesl_trials::Done;
 use std::fmt;
 

@@ -2,15 +2,15 @@
 ghost use Rattle.std.specs.Prelude.{◌≡◌, ◌<◌, ◌≤◌, length};
 ghost use Rattle.std.specs.List.{All};
 ghost use Rattle.flow_messages.specs.Limits.{greatest_capacity};
-ghost use Rattle.flow_graph.specs.Graphs.{states_of};
-ghost use Rattle.flow_graph.specs.Networks.{AreOpened};
+ghost use Rattle.flow_networks.specs.Graphs.{states_of};
+ghost use Rattle.flow_networks.specs.Networks.{AreOpened};
 ghost use Rattle.flow_meetings.specs.SharedNetworks.{SharedNetwork, shared_network};
 
 use flow_base::Transducer;
 use flow_boxes::Boxes;
-use flow_graph::{Graph, GraphBuilder};
 use flow_lanes::Rings;
 use flow_meetings::{Dealt, Opening, are_calm, are_fed, deal, gather_graph};
+use flow_networks::{Graph, GraphBuilder};
 use flow_scalar::Source;
 use flow_shares::share_of;
 use std::alloc::{AllocError, Global};

@@ -5,10 +5,10 @@ ghost use Rattle.flow_lanes.specs.Rings.{ends_of};
 ghost use Rattle.flow_tests.specs.NoEnds.{HasNoEnds};
 
 use flow_base::Transducer;
-use flow_graph::Placed;
 use flow_lanes::Rings;
 use flow_meetings::Opening;
 use flow_messages::Table;
+use flow_networks::Placed;
 use flow_scalar::Source;
 use flow_shares::{Gate, NoGate, Share, pump};
 use std::alloc::{AllocError, Global};

@@ -1,16 +1,16 @@
 // Shares over rings, run in two epochs one after the other.
 
 ghost use Rattle.std.specs.Prelude.{◌≡◌};
-ghost use Rattle.flow_graph.specs.Graphs.{states_of};
-ghost use Rattle.flow_graph.specs.Networks.{AreOpened};
+ghost use Rattle.flow_networks.specs.Graphs.{states_of};
+ghost use Rattle.flow_networks.specs.Networks.{AreOpened};
 ghost use Rattle.flow_meetings.specs.SharedNetworks.{SharedNetwork};
-ghost use Rattle.flow_drive.specs.Dealings.{network_under};
+ghost use Rattle.flow_drives.specs.Dealings.{network_under};
 
 use crate::sketches::{SUM_OF_FIVE, graph_of};
 use flow_base::Transducer;
-use flow_drive::{Config, Drive, NoGate, deal_rings, epoch};
-use flow_graph::Graph;
+use flow_drives::{Config, Drive, NoGate, deal_rings, epoch};
 use flow_meetings::are_fed;
+use flow_networks::Graph;
 use std::alloc::Global;
 use std::process::Abort;
 use std::sync::Arc;

@@ -1,14 +1,14 @@
 // A graph taken apart, dealt out, gathered and put together again.
 
-ghost use Rattle.flow_graph.specs.Graphs.{states_of};
-ghost use Rattle.flow_graph.specs.Networks.{AreOpened};
+ghost use Rattle.flow_networks.specs.Graphs.{states_of};
+ghost use Rattle.flow_networks.specs.Networks.{AreOpened};
 ghost use Rattle.flow_nodes.specs.StreamNodes.{node_behaviour};
 
 use crate::driving::driven_under;
 use crate::shares::regathering::dealt_and_gathered;
 use crate::sketches::{SUM_OF_FIVE, graph_of};
-use flow_drive::{Config, Drive, Outcome};
-use flow_graph::Graph;
+use flow_drives::{Config, Drive, Outcome};
+use flow_networks::Graph;
 use flow_nodes::StreamNode;
 use std::alloc::Global;
 use std::process::Abort;

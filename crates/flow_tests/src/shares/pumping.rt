@@ -1,11 +1,11 @@
 // Shares that were dealt out, the first of them pumped by itself.
 
 ghost use Rattle.flow_meetings.specs.SharedNetworks.{AreFed};
-ghost use Rattle.flow_drive.specs.Configs.{IsLawful};
+ghost use Rattle.flow_drives.specs.Configs.{IsLawful};
 
 use crate::sketches::{SUM_OF_FIVE, graph_of};
 use flow_base::Transducer;
-use flow_drive::{Config, Drive, NoGate, Share, deal, deal_rings, pump};
+use flow_drives::{Config, Drive, NoGate, Share, deal, deal_rings, pump};
 use flow_messages::Ends;
 use std::alloc::{AllocError, Global};
 use std::test::Fail;

@@ -3,10 +3,10 @@
 
 ghost use Rattle.std.specs.Prelude.{◌≡◌, ◌<◌, length, IfOk};
 ghost use Rattle.std.specs.List.{All};
-ghost use Rattle.flow_graph.specs.Graphs.{states_of, edges_of};
+ghost use Rattle.flow_networks.specs.Graphs.{states_of, edges_of};
 
 use flow_base::Transducer;
-use flow_graph::{Graph, Placed};
+use flow_networks::{Graph, Placed};
 use flow_shares::{deal_nodes, gather};
 use std::alloc::{AllocError, Global};
 

@@ -5,7 +5,7 @@
 use crate::figures::programs::{Program, deep, squares, wide};
 use crate::figures::rounds::idle_rounds;
 use anyhow::{Result, bail, ensure};
-use flow_drive::{Config, Drive, NoGate};
+use flow_drives::{Config, Drive, NoGate};
 use snesl_data::Counted;
 use snesl_run::{Report, RunError, run};
 use std::alloc::{AllocError, Global};

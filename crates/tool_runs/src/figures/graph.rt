@@ -3,7 +3,7 @@
 
 use crate::figures::plan::squares;
 use anyhow::Result;
-use flow_drive::{Config, MAX_CHUNK, NoGate, Outcome, Rested, drive};
+use flow_drives::{Config, MAX_CHUNK, NoGate, Outcome, Rested, drive};
 use flow_nodes::StreamNode;
 use snesl_trials::alone;
 use std::rt::Clock;

@@ -1,12 +1,12 @@
 // The network of `reduce_add({x * x : x in iota(n)})`, built by hand.
 ghost use Rattle.std.specs.Prelude.{◌≡◌, IfOk};
 ghost use Rattle.flow_nodes.specs.StreamNodes.{node_behaviour, state_of};
-ghost use Rattle.flow_graph.specs.Graphs.{states_of, states_so_far};
-ghost use Rattle.flow_graph.specs.Networks.{AreOpened};
+ghost use Rattle.flow_networks.specs.Graphs.{states_of, states_so_far};
+ghost use Rattle.flow_networks.specs.Networks.{AreOpened};
 
 use flow_base::Node;
-use flow_graph::{Edge, Graph, GraphBuilder};
 use flow_messages::Kind;
+use flow_networks::{Edge, Graph, GraphBuilder};
 use flow_nodes::StreamNode;
 use flow_scalar::{Binary, Const, Fork, Iota, Reduce, Sink, Source, Stream, UnitsOf};
 use snesl_data::Dialect;

@@ -5,7 +5,7 @@ ghost use Rattle.std.specs.List.{All};
 
 use anyhow::Result;
 use flow_boxes::Boxes;
-use flow_drive::NoGate;
+use flow_drives::NoGate;
 use flow_scalar::Source;
 use flow_shares::{AlwaysStart, Share, run_all};
 use std::alloc::{AllocError, Global};

@@ -2,7 +2,7 @@
 
 use crate::jobs::Trial;
 use crate::jobs::answers::job_of;
-use flow_drive::{Config, Drive};
+use flow_drives::{Config, Drive};
 use snesl_console::split_job;
 use snesl_data::Counted;
 use snesl_tables::{Row, SpellingError};

@@ -3,12 +3,12 @@
 ghost use Rattle.std.specs.Prelude.{◌<◌, ◌≤◌, IfOk};
 ghost use Rattle.flow_messages.specs.Limits.{greatest_capacity};
 ghost use Rattle.flow_nodes.specs.StreamNodes.{node_behaviour};
-ghost use Rattle.flow_graph.specs.Graphs.{states_of};
-ghost use Rattle.flow_graph.specs.Networks.{AreOpened};
+ghost use Rattle.flow_networks.specs.Graphs.{states_of};
+ghost use Rattle.flow_networks.specs.Networks.{AreOpened};
 
 use flow_base::{Printing, Transducer};
-use flow_drive::Outcome;
-use flow_graph::{Edge, Graph, Settled, settle};
+use flow_drives::Outcome;
+use flow_networks::{Edge, Graph, Settled, settle};
 use flow_nodes::StreamNode;
 use kahn::Want;
 use kahn::faults::named;

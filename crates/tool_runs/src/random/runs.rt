@@ -5,7 +5,7 @@ ghost use Rattle.flow_messages.specs.Limits.{greatest_capacity};
 
 use crate::endings::Endings;
 use crate::random::replays::{Replay, random_schedule};
-use flow_drive::{Config, Drive, Outcome};
+use flow_drives::{Config, Drive, Outcome};
 use snesl_console::split_job;
 use snesl_data::{Counted, Refusal};
 use snesl_dice::Dice;

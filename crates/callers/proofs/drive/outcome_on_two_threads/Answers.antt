@@ -1,5 +1,5 @@
-use Rattle.flow_graph.specs.Graphs.{states_of, edges_of}
-use Rattle.flow_drive.specs.Resteds.{rested_states, rested_edges, rested_capacity, traffic_of}
+use Rattle.flow_networks.specs.Graphs.{states_of, edges_of}
+use Rattle.flow_drives.specs.Resteds.{rested_states, rested_edges, rested_capacity, traffic_of}
 use Rattle.callers.proofs.Resting.{came_out}
 use Rattle.callers.proofs.drive.outcome_on_two_threads.Goals as goal
 

@@ -1,6 +1,6 @@
 use Rattle.std.proofs.Common.{arith}
-use Rattle.flow_graph.specs.Graphs.{states_of, edges_of}
-use Rattle.flow_graph.specs.Settling.{settled_graph, settled_traffic}
+use Rattle.flow_networks.specs.Graphs.{states_of, edges_of}
+use Rattle.flow_networks.specs.Settling.{settled_graph, settled_traffic}
 use Rattle.callers.proofs.Carrying.{held_at_end}
 use Rattle.callers.proofs.graph.carried.Goals as goal
 

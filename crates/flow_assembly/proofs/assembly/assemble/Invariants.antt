@@ -1,4 +1,4 @@
-use Rattle.flow_graph.specs.Graphs.{states_so_far, edges_so_far}
+use Rattle.flow_networks.specs.Graphs.{states_so_far, edges_so_far}
 use Rattle.flow_assembly.specs.Ready.{plan_of, IsBuiltTo}
 use Rattle.flow_assembly.proofs.assembly.assemble.Given as goal
 

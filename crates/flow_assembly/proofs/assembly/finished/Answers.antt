@@ -1,6 +1,6 @@
 use Rattle.std.proofs.Common.{length, [], sym, subst, ◌∙◌}
-use Rattle.flow_graph.specs.Graphs.{edges_of, states_so_far, edges_so_far}
-use Rattle.flow_graph.specs.Networks.{AreOpened}
+use Rattle.flow_networks.specs.Graphs.{edges_of, states_so_far, edges_so_far}
+use Rattle.flow_networks.specs.Networks.{AreOpened}
 use Rattle.flow_nodes.specs.StreamNodes.{node_behaviour}
 use Rattle.flow_plans.specs.Layouts.{layout, IsNetworkOfPlan}
 use Rattle.flow_plans.specs.Ports.{kinds_after}

@@ -1,9 +1,9 @@
 use Rattle.std.proofs.Common.{◌≡◌, [], length, get_or, refl, sym, ap, ◌∙◌, subst, arith}
 use Rattle.std.proofs.lemmas.List.{get_or-map, length-map}
-use Rattle.flow_graph.specs.Graphs.{states_of, edges_of}
-use Rattle.flow_graph.specs.Places.{states_in}
-use Rattle.flow_graph.specs.Skeletons.{edges_in}
-use Rattle.flow_graph.specs.Networks.{AreOpened}
+use Rattle.flow_networks.specs.Graphs.{states_of, edges_of}
+use Rattle.flow_networks.specs.Places.{states_in}
+use Rattle.flow_networks.specs.Skeletons.{edges_in}
+use Rattle.flow_networks.specs.Networks.{AreOpened}
 use Rattle.flow_shares.specs.Deals.{lists_in, AreJustDealt}
 use Rattle.flow_meetings.specs.Open.{edge_kinds, AreOwners}
 use Rattle.flow_meetings.specs.Deals.{MakeAShare, nodes_in}

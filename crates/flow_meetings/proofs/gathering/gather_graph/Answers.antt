@@ -1,8 +1,8 @@
 use Rattle.std.proofs.Common.{sym, subst}
-use Rattle.flow_graph.specs.Places.{states_in}
-use Rattle.flow_graph.specs.Graphs.{states_of, edges_of}
-use Rattle.flow_graph.specs.Skeletons.{FitTogether}
-use Rattle.flow_graph.specs.Shapes.{IsSameNetwork}
+use Rattle.flow_networks.specs.Places.{states_in}
+use Rattle.flow_networks.specs.Graphs.{states_of, edges_of}
+use Rattle.flow_networks.specs.Skeletons.{FitTogether}
+use Rattle.flow_networks.specs.Shapes.{IsSameNetwork}
 use Rattle.flow_shares.specs.Deals.{lists_in}
 use Rattle.flow_meetings.specs.Joints.{AreStates}
 use Rattle.flow_meetings.specs.Deals.{nodes_in}

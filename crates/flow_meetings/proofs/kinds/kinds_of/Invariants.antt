@@ -1,5 +1,5 @@
 use Rattle.std.proofs.Common.{◌≡◌, take}
-use Rattle.flow_graph.specs.Graphs.{states_of, edges_of}
+use Rattle.flow_networks.specs.Graphs.{states_of, edges_of}
 use Rattle.flow_meetings.specs.Open.{edge_kinds}
 use Rattle.flow_meetings.proofs.kinds.kinds_of.Given as goal
 

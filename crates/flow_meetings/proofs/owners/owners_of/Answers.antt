@@ -1,6 +1,6 @@
 use Rattle.std.proofs.Common.{length, ap, ◌∙◌, arith}
 use Rattle.std.proofs.lemmas.List.{get_or_default, length_push}
-use Rattle.flow_graph.specs.Edges.{edge_at}
+use Rattle.flow_networks.specs.Edges.{edge_at}
 use Rattle.flow_meetings.specs.declared.owners.EdgeOwners.{EdgeOwners}
 use Rattle.flow_shares.specs.Deals.{share_of}
 use Rattle.flow_meetings.proofs.More.{owner_more}

@@ -1,5 +1,5 @@
 use Rattle.std.proofs.Common.{◌≡◌, ◌<◌, ℕ, length, slice_index_or}
-use Rattle.flow_graph.specs.Edges.{edge_at}
+use Rattle.flow_networks.specs.Edges.{edge_at}
 use Rattle.flow_meetings.specs.declared.owners.EdgeOwners.{EdgeOwners}
 use Rattle.flow_shares.specs.Deals.{share_of}
 use Rattle.flow_meetings.proofs.owners.owners_of.Given as goal

@@ -1,5 +1,5 @@
-use Rattle.flow_graph.specs.Graphs.{states_of, edges_of}
-use Rattle.flow_graph.proofs.Nets.{graph_network}
+use Rattle.flow_networks.specs.Graphs.{states_of, edges_of}
+use Rattle.flow_networks.proofs.Nets.{graph_network}
 use Rattle.flow_plans.proofs.PlansOfFlows.{flow_is_plan}
 use Rattle.flow_plans.proofs.FlowsOfPlans.{plan_is_flow}
 use Rattle.flow_plans.proofs.laws.plan_is_its_flow.Goals as goal

@@ -1,4 +1,4 @@
-use Rattle.flow_graph.specs.Graphs.{states_of, edges_of}
+use Rattle.flow_networks.specs.Graphs.{states_of, edges_of}
 use Rattle.flow_plans.proofs.Sources.{source_is_set}
 use Rattle.flow_plans.proofs.laws.source_is_set.Goals as goal
 

@@ -2,7 +2,7 @@ use Rattle.std.proofs.Common.{◌≡◌, List, [], length, sym, ◌∙◌, ap, s
 use Rattle.std.proofs.lemmas.Iterator.Adapters.{YieldsList-from_vec}
 use Rattle.std.proofs.lemmas.Iterator.Consumers.{YieldsList-turn}
 use Rattle.std.proofs.lemmas.List.{length-map, length-replicate, length-set}
-use Rattle.flow_graph.specs.declared.placed.Placed.{Placed}
+use Rattle.flow_networks.specs.declared.placed.Placed.{Placed}
 use Rattle.flow_shares.specs.Deals.{lists_in, AreJustDealt}
 use Rattle.flow_shares.proofs.Dealing.{none_dealt, one_turn, share_below}
 use Rattle.flow_shares.proofs.deal.deal_nodes.Goals as goal

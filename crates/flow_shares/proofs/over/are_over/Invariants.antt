@@ -1,6 +1,6 @@
 use Rattle.std.proofs.Common.{◌≡◌, ℕ, true, ◌<◌, get_or}
-use Rattle.flow_graph.specs.Places.{placed_state}
-use Rattle.flow_graph.specs.Over.{is_over}
+use Rattle.flow_networks.specs.Places.{placed_state}
+use Rattle.flow_networks.specs.Over.{is_over}
 use Rattle.flow_shares.proofs.over.are_over.Given as goal
 
 -- the nodes so far are over

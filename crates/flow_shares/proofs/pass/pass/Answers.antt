@@ -1,7 +1,7 @@
 use Rattle.std.proofs.Common.{◌+◌, ◌<◌, ◌≤◌, ◌||◌, length, set, sym, ◌∙◌, ap, subst, arith}
 use Rattle.flow_messages.specs.Kinds.{TakesKind}
 use Rattle.flow_base.specs.Visits.{edge_of}
-use Rattle.flow_graph.specs.Places.{placed_state}
+use Rattle.flow_networks.specs.Places.{placed_state}
 use Rattle.flow_shares.specs.Shares.{outputs_of}
 use Rattle.flow_base.proofs.Visits.{on_err}
 use Rattle.flow_shares.proofs.Passes.{passed_none, passed_out, passed_by, node_there, passed_next, passed_lost, passed_starves}

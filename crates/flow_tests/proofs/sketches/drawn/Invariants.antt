@@ -1,5 +1,5 @@
-use Rattle.flow_graph.specs.Graphs.{states_so_far}
-use Rattle.flow_graph.specs.Networks.{AreOpened}
+use Rattle.flow_networks.specs.Graphs.{states_so_far}
+use Rattle.flow_networks.specs.Networks.{AreOpened}
 use Rattle.flow_nodes.specs.StreamNodes.{node_behaviour}
 use Rattle.flow_tests.proofs.sketches.drawn.Given as goal
 

@@ -1,4 +1,4 @@
-use Rattle.flow_graph.specs.Graphs.{states_of, edges_of}
+use Rattle.flow_networks.specs.Graphs.{states_of, edges_of}
 use Rattle.flow_texts.proofs.Printing.{print_tells}
 use Rattle.flow_texts.proofs.laws.print_tells.Goals as goal
 

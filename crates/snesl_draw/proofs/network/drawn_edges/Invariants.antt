@@ -1,5 +1,5 @@
 use Rattle.std.proofs.Common.{◌≡◌, map, take}
-use Rattle.flow_graph.specs.Graphs.{edges_of, states_of}
+use Rattle.flow_networks.specs.Graphs.{edges_of, states_of}
 use Rattle.snesl_draw.specs.Networks.{drawn_edge}
 use Rattle.snesl_draw.proofs.network.drawn_edges.Given as goal
 

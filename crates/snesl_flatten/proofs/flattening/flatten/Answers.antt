@@ -2,8 +2,8 @@ use Rattle.std.proofs.Common.{◌<◌, ◌≤◌, ◌⊎◌, [], Err, length, in
 use Rattle.snesl_data.specs.declared.refusal.Refusal.TheVariants.{TooBig}
 use Rattle.snesl_types.specs.Typed.{typed_inputs, typed_text, typed_tree}
 use Rattle.flow_nodes.specs.StreamNodes.{node_behaviour}
-use Rattle.flow_graph.specs.Graphs.{states_of, edges_of}
-use Rattle.flow_graph.specs.Limits.{most_nodes, most_edges}
+use Rattle.flow_networks.specs.Graphs.{states_of, edges_of}
+use Rattle.flow_networks.specs.Limits.{most_nodes, most_edges}
 use Rattle.flow_plans.specs.Layouts.{layout, places, edges_needed, IsNetworkOfPlan}
 use Rattle.flow_plans.specs.Ports.{AreWired}
 use Rattle.flow_plans.specs.Views.{steps_of}

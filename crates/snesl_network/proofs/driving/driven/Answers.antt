@@ -1,5 +1,5 @@
 use Rattle.std.proofs.Common.{Err, ap}
-use Rattle.flow_graph.specs.Graphs.{states_of, edges_of}
+use Rattle.flow_networks.specs.Graphs.{states_of, edges_of}
 use Rattle.snesl_network.specs.NodesAtRest.{final_view}
 use Rattle.snesl_network.proofs.Refusing.{has_network}
 use Rattle.snesl_network.proofs.Resting.{comes_to_rest}

@@ -4,7 +4,7 @@ use Rattle.snesl_grammar.specs.View.{program_of as tree_of_program}
 use Rattle.snesl_types.specs.Programs.{IsFirstViolation}
 use Rattle.snesl_types.specs.Typed.{typed_inputs, typed_text, typed_tree}
 use Rattle.snesl_types.specs.declared.typed.Typed.{Typed}
-use Rattle.flow_graph.specs.Graphs.{states_of, edges_of}
+use Rattle.flow_networks.specs.Graphs.{states_of, edges_of}
 use Rattle.snesl_flatten.specs.Networks.{NetworkMeans}
 use Rattle.snesl_network.proofs.Refusing.{parse_refused, check_refused, passed_on}
 use Rattle.snesl_network.proofs.Planning.{IsItsNetwork, AllOpenFor, inputs_refused, plan_refused, is_meant}

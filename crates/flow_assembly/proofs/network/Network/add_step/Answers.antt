@@ -1,6 +1,6 @@
 use Rattle.std.proofs.Common.{◌≡◌, ◌+◌, ◌∙◌, refl, inr, sym, ap, arith, length}
 use Rattle.std.proofs.lemmas.List.{length_push, length-append}
-use Rattle.flow_graph.specs.Graphs.{states_so_far, edges_so_far}
+use Rattle.flow_networks.specs.Graphs.{states_so_far, edges_so_far}
 use Rattle.flow_nodes.specs.StreamNodes.{state_of}
 use Rattle.flow_plans.specs.Layouts.{all_after}
 use Rattle.flow_plans.specs.Ports.{kinds_written}

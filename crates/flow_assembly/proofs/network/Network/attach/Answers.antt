@@ -1,7 +1,7 @@
 use Rattle.std.proofs.Common.{◌++◌, ◌∷◌, [], length, refl, sym, ◌∙◌, ap, subst, inl, inr}
 use Rattle.snesl_data.specs.declared.refusal.Refusal.TheVariants.{TooBig}
-use Rattle.flow_graph.specs.Graphs.{states_so_far, edges_so_far}
-use Rattle.flow_graph.specs.Networks.{MayJoin}
+use Rattle.flow_networks.specs.Graphs.{states_so_far, edges_so_far}
+use Rattle.flow_networks.specs.Networks.{MayJoin}
 use Rattle.flow_nodes.specs.StreamNodes.{node_behaviour, state_of}
 use Rattle.flow_assembly.specs.Joined.{supplier, edge_from}
 use Rattle.flow_assembly.proofs.Fitting.{passed_on}

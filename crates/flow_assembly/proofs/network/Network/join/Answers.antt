@@ -1,7 +1,7 @@
 use Rattle.std.proofs.Common.{◌++◌, ◌∷◌, [], set, refl, sym, ◌∙◌, ap, subst}
 use Rattle.snesl_data.specs.declared.refusal.Refusal.TheVariants.{TooBig}
-use Rattle.flow_graph.specs.Graphs.{states_so_far, edges_so_far}
-use Rattle.flow_graph.specs.Networks.{MayJoin}
+use Rattle.flow_networks.specs.Graphs.{states_so_far, edges_so_far}
+use Rattle.flow_networks.specs.Networks.{MayJoin}
 use Rattle.flow_nodes.specs.StreamNodes.{node_behaviour}
 use Rattle.flow_assembly.specs.Joined.{edge_from, port_after}
 use Rattle.flow_assembly.proofs.Fitting.{passed_on}

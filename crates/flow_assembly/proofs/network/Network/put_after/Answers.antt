@@ -1,6 +1,6 @@
 use Rattle.std.proofs.Common.{◌≡◌, ◌+◌, ◌∷◌, [], length, refl, sym, ◌∙◌, ap, subst, arith, ◌≤◌, replicate, set, drop}
 use Rattle.std.proofs.lemmas.List.{length_push}
-use Rattle.flow_graph.specs.Graphs.{states_so_far, edges_so_far}
+use Rattle.flow_networks.specs.Graphs.{states_so_far, edges_so_far}
 use Rattle.flow_nodes.specs.StreamNodes.{node_behaviour, state_of}
 use Rattle.flow_plans.specs.Plans.{fork, sink}
 use Rattle.flow_plans.specs.Ports.{kinds_after}

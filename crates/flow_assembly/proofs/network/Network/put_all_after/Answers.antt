@@ -2,7 +2,7 @@ use Rattle.std.proofs.Common.{◌≡◌, ◌+◌, ◌∙◌, sym, ap, subst, ari
 use Rattle.flow_messages.specs.declared.message.Kind.TheVariants.{Unit as UnitKind}
 use Rattle.snesl_data.specs.declared.refusal.Refusal.TheVariants.{TooBig}
 use Rattle.flow_plans.specs.Layouts.{uses, all_after}
-use Rattle.flow_graph.specs.Graphs.{states_so_far, edges_so_far}
+use Rattle.flow_networks.specs.Graphs.{states_so_far, edges_so_far}
 use Rattle.flow_assembly.specs.Ready.{plan_of, IsPutTo, ComeNext}
 use Rattle.flow_assembly.proofs.Fitting.{passed_on}
 use Rattle.flow_assembly.proofs.Refused.{none_done, same_error}

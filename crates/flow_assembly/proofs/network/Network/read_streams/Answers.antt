@@ -1,7 +1,7 @@
 use Rattle.std.proofs.Common.{◌+◌, ◌<◌, ◌∙◌, subst, ap, arith, drop, length, get_or, []}
 use Rattle.std.proofs.lemmas.Option.{slice_get-get_or}
 use Rattle.snesl_data.specs.declared.refusal.Refusal.TheVariants.{TooBig}
-use Rattle.flow_graph.specs.Graphs.{states_so_far, edges_so_far}
+use Rattle.flow_networks.specs.Graphs.{states_so_far, edges_so_far}
 use Rattle.flow_plans.specs.Layouts.{uses}
 use Rattle.flow_plans.specs.Ports.{kinds_after}
 use Rattle.flow_assembly.specs.Ready.{plan_of, KeepsLimits}

@@ -1,7 +1,7 @@
 use Rattle.std.proofs.Common.{length, sym, ◌∙◌, ap, subst}
 use Rattle.std.proofs.lemmas.List.{length-map}
-use Rattle.flow_graph.specs.Skeletons.{nodes_of}
-use Rattle.flow_graph.specs.Places.{placed_state}
+use Rattle.flow_networks.specs.Skeletons.{nodes_of}
+use Rattle.flow_networks.specs.Places.{placed_state}
 use Rattle.flow_shares.specs.Deals.{AreDealt}
 use Rattle.flow_shares.proofs.Stays.{as_given}
 use Rattle.flow_meetings.specs.Deals.{nodes_in}

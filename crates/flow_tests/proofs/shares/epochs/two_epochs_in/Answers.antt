@@ -1,7 +1,7 @@
 use Rattle.std.proofs.Common.{◌≡◌, sym, subst, rules}
 use Rattle.flow_meetings.specs.SharedNetworks.{AreFed}
 use Rattle.flow_rounds.specs.Epochs.{AreOfOneGraph}
-use Rattle.flow_drive.specs.Dealings.{network_under}
+use Rattle.flow_drives.specs.Dealings.{network_under}
 use Rattle.flow_tests.proofs.shares.epochs.two_epochs_in.Goals as goal
 
 pub epoch-requires : goal.epoch-requires

@@ -6,10 +6,10 @@ use Rattle.std.proofs.lemmas.Iterator.Consumers.{YieldsList-turn}
 use Rattle.snesl_types.specs.Typed.{typed_inputs, typed_text, typed_tree}
 use Rattle.flow_scalar.specs.SourceBehaviour.{source_opening}
 use Rattle.flow_nodes.specs.StreamNodes.{a_source, node_behaviour}
-use Rattle.flow_graph.specs.Graphs.{states_of, edges_of}
-use Rattle.flow_graph.specs.Networks.{AreOpened}
-use Rattle.flow_graph.specs.Replacements.{MayReplace}
-use Rattle.flow_graph.specs.declared.edge.Edge.{Edge}
+use Rattle.flow_networks.specs.Graphs.{states_of, edges_of}
+use Rattle.flow_networks.specs.Networks.{AreOpened}
+use Rattle.flow_networks.specs.Replacements.{MayReplace}
+use Rattle.flow_networks.specs.declared.edge.Edge.{Edge}
 use Rattle.flow_plans.specs.Layouts.{places}
 use Rattle.flow_base.specs.Columns.{Columns}
 use Rattle.snesl_flatten.specs.Networks.{NodeState}

@@ -1,7 +1,0 @@
-use Rattle.flow_drive.proofs.epochs.epoch_with.Given as goal
-
-abbrev pub ghost-owners_of_shares : goal.ghost-owners_of_shares
-ghost-owners_of_shares g a = g.network
-
-abbrev pub ghost-epoch : goal.ghost-epoch
-ghost-epoch g a = g.network

@@ -1,5 +1,0 @@
-use Rattle.flow_drive.specs.Origins.{network_in}
-use Rattle.flow_drive.proofs.joined.drive_rings.Given as goal
-
-abbrev pub ghost-run_dealt : goal.ghost-run_dealt
-ghost-run_dealt g a = network_in a.origin

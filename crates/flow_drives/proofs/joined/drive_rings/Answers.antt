@@ -1,0 +1,24 @@
+use Rattle.std.proofs.Common.{◌≡◌, subst}
+use Rattle.std.specs.Prelude.{IfOk}
+use Rattle.flow_rounds.proofs.EpochBegins.{dealt_graph, dealt_fed, dealt_none}
+use Rattle.flow_drives.specs.Resteds.{rested_share, rested_shares}
+use Rattle.flow_drives.proofs.joined.drive_rings.Goals as goal
+
+pub run_dealt-requires : goal.run_dealt-requires
+run_dealt-requires g c κs within =
+    let bounds = c.type_bounds in
+    let lawful = c.requires.lawful in
+    let origin = c.in_ok-origin.origin in
+    let dealt = c.in_ok-origin.dealt in
+    let made = c.in_ok-origin.ensures in
+    let threads = c.args.config.now.threads in
+    let graph = dealt_graph origin.graph.value threads origin.share.items origin.capacity dealt made.dealt in
+    let fed = dealt_fed origin.graph.value threads origin.share.items origin.capacity dealt made.dealt in
+    let none = dealt_none origin.graph.value threads origin.share.items origin.capacity dealt made.dealt in
+    (within.0, (within.1.0, (within.1.1.0, (within.1.1.1, (bounds.static-T, (bounds.static-G, (bounds.send-T, (bounds.send-G, (bounds.sync-G, (lawful, (made.origin, (made.dealt.owners, (made.dealt.skeleton, (graph, (fed, none)))))))))))))))
+
+pub returns-clause-share : goal.returns-clause-share
+returns-clause-share g c = subst (λ share. IfOk c.run_dealt.result (λ rested. rested_share rested ≡ share)) c.in_ok-origin.ensures.share c.run_dealt.ensures.share
+
+pub returns-clause-shares : goal.returns-clause-shares
+returns-clause-shares g c = subst (λ n. IfOk c.run_dealt.result (λ rested. rested_shares rested ≡ n)) c.in_ok-origin.ensures.dealt.count c.run_dealt.ensures.shares

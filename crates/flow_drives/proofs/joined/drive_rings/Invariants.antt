@@ -1,0 +1,5 @@
+use Rattle.flow_drives.specs.Origins.{network_in}
+use Rattle.flow_drives.proofs.joined.drive_rings.Given as goal
+
+abbrev pub ghost-run_dealt : goal.ghost-run_dealt
+ghost-run_dealt g a = network_in a.origin

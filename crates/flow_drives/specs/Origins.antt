@@ -1,0 +1,17 @@
+-- What drives of several threads keep of a graph that they dealt out.
+use Rattle.std.specs.Prelude.{◌≡◌, ◌<◌, length}
+use Rattle.flow_base.specs.declared.transducer.Transducer.{Ghosts}
+use Rattle.flow_meetings.specs.SharedNetworks.{SharedNetwork, shared_network}
+use Rattle.flow_drives.specs.declared.origin.Origin.{Origin}
+
+module _ {X : Type 0} {t : Ghosts X} where
+  -- the network in which it was dealt out
+  abbrev pub network_in : Origin X t → SharedNetwork t
+  network_in origin = shared_network origin.graph.value origin.share.items origin.capacity
+
+  -- What was kept is of this network.
+  pub record IsOriginOf (network : SharedNetwork t) (origin : Origin X t) : Type 0 where
+    pub named : 0 < length origin.share.items
+    pub nodes : origin.nodes ≡ length network.nodes
+    pub share : origin.share.items ≡ network.share
+    pub capacity : origin.capacity ≡ network.capacity

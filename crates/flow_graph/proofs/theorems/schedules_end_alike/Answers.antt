@@ -1,6 +1,0 @@
-use Rattle.flow_graph.proofs.Schedules.{end_alike}
-use Rattle.flow_graph.proofs.theorems.schedules_end_alike.Goals as goal
-
-pub returns : goal.returns
-returns g c capacity states edges network schedule started last events scheduled maximal =
-    end_alike g.T.Transducer.behaviour capacity states edges network schedule started last events scheduled maximal

@@ -1,0 +1,15 @@
+use Rattle.flow_networks.specs.Graphs.{states_of, edges_of}
+use Rattle.flow_networks.proofs.Nets.{graph_network}
+use Rattle.flow_networks.proofs.Flows.{ended_is_lawful, ended_run_is_lawful}
+use Rattle.flow_networks.proofs.theorems.ended_is_lawful.Goals as goal
+
+pub returns : goal.returns
+returns g c =
+    let graph = c.args.graph.now in
+    let b = g.T.Transducer.behaviour in
+    let laws = g.met.T.Transducer.laws in
+    let net = graph_network graph laws in
+    record {
+      complete = ended_is_lawful b laws (states_of graph) (edges_of graph) net;
+      runs = ended_run_is_lawful b laws (states_of graph) (edges_of graph) net;
+    }

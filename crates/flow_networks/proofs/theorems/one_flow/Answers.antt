@@ -1,0 +1,12 @@
+use Rattle.flow_networks.specs.Graphs.{states_of, edges_of}
+use Rattle.flow_networks.proofs.Nets.{graph_network}
+use Rattle.flow_networks.proofs.Flows.{one_flow}
+use Rattle.flow_networks.proofs.theorems.one_flow.Goals as goal
+
+pub returns : goal.returns
+returns g c =
+    let graph = c.args.graph.now in
+    let b = g.T.Transducer.behaviour in
+    let laws = g.met.T.Transducer.laws in
+    let net = graph_network graph laws in
+    one_flow b laws (states_of graph) (edges_of graph) net

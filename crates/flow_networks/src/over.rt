@@ -1,0 +1,18 @@
+// Nodes that are over.
+ghost use Rattle.std.specs.Prelude.{◌≡◌, ◌<◌, length};
+ghost use Rattle.flow_networks.specs.Networks.{state_at};
+ghost use Rattle.flow_networks.specs.Graphs.{states_of};
+ghost use Rattle.flow_networks.specs.Over.{is_over};
+
+use crate::graph::Graph;
+use flow_base::Transducer;
+use kahn::Want;
+
+/// Whether the node makes no step again.
+pub fn is_over<T: Transducer>(graph: &Graph<T>, node: usize) -> bool
+    requires { node < length (states_of graph.now) }
+    ensures { result ≡ is_over (T.behaviour.process.want
+        (state_at T.behaviour (states_of graph.now) node)) }
+{
+    matches!(graph.node(node).want(), Want::Ended | Want::Faulted(_))
+}

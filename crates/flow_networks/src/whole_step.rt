@@ -1,0 +1,33 @@
+// Single steps over both ends of each edge.
+ghost use Rattle.std.specs.Prelude.{◌<◌, length, IfOk};
+ghost use Rattle.flow_networks.specs.Networks.{HasEnds};
+ghost use Rattle.flow_networks.specs.Graphs.{states_of, edges_of};
+ghost use Rattle.flow_networks.specs.Shapes.{KeepsShape};
+ghost use Rattle.flow_networks.specs.Turns.{TakesTurn, TurnsNetwork};
+
+use crate::graph::Graph;
+use crate::step::{Moved, step_once};
+use flow_base::Transducer;
+use flow_messages::WholeEnds;
+use std::alloc::AllocError;
+
+/// One turn of a node, over both ends of each edge: from a sound configuration it is one step of the
+/// node in the network, or nothing where the node cannot step, and what comes of it is sound.
+///
+/// An error where memory was refused. Then the states are as they were, and a message that the node
+/// was to read is lost.
+pub fn step_whole<T: Transducer, E: WholeEnds>(
+    graph: &mut Graph<T>,
+    ends: &mut E,
+    node: usize,
+) -> Result<Moved, AllocError>
+    requires inside { node < length (states_of graph.old) }
+    requires ends { HasEnds T.behaviour (states_of graph.old) (edges_of graph.old) node
+        (E.view ends.old) }
+    ensures shape { KeepsShape E.same E.view graph.old ends.old graph.new ends.new }
+    ensures turn { TakesTurn E.view node graph.old ends.old graph.new ends.new result }
+    ensures network { IfOk result (λ moved. TurnsNetwork E.view node graph.old ends.old graph.new
+        ends.new (E.capacity ends.old) moved) }
+{
+    step_once(graph, ends, node)
+}
