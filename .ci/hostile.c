@@ -9,9 +9,10 @@
      HOSTILE_EMPTY_WRITE=n   or takes no byte
      HOSTILE_WRITE_MOST=b    a write to standard output takes no more bytes than this
      HOSTILE_ERROR=e         the error of a read or a write that fails
-     HOSTILE_COUNTS=d        the descriptor of a file of one page, whose first words are the counts: as `enum word` lists them
+     HOSTILE_COUNTS=d        the descriptor of a file for the counts, whose first words are as `enum word` lists them; behind them
+                             stands for each start in turn how many own growths came before it
 
-   Memory is counted as the program and the C library ask for it by malloc, calloc and realloc, also where a thread is started. */
+   Own growths are those of the first thread which are not made within the start of another. Memory is counted as the program and the C library ask for it by malloc, calloc and realloc, also where a thread is started. */
 typedef unsigned long size;
 extern void *__libc_malloc(size);
 extern void *__libc_calloc(size, size);
@@ -27,15 +28,15 @@ extern int gettid(void);
 
 enum { STANDARD_INPUT, STANDARD_OUTPUT };
 enum { TRY_AGAIN = 11, NO_MEMORY = 12 };
-enum { PAGE = 4096, READ_AND_WRITE = 3, SHARED = 1 };
+enum { ALL_WORDS = 65536, READ_AND_WRITE = 3, SHARED = 1 };
 #define NEXT_LIBRARY ((void *)-1L)
 #define NO_MAPPING ((void *)-1L)
 
-/* The counts, and what was refused. A growth within the start of a thread is told apart, and one of a thread that was started. */
-enum word { GROWTHS, STARTS, READS, WRITES, REFUSED, WORDS };
+/* The counts, what was refused, and the number of the refused growth among own ones. A growth within the start of a thread is told apart, and one of a thread that was started. */
+enum word { GROWTHS, STARTS, READS, WRITES, REFUSED, OWN_GROWTHS, REFUSED_OWN, WORDS };
 enum refused { A_GROWTH = 1, A_GROWTH_IN_A_START = 2, A_GROWTH_OF_A_WORKER = 4, A_START = 8, A_READ = 16, A_WRITE = 32 };
 
-static long own_words[WORDS];
+static long own_words[ALL_WORDS];
 static long *words;
 static long growth, start, failing_read, most_read, failing_write, empty_write, most_written, error;
 static __thread int in_a_start __attribute__((tls_model("initial-exec")));
@@ -52,7 +53,7 @@ static long number_in(const char *name) {
 /* The first call comes before there is a second thread. */
 static void set_up(void) {
     long file = number_in("HOSTILE_COUNTS");
-    void *page = file ? mmap(0, PAGE, READ_AND_WRITE, SHARED, (int)file, 0) : NO_MAPPING;
+    void *page = file ? mmap(0, ALL_WORDS * sizeof(long), READ_AND_WRITE, SHARED, (int)file, 0) : NO_MAPPING;
     growth = number_in("HOSTILE_GROWTH");
     start = number_in("HOSTILE_START");
     failing_read = number_in("HOSTILE_READ");
@@ -78,10 +79,15 @@ static int refuse(enum refused what, long with) {
 }
 
 static int growth_is_refused(void) {
-    if (number_of(GROWTHS) != growth)
+    long number = number_of(GROWTHS);
+    int is_first_thread = gettid() == getpid();
+    if (is_first_thread && !in_a_start)
+        words[OWN_GROWTHS]++;
+    if (number != growth)
         return 0;
-    if (gettid() != getpid())
+    if (!is_first_thread)
         return refuse(A_GROWTH_OF_A_WORKER, NO_MEMORY);
+    words[REFUSED_OWN] = words[OWN_GROWTHS];
     return refuse(in_a_start ? A_GROWTH_IN_A_START : A_GROWTH, NO_MEMORY);
 }
 
@@ -93,8 +99,11 @@ void *realloc(void *memory, size bytes) { return growth_is_refused() ? 0 : __lib
 
 int pthread_create(void *thread, const void *attributes, void *(*routine)(void *), void *argument) {
     static int (*create)(void *, const void *, void *(*)(void *), void *);
+    long number = number_of(STARTS);
     int status;
-    if (number_of(STARTS) == start) {
+    if (WORDS - 1 + number < ALL_WORDS)
+        words[WORDS - 1 + number] = words[OWN_GROWTHS];
+    if (number == start) {
         refuse(A_START, TRY_AGAIN);
         return TRY_AGAIN;
     }

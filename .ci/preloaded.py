@@ -11,18 +11,21 @@ import struct
 import subprocess
 import sys
 import tempfile
-from dataclasses import dataclass
+from dataclasses import dataclass, field
 
 HERE = os.path.dirname(os.path.abspath(__file__))
 SECONDS = 60
-# The counts, `enum word` of hostile.c, and what was refused, `enum refused`.
-WORDS = struct.Struct("5q")
+# The counts, `enum word` of hostile.c, with the words behind them for all starts; and what was refused, `enum refused`.
+WORDS, ALL_WORDS = struct.Struct("7q"), 65536
 A_GROWTH, A_GROWTH_IN_A_START, A_GROWTH_OF_A_WORKER, A_START, A_READ, A_WRITE = (1 << bit for bit in range(6))
 
 
 @dataclass(frozen=True)
 class Ran:
-    """What a program printed and said, and its status; its calls by kind, and what was refused to it."""
+    """What a program printed and said, and its status; its calls by kind, and what was refused to it.
+
+    Own growths are those of its first thread, but for those made within the start of another. `refused_own` is the number of the refused one
+    among them, and `before_starts` has for each start how many of them came before it."""
 
     printed: bytes
     said: bytes
@@ -32,6 +35,9 @@ class Ran:
     reads: int
     writes: int
     refused: int
+    own_growths: int
+    refused_own: int
+    before_starts: tuple = field(repr=False)
 
     def answer(self):
         return self.printed, self.said, self.status
@@ -77,7 +83,7 @@ def run(program, words, job, library, seconds=SECONDS, **refusals):
     The job is read from a file: what a read of a pipe gives, and so how often memory grows, is a matter of luck."""
     environment = {f"HOSTILE_{name}": str(number) for name, number in refusals.items()}
     with tempfile.TemporaryFile() as counts, tempfile.TemporaryFile() as file:
-        counts.truncate(4096)
+        counts.truncate(8 * ALL_WORDS)
         file.write(job)
         file.seek(0)
         child = subprocess.run(
@@ -89,4 +95,6 @@ def run(program, words, job, library, seconds=SECONDS, **refusals):
             timeout=seconds,
         )
         counted = WORDS.unpack(os.pread(counts.fileno(), WORDS.size, 0))
-    return Ran(child.stdout, child.stderr, child.returncode, *counted)
+        starts = os.pread(counts.fileno(), 8 * counted[1], WORDS.size)
+    before_starts = tuple(it for (it,) in struct.iter_unpack("q", starts[: len(starts) // 8 * 8]))
+    return Ran(child.stdout, child.stderr, child.returncode, *counted, before_starts)
