@@ -12,6 +12,9 @@ FOLD = re.compile(r"\n  (?=\S)")
 GOAL = re.compile(r"^error: |it is not proved that|`search` found no proof")
 # A goal that no proof file answers, and that the tactics did not prove. Not each says what it is for.
 SEARCHED = re.compile(r"(?:it is not proved that .*|`search` found no proof )\(`([^`]+)`\)")
+# An answer of a proof file that does not prove its goal. It may be that the edit says the same in another way, which an answer by a term
+# does not fit ("the two types differ").
+STALE = re.compile(r"error: `([^`]+)`: ")
 # A proof file that names what an edit took away, and what cites such a proof (rt tells these apart too).
 BY_NAME = re.compile(r"has no field|is not in scope|has no `|\(nearest: |was not admitted")
 ENDED = re.compile(r"only=\d+ holes=\d+|logic=(?:not-)?proved.*")
@@ -22,7 +25,8 @@ class Report:
 
     `has_ended`: whether the prover came to an end. `unproved` and `fit`: the functions that it says are not proved, and those that are but
     for what holes stand for. `own`: the functions with a goal of their own that is not proved, each with what is said of the first.
-    `searched`: the names of those of their goals that no proof file answers. `by_name`: those whose own proof files name what is gone.
+    `searched`: the names of those of their goals that no proof file answers. `stale`: the names of those whose answer no longer fits, of the
+    functions that have no other goal of their own that is not proved. `by_name`: those whose own proof files name what is gone.
     `unread_cycles`: the cycles of functions whose common proof files do. `elsewhere`: what is said of other goals, as those of lemmas.
     """
 
@@ -34,13 +38,17 @@ class Report:
         self.fit = {it for it, text in lines.items() if text.startswith(("proved", "no holes", "depends on a hole"))}
         self.own, self.by_name, self.elsewhere, self.unread_loops, self.unread_cycles = {}, {}, [], set(), set()
         self.searched, self.answered = collections.defaultdict(list), set()
+        self.stale, others = collections.defaultdict(list), set()
         for line in FOLD.sub(" ", said).split("\n"):
             place = PLACE.match(line)
             if place and GOAL.search(place[3]):
-                self.add(line, place[1], int(place[2]), place[3])
+                others |= self.add(line, place[1], int(place[2]), place[3])
         self.own = {name: line for name, line in self.own.items() if name not in self.unread_loops}
+        self.stale = {name: goals for name, goals in self.stale.items() if name not in others}
 
     def add(self, line, file, number, text):
+        """Takes in what is said of a goal. The name of its function, where that is not proved for another reason than an answer that no longer
+        fits."""
         function, is_code = self.owner(file, number, text), file.startswith("src/")
         is_by_name = not is_code and bool(BY_NAME.search(text))
         if is_by_name:
@@ -54,11 +62,15 @@ class Report:
             self.elsewhere.append(line)
         else:
             self.own.setdefault(function.name, line)
-            goal = SEARCHED.match(text)
+            goal, stale = SEARCHED.match(text), STALE.match(text) if file.endswith("/Answers.antt") else None
             if goal:
                 self.searched[function.name].append(goal[1])
             else:
                 self.answered.add(function.name)
+            if stale is None:
+                return {function.name}
+            self.stale[function.name].append(stale[1])
+        return set()
 
     def spoiled_besides(self, name):
         """The goals of a function that need not be searched for, since another one of it is not proved either: an answer of its proof files,

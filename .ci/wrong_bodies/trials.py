@@ -9,13 +9,18 @@ import signal
 import subprocess
 import types
 
+from edits import batches_of
 from functions import Code
 from kit import LIMITS, rt
 from reports import Report
 
-# What a try comes to: only the first passes.
-REFUSED, NOT_REFUSED, BAD, BY_NAME, UNSURE = "refused", "NOT REFUSED", "BAD EDIT", "ONLY BY A NAME", "NOT TRIED"
-Verdict = collections.namedtuple("Verdict", "kind text")
+# What a try comes to. The first three pass: a goal that tactics are to prove is not proved; only answers of proof files do not fit; nor do
+# the tactics prove the goals without these answers.
+REFUSED, BY_ANSWER, WITHOUT_ANSWER = "refused", "refused by an answer", "refused without its answer"
+NOT_REFUSED, BAD, BY_NAME, UNSURE = "NOT REFUSED", "BAD EDIT", "ONLY BY A NAME", "NOT TRIED"
+PASSED = {REFUSED, BY_ANSWER, WITHOUT_ANSWER}
+# `goals` are those of the answers that no longer fit.
+Verdict = collections.namedtuple("Verdict", "kind text goals", defaults=[()])
 # A proof that is left out. The hole has a goal of its own, since what a goal says is printed, and a statement is long.
 STUB = """use Rattle.{crate}.proofs.{path}.Statement as stated
 
@@ -42,6 +47,8 @@ class Trials:
         self.checks, self.seconds = 0, 0.0
         # the goals that each refused edit spoiled besides the one that refused it
         self.besides = {}
+        # the goals whose answers are left out, of each edit that is tried without them
+        self.unanswered = {}
         os.makedirs(self.kept)
 
     def verdicts(self, edits, batches, is_proved):
@@ -56,6 +63,18 @@ class Trials:
             made |= self.verdicts_of([it for it in batch if it not in made])
         return made
 
+    def without_answers(self, verdicts):
+        """The verdict on each of these edits where the answers that no longer fit it are left out, as the verdicts so far tell them: tactics are
+        tried of their goals, and of all others that the edit spoils."""
+        self.unanswered |= {it: {*verdict.goals} for it, verdict in verdicts.items()}
+        for edit in verdicts:
+            edit.besides = []
+        made = {}
+        for batch in batches_of([*verdicts]):
+            made |= self.verdicts_of(batch)
+        # (where a proof file cites such an answer, no check tells what the goals come to)
+        return {it: made[it] if made[it].kind in PASSED | {NOT_REFUSED} else verdicts[it] for it in verdicts}
+
     def verdicts_of(self, edits):
         """The verdict on each edit of a batch. Only a check of one edit alone says another than that it is refused."""
         if not edits:
@@ -64,12 +83,12 @@ class Trials:
         report = self.report(batch, batch.struck)
         if len(edits) == 1:
             verdict = verdict_of(edits[0], report)
-            if verdict.kind != REFUSED and edits[0].besides:
+            if verdict.kind not in PASSED and edits[0].besides:
                 # (it may be that no other goal refuses it)
                 edits[0].besides = []
                 return self.verdicts_of(edits)
-            self.note_besides(batch, [edits[0]] if verdict.kind == REFUSED else [], report)
-            return {edits[0]: verdict}
+            self.note_besides(batch, [edits[0]] if verdict.kind in PASSED else [], report)
+            return {edits[0]: self.weighed(edits[0], verdict, report, batch)}
         found = refused_in(batch, report)
         self.note_besides(batch, found or [], report)
         rest = [it for it in edits if it not in (found or ())]
@@ -82,10 +101,17 @@ class Trials:
         else:
             # (of many goals some may go unreported)
             parts = [rest] if found else [[it] for it in rest]
-        made = dict(found or {})
+        made = {it: self.weighed(it, verdict, report, batch) for it, verdict in (found or {}).items()}
         for part in parts:
             made |= self.verdicts_of(part)
         return made
+
+    def weighed(self, edit, verdict, report, batch):
+        """The verdict, where answers were left out: a goal that had no such answer refuses the edit by itself."""
+        if edit not in self.unanswered or verdict.kind != REFUSED:
+            return verdict
+        open_goals = {it for name in batch.names_of(edit) for it in report.searched[name]}
+        return verdict._replace(kind=REFUSED if open_goals - alike(edit, self.unanswered[edit]) else WITHOUT_ANSWER)
 
     def note_besides(self, batch, refused, report):
         for edit in refused:
@@ -121,6 +147,8 @@ class Trials:
         for edit in batch.edits:
             if edit.besides and edit.has_holes:
                 self.leave_out(edit.besides, *batch.names_of(edit))
+            if edit in self.unanswered:
+                self.drop_answers(edit, batch)
         for function in hollow:
             if function.recurs:
                 shutil.rmtree(f"{self.copy}/{function.cycle_proofs}", ignore_errors=True)
@@ -147,6 +175,17 @@ class Trials:
         path = f"Rattle.{self.crate.name}.proofs.{name.replace('::', '.')}"
         text = file.read_text(encoding="utf-8") if file.is_file() else f"use {path}.Goals as goal\n"
         file.write_text(text + "".join(f"\naxiom pub {it} : goal.{it}\n" for it in goals), encoding="utf-8")
+
+    def drop_answers(self, edit, batch):
+        """Leaves out the answers that no longer fit the edit."""
+        goals = alike(edit, self.unanswered[edit])
+        folders = [f"proofs/{it.replace('::', '/')}" for it in batch.names_of(edit)]
+        folders += [it.cycle_proofs for it in edit.struck if it.recurs and edit not in batch.copies]
+        for file in (pathlib.Path(self.copy, it, "Answers.antt") for it in folders):
+            if file.is_file():
+                parts = file.read_text(encoding="utf-8").split("\n\n")
+                kept = [it for it in parts if not ((goal := OF_GOAL.search(it)) and goal[1] in goals)]
+                file.write_text("\n\n".join(kept), encoding="utf-8")
 
     def copy_proofs(self, function, name):
         """Gives a copy of a function, of this name, the proof files of the function, which name themselves by it. Of those of a cycle it gets
@@ -305,8 +344,23 @@ def refused_in(batch, report):
     struck = {beside(*it) for it in batch.controls.items()}.union(*map(batch.names_of, batch.edits))
     if not report.has_ended or report.elsewhere or {*report.own} - struck or batch.shared_cycles & report.unread_cycles:
         return None
-    goals = {it: goals_of(it, batch.names_of(it), report) for it in batch.edits if batch.is_sound(it, report)}
-    return {edit: Verdict(REFUSED, its[0]) for edit, its in goals.items() if its}
+    found = {it: refusal(it, batch.names_of(it), report) for it in batch.edits if batch.is_sound(it, report)}
+    return {edit: verdict for edit, verdict in found.items() if verdict}
+
+
+def alike(edit, goals):
+    """These goals of the functions that the edit strikes, by each name that they may have: in a cycle it begins with that of the function."""
+    names = [it.name.rpartition("::")[2] for it in edit.struck]
+    return {*goals, *(f"{name}-{it}" for name in names for it in goals), *(it.removeprefix(f"{name}-") for name in names for it in goals)}
+
+
+def refusal(edit, struck, report):
+    """The verdict where the functions of these names, which the edit strikes, are not proved; None where they are."""
+    goals = goals_of(edit, struck, report)
+    stale = [it for it in sorted(struck) if it in report.unproved and it in report.own]
+    is_by_answer = bool(stale) and len(goals) == len(stale) and all(it in report.stale for it in stale)
+    answers = tuple(goal for it in stale for goal in report.stale[it]) if is_by_answer else ()
+    return Verdict(BY_ANSWER if answers else REFUSED, goals[0], answers) if goals else None
 
 
 def goals_of(edit, struck, report):
@@ -327,9 +381,9 @@ def verdict_of(edit, report):
         at_limit = report.status == 3 and LIMITS.search(report.said)
         why = "it met a limit of the prover, which says nothing of a contract" if at_limit else f"its check ended with status {report.status}"
         return Verdict(UNSURE, f"{why}: {report.head()}")
-    goals = goals_of(edit, {it.name for it in edit.struck}, report)
-    if goals:
-        return Verdict(REFUSED, goals[0])
+    refused = refusal(edit, {it.name for it in edit.struck}, report)
+    if refused:
+        return refused
     named = [line for name, line in report.by_name.items() if not edit.struck or name in {it.name for it in edit.struck}]
     if named:
         return Verdict(BY_NAME, f"only a proof file names what it took away, so no contract refuses it: {named[0]}")
