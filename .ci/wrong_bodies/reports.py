@@ -13,7 +13,7 @@ GOAL = re.compile(r"^error: |it is not proved that|`search` found no proof")
 # A goal that no proof file answers, and that the tactics did not prove. Not each says what it is for.
 SEARCHED = re.compile(r"(?:it is not proved that .*|`search` found no proof )\(`([^`]+)`\)")
 # An answer of a proof file that does not prove its goal. It may be that the edit says the same in another way, which an answer by a term
-# does not fit ("the two types differ").
+# does not fit ("the two types differ", "but this has type").
 STALE = re.compile(r"error: `([^`]+)`: ")
 # A proof file that names what an edit took away, and what cites such a proof (rt tells these apart too).
 BY_NAME = re.compile(r"has no field|is not in scope|has no `|\(nearest: |was not admitted")
