@@ -8,6 +8,7 @@
 //   prints LINE     the line on standard output, without its line feed. Each row has it
 //   says LINE       the line on standard error, without its line feed; with no such line there is none
 //   status N        the exit status; with no such line it is 0
+//   plain LINE      the fault that plain evaluation meets first, where that is not what is printed
 //   word WORD       one word of the command line, which may be empty
 //
 // Between the rows empty lines and lines that begin with `#` are passed over. Any other line is refused, and so is a
@@ -56,6 +57,8 @@ pub struct Row<'a> {
     pub says: Option<&'a str>,
     /// The exit status.
     pub status: Option<u8>,
+    /// The fault that plain evaluation meets first, where that is not what is printed.
+    pub plain: Option<&'a str>,
 }
 
 impl Row<'_> {
@@ -65,6 +68,7 @@ impl Row<'_> {
             && self.prints.is_none()
             && self.says.is_none()
             && self.status.is_none()
+            && self.plain.is_none()
     }
 }
 
@@ -132,6 +136,7 @@ fn begun<'a>(alloc: Global, line: usize, text: &'a str) -> Result<Row<'a>, Alloc
         prints: None,
         says: None,
         status: None,
+        plain: None,
     })
 }
 
@@ -141,6 +146,7 @@ fn take_field<'a>(row: &mut Row<'a>, field: &str, text: &'a str) -> Result<bool,
         "word" => row.words.push(text)?,
         "prints" if row.prints.is_none() => row.prints = Some(text),
         "says" if row.says.is_none() => row.says = Some(text),
+        "plain" if row.plain.is_none() => row.plain = Some(text),
         "status" if row.status.is_none() => row.status = text.parse::<u8>().ok(),
         _ => return Ok(false),
     }

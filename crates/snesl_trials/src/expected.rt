@@ -1,18 +1,20 @@
 // What plain evaluation gives, and allows.
 
+ghost use Rattle.std.specs.Prelude.{◌≡◌, None, Some, IfOk, IfErr};
+
 use crate::running::Done;
 use flow_drives::Outcome;
-use snesl_data::{Datum, Refusal, text_of};
+use snesl_data::{Datum, Fault, Refusal, text_of};
 use snesl_syntax::parse;
 use snesl_types::{check, plain};
 use snesl_values::read_inputs;
 use std::alloc::{AllocError, Global};
 use std::fmt;
 
-/// What a program evaluates to for an input text: the line of its value, or no line where it ends in a fault.
+/// What a program evaluates to for an input text: the line of its value, or the fault that evaluation meets first.
 #[derive(Drop)]
 pub struct Expected {
-    line: Option<Vec<u8>>,
+    ended: Result<Vec<u8>, Fault>,
 }
 
 impl Expected {
@@ -21,18 +23,29 @@ impl Expected {
         let program = parse(alloc, program)?;
         let typed = check(alloc, &program)?;
         let inputs = read_inputs(typed.dialect(), alloc, typed.decls(), input)?;
-        let line = match plain(alloc, &typed, &inputs)? {
-            Ok(datum) => Some(line_of(alloc, &datum)?),
-            Err(_) => None,
+        let ended = match plain(alloc, &typed, &inputs)? {
+            Ok(datum) => Ok(line_of(alloc, &datum)?),
+            Err(fault) => Err(fault),
         };
-        Ok(Expected { line })
+        Ok(Expected { ended })
     }
 
     /// The line of the value, with its line feed.
     pub fn line(&self) -> Option<&[u8]> {
-        match &self.line {
-            Some(line) => Some(line),
-            None => None,
+        match &self.ended {
+            Ok(line) => Some(line),
+            Err(_) => None,
+        }
+    }
+
+    /// The fault that evaluation meets first; none where it gives a value.
+    pub fn fault(&self) -> Option<Fault>
+        ensures faulted { IfErr self.now.ended (λ fault. result ≡ Some fault) }
+        ensures none { IfOk self.now.ended (λ _. result ≡ None) }
+    {
+        match self.ended {
+            Ok(_) => None,
+            Err(fault) => Some(fault),
         }
     }
 
@@ -41,11 +54,11 @@ impl Expected {
     pub fn allows(&self, done: &Done) -> bool {
         let silent = done.written.is_empty();
         match done.ending {
-            Ok(Outcome::Value) => match &self.line {
-                Some(line) => line.as_slice() == done.written.as_slice(),
-                None => false,
+            Ok(Outcome::Value) => match &self.ended {
+                Ok(line) => line.as_slice() == done.written.as_slice(),
+                Err(_) => false,
             },
-            Ok(Outcome::Fault(_)) => silent && self.line.is_none(),
+            Ok(Outcome::Fault(_)) => silent && self.ended.is_err(),
             Ok(Outcome::Stalled { .. }) => silent,
             Err(Refusal::TooBig) => silent,
             Err(_) => false,
@@ -55,9 +68,9 @@ impl Expected {
 
 impl fmt::Display for Expected {
     fn fmt<W: fmt::Write>(&self, f: &mut fmt::Formatter<W>) -> fmt::Result {
-        match &self.line {
-            Some(line) => write!(f, "`{}`", line.escape_ascii()),
-            None => write!(f, "a fault"),
+        match &self.ended {
+            Ok(line) => write!(f, "`{}`", line.escape_ascii()),
+            Err(_) => write!(f, "a fault"),
         }
     }
 }

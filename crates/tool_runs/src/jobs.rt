@@ -2,18 +2,21 @@
 //
 // Each file whose name ends in `.jobs` is a table (`table.rt` of snesl_tables has its form). A line is printed for each job that
 // is answered otherwise than its row tells, and then how many jobs there are and how many differ. After it stands how the
-// programs of the jobs ended as networks beside their plain evaluation (`beside.rt`), and then how many worked rows there are.
+// programs of the jobs ended as networks beside their plain evaluation (`beside.rt`), which faults that meets (`faults.rt`), and then
+// how many worked rows there are.
 // How their programs end by the drives of several threads (`drives.rt`) is tried apart. It is an error where something differs,
 // where there is no table, and where a table cannot be read or has no row.
 
 mod answers;
 mod beside;
 mod drives;
+mod faults;
 
 use answers::Answers;
 use anyhow::{Context, Result, ensure};
 use beside::Beside;
 use drives::Drives;
+use faults::Faults;
 use snesl_tables::{Row, SpellingError, rows_of};
 use std::alloc::Global;
 use std::rt::Files;
@@ -48,11 +51,18 @@ pub fn try_jobs<R: Files + Print + AllocGlobal + Threads>(rt: &R, names: &[Strin
         try_table(rt, name.as_str(), &mut beside)?;
     }
     println!(rt; "{beside}")?;
+    let mut faults = Faults::none();
+    for name in names {
+        try_table(rt, name.as_str(), &mut faults)?;
+    }
+    try_table(rt, WORKED, &mut faults)?;
+    println!(rt; "{faults}")?;
     let mut worked = Answers::none();
     try_table(rt, WORKED, &mut worked)?;
     println!(rt; "worked rows: {worked}")?;
     ensure!(answers.differing == 0, "jobs are answered otherwise");
     ensure!(beside.differing == 0, "networks and evaluation differ");
+    ensure!(faults.differing == 0, "evaluation meets other faults");
     ensure!(worked.differing == 0, "worked rows are answered otherwise");
     Ok(())
 }
