@@ -18,7 +18,7 @@ use sizing::size_file;
 use snesl_data::{Counted, Refusal};
 use std::alloc::AllocError;
 use std::env;
-use std::io::{self, Read, Write};
+use std::io::{self, ErrorKind, Read, Write};
 use std::process::ExitCode;
 use std::rt::{Clock, Env, Files};
 use std::thread::Threads;
@@ -28,7 +28,10 @@ fn main(rt: HostRuntime) -> ExitCode {
     let mut err = Counted::new(rt.stderr());
     let status = match words_of(&rt) {
         Ok(words) => obeyed(&rt, &words, rt.stdin(), &mut out, &mut err),
-        Err(_) => say_plainly(Refusal::BadConfig, &mut err),
+        Err(error) if error.kind() == ErrorKind::InvalidData => {
+            say_plainly(Refusal::BadConfig, &mut err)
+        }
+        Err(_) => say_plainly(Refusal::NoMemory, &mut err),
     };
     // Where a write has failed, that was said, and no further call is made.
     if out.failures() == 0 && out.flush().is_err() {
