@@ -1,3 +1,3 @@
 pub mod Bare
-pub mod Ints
+pub mod Items
 pub mod Taking

@@ -9,7 +9,7 @@ use crate::sketches::{
     graph_of,
 };
 use flow_base::{Printing, Transducer};
-use flow_drives::{Config, Drive, DriveError, NoGate, Outcome, Rested, drive};
+use flow_drives::{Config, Drive, DriveError, NoGate, Outcome, Rested, deal, deal_rings, drive};
 use flow_networks::Graph;
 use flow_nodes::StreamNode;
 use snesl_data::{Fault, FaultKind};
@@ -69,8 +69,8 @@ fn told_of<T: Transducer + Printing>(
     })
 }
 
-// The same, of a graph that is let go.
-fn told_at_last<T: Transducer + Printing + Drop>(
+/// The same, of a graph that is let go.
+pub fn told_at_last<T: Transducer + Printing + Drop>(
     alloc: Global,
     rested: Rested<T>,
 ) -> Result<Told, AllocError> {
@@ -355,20 +355,42 @@ fn outcome_under(
     }
 }
 
-// Asserts whether this configuration is lawful, and that a drive refuses it just where it is not.
+// What a deal is refused for, if it is.
+fn refusal_of<S: Drop>(dealt: Result<Vec<S>, DriveError>) -> Option<DriveError> {
+    match dealt {
+        Ok(_) => None,
+        Err(error) => Some(error),
+    }
+}
+
+// What dealing that graph out is refused for, over boxes and over rings.
+fn refused_to_deal(
+    alloc: Global,
+    config: &Config,
+) -> Result<(Option<DriveError>, Option<DriveError>), Fail> {
+    let over_boxes = refusal_of(deal(alloc, graph_of(alloc, SUM_OF_FIVE)?, config));
+    let over_rings = refusal_of(deal_rings(alloc, graph_of(alloc, SUM_OF_FIVE)?, config));
+    Ok((over_boxes, over_rings))
+}
+
+// Asserts whether this configuration is lawful, and that a drive and a deal refuse it just where it is not.
 fn assert_lawful<R: Threads + Abort>(
     rt: &R,
     alloc: Global,
     config: &Config,
     lawful: bool,
 ) -> Result<(), Fail> {
-    let wanted = if lawful {
-        Ok(Outcome::Value)
+    let (wanted, refused) = if lawful {
+        (Ok(Outcome::Value), None)
     } else {
-        Err(DriveError::BadConfig)
+        (Err(DriveError::BadConfig), Some(DriveError::BadConfig))
     };
     let outcome = outcome_under(rt, alloc, config)?;
-    assert_eq!(rt; (config.lawful(), outcome), (lawful, wanted));
+    let dealt = refused_to_deal(alloc, config)?;
+    assert_eq!(rt;
+        (config.lawful(), outcome, dealt),
+        (lawful, wanted, (refused, refused))
+    );
     Ok(())
 }
 

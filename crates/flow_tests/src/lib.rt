@@ -26,4 +26,6 @@ mod sketches;
 #[cfg(test)]
 mod tables;
 #[cfg(test)]
+mod traffic;
+#[cfg(test)]
 mod words;

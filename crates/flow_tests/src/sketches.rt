@@ -92,6 +92,72 @@ edge 3.0 4.1
 edge 4.0 5.0
 ";
 
+/// The numbers below 70,000 and their flags.
+pub const MANY_NUMBERS: &str = r"
+node 0 source units 1
+node 0 const 70000
+node 0 iota
+node 0 sink bool
+node 0 sink int
+edge 0.0 1.0
+edge 1.0 2.0
+edge 2.0 3.0
+edge 2.1 4.0
+";
+
+/// The numbers below 12,000, each negated by eleven nodes in turn, and the text of their sum: as many nodes as there may be threads.
+pub const LONG_CHAIN: &str = r"
+node 0 source units 1
+node 0 const 12000
+node 0 iota
+node 0 unary one negate
+node 0 unary one negate
+node 0 unary one negate
+node 0 unary one negate
+node 0 unary one negate
+node 0 unary one negate
+node 0 unary one negate
+node 0 unary one negate
+node 0 unary one negate
+node 0 unary one negate
+node 0 unary one negate
+node 0 reduce one sum
+node 0 print int
+edge 0.0 1.0
+edge 1.0 2.0
+edge 2.0 14.0
+edge 2.1 3.0
+edge 3.0 4.0
+edge 4.0 5.0
+edge 5.0 6.0
+edge 6.0 7.0
+edge 7.0 8.0
+edge 8.0 9.0
+edge 9.0 10.0
+edge 10.0 11.0
+edge 11.0 12.0
+edge 12.0 13.0
+edge 13.0 14.1
+edge 14.0 15.0
+";
+
+/// The text of the sums of the numbers below 200, each up to the one before.
+pub const SCAN_OF_NUMBERS: &str = r"
+node 0 source units 1
+node 0 const 200
+node 0 iota
+node 0 fork bool 2
+node 0 scan_add one
+node 0 print seq int
+edge 0.0 1.0
+edge 1.0 2.0
+edge 2.0 3.0
+edge 2.1 4.1
+edge 3.0 4.0
+edge 3.1 5.0
+edge 4.0 5.1
+";
+
 /// The graph of a sketch, in which each port has its edge.
 pub fn graph_of(alloc: Global, sketch: &str) -> Result<Graph<StreamNode>, Fail>
     ensures { IfOk result (λ graph. AreOpened node_behaviour (states_of graph)) }

@@ -1,8 +1,8 @@
 // Both ends of an edge in one thread, by steps.
-ghost use Rattle.std.specs.Prelude.{◌≡◌, true, Some};
+ghost use Rattle.std.specs.Prelude.{◌≡◌, ◌≢◌, true, false, Some};
 ghost use Rattle.std.specs.List.{All};
-ghost use Rattle.flow_messages.specs.declared.message.Kind.TheVariants.{Int as IntKind};
-ghost use Rattle.flow_messages.specs.Signals.{signals, signal_of, orderly};
+ghost use Rattle.flow_messages.specs.declared.message.Kind.TheVariants.{Vec as VecKind};
+ghost use Rattle.flow_messages.specs.Signals.{signals, signal_of, is_stop, orderly};
 ghost use Rattle.flow_rings.specs.Edge.{IsEdge, kind_of};
 ghost use Rattle.flow_messages.specs.Kinds.{fits};
 ghost use Rattle.flow_rings.specs.Flats.{message_of, messages_of};
@@ -59,10 +59,13 @@ fn assert_goes(rt: &impl Abort, ends: (EdgeWriter, EdgeReader), steps: &[ThreadS
     }
 }
 
-// What is done at an edge of integers. A block has these numbers, and `End` after them where it closes.
+// What is done at an edge of scalars of one kind. A block has items that stand for these numbers, and `End` after them where it
+// closes.
 #[derive(Clone, Copy)]
 enum BlockStep {
+    // Over an edge of integers alone.
     One(ThreadStep),
+    Meets(Held),
     HasRoomFor(usize, bool),
     Puts(&'static [i128], bool),
     // Nothing of the block is put.
@@ -73,9 +76,23 @@ enum BlockStep {
     TakesOver(usize, &'static [i128], bool),
 }
 
-// The block of these numbers, and of `End` where it closes, as far as it has room.
-fn block(numbers: &[i128], closes: bool) -> Block
-    ensures fit { All (λ x. fits IntKind (signal_of (message_of x)) ≡ true) result.items }
+// The item of this kind that stands for a number: of truth values `false` for 0.
+fn flat(kind: Kind, number: i128) -> Flat
+    requires scalar { kind ≢ VecKind }
+    ensures fits { fits kind (signal_of (message_of result)) ≡ true }
+    ensures item { is_stop (signal_of (message_of result)) ≡ false }
+{
+    match kind {
+        Kind::Unit => Flat::Unit,
+        Kind::Bool => Flat::Bool(number != 0),
+        _ => Flat::Int(number),
+    }
+}
+
+// The block of the items of this kind that stand for these numbers, and of `End` where it closes, as far as it has room.
+fn block(kind: Kind, numbers: &[i128], closes: bool) -> Block
+    requires scalar { kind ≢ VecKind }
+    ensures fit { All (λ x. fits kind (signal_of (message_of x)) ≡ true) result.items }
     ensures last { orderly (signals (messages_of result.items)) ≡ true }
 {
     let mut block = Block::new();
@@ -83,7 +100,7 @@ fn block(numbers: &[i128], closes: bool) -> Block
         if block.is_full() {
             return block;
         }
-        block.push(Flat::Int(number));
+        block.push(flat(kind, number));
     }
     if !closes || block.is_full() {
         return block;
@@ -92,48 +109,61 @@ fn block(numbers: &[i128], closes: bool) -> Block
     block
 }
 
-// Makes a step over an edge of integers. Whether what is to come of it comes.
-fn goes_in_blocks(writer: &mut EdgeWriter, reader: &mut EdgeReader, step: BlockStep) -> bool
+// Makes a step over an edge of this kind. Whether what is to come of it comes.
+fn goes_in_blocks(
+    writer: &mut EdgeWriter,
+    reader: &mut EdgeReader,
+    kind: Kind,
+    step: BlockStep,
+) -> bool
     requires edge { IsEdge writer.old reader.old }
-    requires kind { kind_of writer.old ≡ Some IntKind }
+    requires kind { kind_of writer.old ≡ Some kind }
+    requires scalar { kind ≢ VecKind }
     ensures edge { IsEdge writer.new reader.new }
-    ensures kind { kind_of writer.new ≡ Some IntKind }
+    ensures kind { kind_of writer.new ≡ Some kind }
 {
     same_ends_are_an_edge();
     match step {
-        BlockStep::One(step) => goes(writer, reader, step),
+        BlockStep::One(step) => kind == Kind::Int && goes(writer, reader, step),
+        BlockStep::Meets(held) => meet(writer, reader) == held,
         BlockStep::HasRoomFor(count, room) => writer.room_for(count) == room,
         BlockStep::Puts(numbers, closes) => {
-            let mut block = block(numbers, closes);
+            let mut block = block(kind, numbers, closes);
             writer.put_block(&mut block) && block.is_empty()
         }
         BlockStep::IsRefused(numbers, closes) => {
-            let (mut put, kept) = (block(numbers, closes), block(numbers, closes));
+            let (mut put, kept) = (block(kind, numbers, closes), block(kind, numbers, closes));
             !writer.put_block(&mut put) && put.as_slice() == kept.as_slice()
         }
         BlockStep::Takes(most, numbers, closes) => {
             let mut taken = Block::new();
             let count = reader.take_block(&mut taken, most);
-            count == taken.len() && taken.as_slice() == block(numbers, closes).as_slice()
+            count == taken.len() && taken.as_slice() == block(kind, numbers, closes).as_slice()
         }
         BlockStep::TakesOver(most, numbers, closes) => {
             let mut taken = [Flat::End; 4];
             let count = reader.take_slice(&mut taken, most);
-            &taken[..count] == block(numbers, closes).as_slice()
+            &taken[..count] == block(kind, numbers, closes).as_slice()
         }
     }
 }
 
-// Asserts that these steps go one after another over a new edge of integers.
-fn assert_goes_in_blocks(rt: &impl Abort, ends: (EdgeWriter, EdgeReader), steps: &[BlockStep])
+// Asserts that these steps go one after another over a new edge of this kind.
+fn assert_goes_in_blocks(
+    rt: &impl Abort,
+    ends: (EdgeWriter, EdgeReader),
+    kind: Kind,
+    steps: &[BlockStep],
+)
     requires edge { IsEdge ends.0 ends.1 }
-    requires kind { kind_of ends.0 ≡ Some IntKind }
+    requires kind { kind_of ends.0 ≡ Some kind }
+    requires scalar { kind ≢ VecKind }
 {
     let (mut writer, mut reader) = ends;
     for (number, &step) in steps.iter().enumerate() {
         assert!(rt;
-            goes_in_blocks(&mut writer, &mut reader, step),
-            "step {number}"
+            goes_in_blocks(&mut writer, &mut reader, kind, step),
+            "{kind:?}, step {number}"
         );
     }
 }
@@ -174,14 +204,14 @@ const IN_BLOCKS: [BlockStep; 16] = [
     BlockStep::IsRefused(&[3], true),
     BlockStep::Puts(&[3], false),
     BlockStep::IsRefused(&[], true),
-    BlockStep::One(ThreadStep::Meets(Held { count: 3, room: 0 })),
+    BlockStep::Meets(Held { count: 3, room: 0 }),
     BlockStep::Takes(0, &[], false),
     BlockStep::Takes(2, &[1, 2], false),
     BlockStep::HasRoomFor(2, true),
     BlockStep::Puts(&[4], true),
     BlockStep::IsRefused(&[5], false),
     BlockStep::One(ThreadStep::IsRefused(Some(5), Why::Closed)),
-    BlockStep::One(ThreadStep::Meets(Held { count: 3, room: 0 })),
+    BlockStep::Meets(Held { count: 3, room: 0 }),
     BlockStep::Takes(64, &[3, 4], true),
     BlockStep::Takes(64, &[], false),
 ];
@@ -190,8 +220,25 @@ const IN_BLOCKS: [BlockStep; 16] = [
 const END_ALONE: [BlockStep; 4] = [
     BlockStep::Puts(&[1], false),
     BlockStep::IsRefused(&[], true),
-    BlockStep::One(ThreadStep::Meets(Held { count: 1, room: 0 })),
+    BlockStep::Meets(Held { count: 1, room: 0 }),
     BlockStep::Takes(64, &[1], false),
+];
+
+// The same over an edge of three of any kind: of units each number stands for the one unit.
+const OF_ANY_KIND: [BlockStep; 13] = [
+    BlockStep::HasRoomFor(3, true),
+    BlockStep::HasRoomFor(4, false),
+    BlockStep::Puts(&[1, 0], false),
+    BlockStep::IsRefused(&[1], true),
+    BlockStep::Puts(&[0], false),
+    BlockStep::IsRefused(&[], true),
+    BlockStep::Meets(Held { count: 3, room: 0 }),
+    BlockStep::Takes(2, &[1, 0], false),
+    BlockStep::Puts(&[1], true),
+    BlockStep::IsRefused(&[0], false),
+    BlockStep::Meets(Held { count: 3, room: 0 }),
+    BlockStep::Takes(64, &[0, 1], true),
+    BlockStep::Takes(64, &[], false),
 ];
 
 // Messages taken in place of others, at most four.
@@ -212,9 +259,49 @@ fn edges_of_two_and_of_one(rt: HostRuntime) -> Result<(), Fail> {
 }
 
 #[test]
-fn blocks_over_edges_of_integers(rt: HostRuntime) -> Result<(), Fail> {
-    assert_goes_in_blocks(&rt, scalar_edge(rt.alloc(), Kind::Int, 3)?, &IN_BLOCKS);
-    assert_goes_in_blocks(&rt, scalar_edge(rt.alloc(), Kind::Int, 1)?, &END_ALONE);
-    assert_goes_in_blocks(&rt, scalar_edge(rt.alloc(), Kind::Int, 3)?, &OVER_SLICES);
+fn blocks_over_edges_of_each_kind(rt: HostRuntime) -> Result<(), Fail> {
+    let alloc = rt.alloc();
+    assert_goes_in_blocks(
+        &rt,
+        scalar_edge(alloc, Kind::Int, 3)?,
+        Kind::Int,
+        &IN_BLOCKS,
+    );
+    assert_goes_in_blocks(
+        &rt,
+        scalar_edge(alloc, Kind::Int, 3)?,
+        Kind::Int,
+        &OVER_SLICES,
+    );
+    assert_goes_in_blocks(
+        &rt,
+        scalar_edge(alloc, Kind::Unit, 3)?,
+        Kind::Unit,
+        &OF_ANY_KIND,
+    );
+    assert_goes_in_blocks(
+        &rt,
+        scalar_edge(alloc, Kind::Bool, 3)?,
+        Kind::Bool,
+        &OF_ANY_KIND,
+    );
+    assert_goes_in_blocks(
+        &rt,
+        scalar_edge(alloc, Kind::Unit, 1)?,
+        Kind::Unit,
+        &END_ALONE,
+    );
+    assert_goes_in_blocks(
+        &rt,
+        scalar_edge(alloc, Kind::Bool, 1)?,
+        Kind::Bool,
+        &END_ALONE,
+    );
+    assert_goes_in_blocks(
+        &rt,
+        scalar_edge(alloc, Kind::Int, 1)?,
+        Kind::Int,
+        &END_ALONE,
+    );
     Ok(())
 }

@@ -1,8 +1,10 @@
-// The numbers of turns.
+// The numbers of turns, and how many are idle in a row.
+ghost use Rattle.std.specs.Prelude.{◌<◌};
+
 use crate::parts::pairs::second_and_first;
 use flow_base::Transducer;
 use flow_lanes::Rings;
-use flow_shares::{Gate, Share, pump};
+use flow_shares::{Gate, NoGate, Share, pump};
 use std::cell::Cell;
 use std::test::Fail;
 
@@ -84,5 +86,66 @@ fn gate_hears_each_turn_of_a_pump_by_its_number(rt: HostRuntime) -> Result<(), F
         let wanted = (pumped.calls, pumped.shares, pumped.turns);
         assert_eq!(rt; (ends, told), (Some((true, false)), wanted));
     }
+    Ok(())
+}
+
+// Counts the turns of a share, and before each of an even number has another share pumped, which takes what was put.
+#[derive(Drop)]
+struct Taker<T: Transducer> {
+    other: Cell<Option<Share<T, Rings>>>,
+    turns: Cell<usize>,
+}
+
+impl<T: Transducer + Drop> Gate for Taker<T> {
+    fn turn(&self, _: usize, turn: usize) {
+        self.turns.set(self.turns.get().wrapping_add(1));
+        if turn % 2 == 1 {
+            return;
+        }
+        if let Some(other) = self.other.replace(None)
+            && !other.starved()
+        {
+            self.other.set(Some(pump(other, 1, 1, &NoGate)));
+        }
+    }
+}
+
+// How many turns the second of two shares makes where the first takes what it puts before each other one, and whether it is
+// spent then.
+fn turns_beside<T: Transducer + Drop>(
+    mut shares: Vec<Share<T, Rings>>,
+    idle_turns: usize,
+) -> Option<(usize, bool)>
+    requires { 0 < idle_turns }
+{
+    if shares.len() != 2 {
+        return None;
+    }
+    let source = shares.swap_remove(1);
+    if source.starved() {
+        return None;
+    }
+    let taker = Taker {
+        other: Cell::new(Some(shares.swap_remove(0))),
+        turns: Cell::new(0),
+    };
+    let source = pump(source, 1, idle_turns, &taker);
+    Some((taker.turns.get(), source.spent()))
+}
+
+// Three units and an end move in turns 0, 2, 4 and 6, between which there is no room. So two idle turns never come in a row, and
+// turn 7 finds the source over.
+#[test]
+fn idle_turns_are_counted_in_a_row(rt: HostRuntime) -> Result<(), Fail> {
+    let sketch = "node 0 source units 3\nnode 0 sink unit\nedge 0.0 1.0";
+    let told = [
+        turns_beside(second_and_first(rt.alloc(), sketch)?, 1),
+        turns_beside(second_and_first(rt.alloc(), sketch)?, 2),
+        turns_beside(second_and_first(rt.alloc(), sketch)?, 3),
+    ];
+    assert_eq!(rt;
+        told,
+        [Some((2, false)), Some((8, false)), Some((8, false))]
+    );
     Ok(())
 }

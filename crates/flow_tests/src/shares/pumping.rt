@@ -3,10 +3,11 @@
 ghost use Rattle.flow_meetings.specs.SharedNetworks.{AreFed};
 ghost use Rattle.flow_drives.specs.Configs.{IsLawful};
 
-use crate::sketches::{SUM_OF_FIVE, graph_of};
+use crate::sketches::{MANY_NUMBERS, SUM_OF_FIVE, graph_of};
 use flow_base::Transducer;
 use flow_drives::{Config, Drive, NoGate, Share, deal, deal_rings, pump};
 use flow_messages::Ends;
+use kahn::Want;
 use std::alloc::{AllocError, Global};
 use std::test::Fail;
 
@@ -68,5 +69,56 @@ fn room_on_rings(alloc: Global) -> Result<Option<bool>, Fail> {
 fn shares_are_not_spent(rt: HostRuntime) -> Result<(), Fail> {
     let rooms = (room_on_boxes(rt.alloc())?, room_on_rings(rt.alloc())?);
     assert!(rt; rooms.0 == Some(false) && rooms.1.is_some());
+    Ok(())
+}
+
+// Whether no node of the share makes a step again.
+fn are_over<T: Transducer, E: Ends>(share: &Share<T, E>) -> bool {
+    for placed in share.nodes() {
+        if !matches!(placed.node().want(), Want::Ended) {
+            return false;
+        }
+    }
+    true
+}
+
+// How often the one share is pumped before it is not spent, which is at most four times, and whether its nodes have ended then.
+fn pumped_to_rest<T: Transducer + Drop, E: Ends + Drop>(
+    shares: Vec<Share<T, E>>,
+    config: &Config,
+) -> Option<(usize, bool)>
+    requires lawful { IsLawful config.now }
+{
+    let mut shares = shares;
+    if shares.len() != 1 {
+        return None;
+    }
+    let mut share = shares.swap_remove(0);
+    for pumps in 1..5usize {
+        if share.starved() {
+            return None;
+        }
+        share = pump(share, config, &NoGate);
+        if !share.spent() {
+            return Some((pumps, are_over(&share)));
+        }
+    }
+    None
+}
+
+// Some 140,000 messages, of which each turn puts one: after 65,536 turns, and as many more, a share is spent.
+#[test]
+fn a_spent_share_goes_on(rt: HostRuntime) -> Result<(), Fail> {
+    let alloc = rt.alloc();
+    let config = Config {
+        capacity: 1,
+        chunk: 1,
+        threads: 1,
+        idle: 1,
+        share: vec![in alloc; 0u8]?,
+        drive: Drive::Rings,
+    };
+    let shares = deal_rings(alloc, graph_of(alloc, MANY_NUMBERS)?, &config)?;
+    assert_eq!(rt; pumped_to_rest(shares, &config), Some((3, true)));
     Ok(())
 }
