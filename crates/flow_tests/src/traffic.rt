@@ -128,7 +128,7 @@ fn many_messages_between_sixteen_threads(rt: HostRuntime) -> Result<(), Fail> {
         let alone = sketch_driven(&rt, alloc, LONG_CHAIN, &alone)?;
         assert_eq!(rt;
             (sent_in(&alone), alone.text.as_slice()),
-            (156_021, b"-71994000".as_slice())
+            (156_020, b"-71994000".as_slice())
         );
         for drive in [Drive::Rounds, Drive::Rings] {
             let config = config(alloc, drive, 16, (capacity, 64, 64))?;
