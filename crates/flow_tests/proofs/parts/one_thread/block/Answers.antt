@@ -3,15 +3,15 @@ use Rattle.flow_tests.proofs.Items.{no_items, more_fit, more_last, more_items}
 use Rattle.flow_tests.proofs.parts.one_thread.block.Goals as goal
 
 pub loop-number-init : goal.loop-number-init
-loop-number-init c = no_items c.args.kind _ c.new-block.ensures
+loop-number-init c = no_items _ _ c.new-block.ensures
 
 pub loop-number-preserved : goal.loop-number-preserved
 loop-number-preserved c =
-    more_items c.args.kind c.loop-number.block.items _ _ c.loop-number.invariant c.push.ensures.items
+    more_items _ c.loop-number.block.items _ _ c.loop-number.invariant c.push.ensures.items
     c.flat.ensures.fits c.flat.ensures.item
 
 pub returns-clause-fit : goal.returns-clause-fit
-returns-clause-fit c = more_fit c.args.kind c.loop-number.block.items _ _ c.loop-number.invariant c.push-2.ensures.items refl
+returns-clause-fit c = more_fit _ c.loop-number.block.items _ _ c.loop-number.invariant c.push-2.ensures.items refl
 
 pub returns-clause-last : goal.returns-clause-last
-returns-clause-last c = more_last c.args.kind c.loop-number.block.items _ _ c.loop-number.invariant c.push-2.ensures.items refl
+returns-clause-last c = more_last _ c.loop-number.block.items _ _ c.loop-number.invariant c.push-2.ensures.items refl
