@@ -17,3 +17,4 @@ pub mod Lending
 pub mod Looked
 pub mod GivenBack
 pub mod Refused
+pub mod Asked

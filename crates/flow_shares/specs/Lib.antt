@@ -3,3 +3,4 @@ pub mod Shares
 pub mod Pumps
 pub mod Lending
 pub mod Looks
+pub mod Starts

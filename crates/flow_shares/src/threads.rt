@@ -1,7 +1,8 @@
 // Threads, each of which pumps a share and gives it back.
-ghost use Rattle.std.specs.Prelude.{◌≡◌, ◌<◌, ◌⊎◌, ℕ, false, map, length, slice_index_or, IfOk};
+ghost use Rattle.std.specs.Prelude.{◌≡◌, ◌<◌, ◌⊎◌, ◌++◌, ◌∷◌, [], ℕ, false, map, length, slice_index_or, IfOk, OnOk, OnErr};
 ghost use Rattle.std.specs.List.{All};
 ghost use Rattle.flow_shares.specs.Pumps.{IsPumped};
+ghost use Rattle.flow_shares.specs.Starts.{AskedForEach, AskedForFirst};
 ghost use Rattle.flow_shares.specs.declared.error.WorkError.TheVariants.{NoThread};
 
 use crate::error::WorkError;
@@ -30,7 +31,8 @@ impl<T: Transducer, E: Ends> Promise<Share<T, E>> for Pumped<T, E> {
 // A thread that was started and is still to be joined.
 type Started<T, E> = PromisedHandle<Share<T, E>, Pumped<T, E>>;
 
-// Starts a thread for the share, if it may. A share for which none could be started is let go.
+// Starts a thread for the share, once `start` was asked for this number, and if it may. A share for which none could be
+// started is let go.
 fn start_thread<
     R: Threads,
     T: Transducer + Send + Drop + 'static,
@@ -50,6 +52,7 @@ fn start_thread<
     requires idle { 0 < idle_turns }
     requires fed { share.starved ≡ false }
     ensures given { IfOk result (λ thread. thread.promise.given.value ≡ share) }
+    ensures asked { S.asked start.new ≡ S.asked start.old ++ number ∷ [] }
     ensures refused { S.refused start.new → S.refused start.old ⊎ (result ≡ Err NoThread) }
 {
     if !start.may_start(number) {
@@ -99,6 +102,10 @@ fn start_all<
     requires fed { All (λ share. share.starved ≡ false) shares.items }
     ensures given { IfOk result (λ threads. map (λ thread.
         thread.promise.given.value) threads.items ≡ shares.items) }
+    ensures asked { OnOk result (AskedForEach (length shares.items) (S.asked start.old)
+        (S.asked start.new)) }
+    ensures first { OnErr result (AskedForFirst (length shares.items) (S.asked start.old)
+        (S.asked start.new)) }
     ensures refused { S.refused start.new → S.refused start.old ⊎ (result ≡ Err NoThread) }
 {
     let mut threads = Vec::with_capacity(alloc, shares.len())?;
@@ -117,8 +124,8 @@ fn start_all<
 
 /// Runs each share in a thread of its own, all of them at once, and gives them back in order.
 ///
-/// All threads are started before any is joined, and one share gets a thread too. `start` is asked before each start.
-/// Refused as `NoThread` where it says no or a thread could not be started, and as `NoMemory` where memory was refused for
+/// All threads are started before any is joined, and one share gets a thread too. `start` is asked for each thread once, in
+/// the order of the shares and before it is started; after a refusal it is asked no more. Refused as `NoThread` where it says no or a thread could not be started, and as `NoMemory` where memory was refused for
 /// a list, or the gate has as many owners as it may. The shares are then let go.
 ///
 /// A thread that was started is joined whatever else fails. No contract can say so: a test sees it. Nor can one say that
@@ -144,6 +151,10 @@ pub fn run_all<
     ensures count { IfOk result (λ back. length back.items ≡ length shares.items) }
     ensures each { IfOk result (λ back. (k : ℕ) (d : _) → k < length shares.items →
         IsPumped (slice_index_or shares.items k d) (slice_index_or back.items k d)) }
+    ensures asked { OnOk result (AskedForEach (length shares.items) (S.asked start.old)
+        (S.asked start.new)) }
+    ensures first { OnErr result (AskedForFirst (length shares.items) (S.asked start.old)
+        (S.asked start.new)) }
     ensures refused { S.refused start.new → S.refused start.old ⊎ (result ≡ Err NoThread) }
 {
     let mut back = Vec::with_capacity(alloc, shares.len())?;

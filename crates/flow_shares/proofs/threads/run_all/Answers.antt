@@ -1,6 +1,8 @@
 use Rattle.std.proofs.Common.{◌≡◌, [], ◌∷◌, length, arith, length-append}
 use Rattle.std.proofs.lemmas.Grind.{common_steps}
+use Rattle.flow_base.proofs.Visits.{on_err}
 use Rattle.flow_shares.specs.Pumps.{IsPumped}
+use Rattle.flow_shares.proofs.Asked.{asked_none}
 use Rattle.flow_shares.proofs.GivenBack.{next_given, each_more}
 use Rattle.flow_shares.proofs.threads.run_all.Goals as goal
 
@@ -29,3 +31,6 @@ loop-thread-init g c = grind (arith, common_steps)
 
 pub returns-clause-count : goal.returns-clause-count
 returns-clause-count g c = grind (arith, common_steps)
+
+pub returns-in_err-back-clause-first : goal.returns-in_err-back-clause-first
+returns-in_err-back-clause-first g c = on_err c.from_residual.result (asked_none (length c.args.shares.items) (g.S.Start.asked c.args.start.now))
