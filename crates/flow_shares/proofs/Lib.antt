@@ -18,3 +18,4 @@ pub mod Looked
 pub mod GivenBack
 pub mod Refused
 pub mod Asked
+pub mod Heard

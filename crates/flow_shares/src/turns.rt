@@ -1,5 +1,5 @@
 // Running a share: turn after turn.
-ghost use Rattle.std.specs.Prelude.{◌≡◌, ◌<◌, true, false, [], ◌∷◌, ◌++◌, length, IfOk, OnErr};
+ghost use Rattle.std.specs.Prelude.{◌≡◌, ◌<◌, ℕ, true, false, [], ◌∷◌, ◌++◌, length, IfOk, OnErr};
 ghost use Rattle.std.specs.List.{All};
 ghost use Rattle.flow_messages.specs.Ends.{SameEnds, SameTraffic};
 ghost use Rattle.flow_networks.specs.Skeletons.{AreSamePlaces};
@@ -41,6 +41,8 @@ pub fn pump<T: Transducer, E: Ends, G: Gate>(
     ensures often { result.spent ≡ true →
         HaveMovedForTurns most_turns idle_turns share.nodes.items result.nodes.items
         (E.view share.ends) (E.view result.ends) }
+    ensures heard { result.spent ≡ true → (turn : ℕ) → turn < most_turns →
+        G.heard gate.now share.number turn }
     ensures none { length share.nodes.items ≡ 0 → result.spent ≡ false }
 {
     after_turns(share, chunk, idle_turns, gate)
@@ -79,6 +81,8 @@ fn after_turns<T: Transducer, E: Ends, G: Gate>(
     ensures often { result.spent ≡ true →
         HaveMovedForTurns most_turns idle_turns share.nodes.items result.nodes.items
         (E.view share.ends) (E.view result.ends) }
+    ensures heard { result.spent ≡ true → (turn : ℕ) → turn < most_turns →
+        G.heard gate.now share.number turn }
     ensures none { length share.nodes.items ≡ 0 → result.spent ≡ false }
 {
     let Share {
@@ -115,11 +119,12 @@ struct Turns {
     moved: bool,
 }
 
-// Calls the gate for the next turn. Its number is that of the turns made before it, which only proofs keep.
+// Tells the gate of the next turn. Its number is that of the turns made before it, which only proofs keep.
 fn begin_turn<G: Gate>(gate: &G, share: usize, turn: usize, made: &mut History<usize>)
     requires few { turn < most_turns }
     requires counted { turn ≡ length made.old.items }
-    ensures { made.new.items ≡ made.old.items ++ turn ∷ [] }
+    ensures heard { G.heard gate.now share turn }
+    ensures made { made.new.items ≡ made.old.items ++ turn ∷ [] }
 {
     gate.turn(share, turn);
     *made = made.with(&turn);
@@ -162,6 +167,8 @@ fn take_turns<T: Transducer, E: Ends, G: Gate>(
     ensures often { IfOk result (λ turns. turns.spent ≡ true →
         HaveMovedForTurns most_turns idle_turns nodes.old.items nodes.new.items (E.view ends.old)
         (E.view ends.new)) }
+    ensures heard { IfOk result (λ turns. turns.spent ≡ true → (turn : ℕ) → turn < most_turns →
+        G.heard gate.now number turn) }
     ensures none { IfOk result (λ turns. length nodes.old.items ≡ 0 → turns.spent ≡ false) }
 {
     if nodes.is_empty() {

@@ -44,5 +44,15 @@ returns-clause-often g c =
           λ spent. absurd (let no : true ≡ false = sym spent ∙ spent_is in cc))
     ]
 
+pub returns-clause-heard : goal.returns-clause-heard
+returns-clause-heard g c =
+    let back = c.match-take_turns.result in
+    elim c.match-take_turns.branch [
+      | in-Ok w ↦ (let spent_is : back.1.1.1.0 ≡ w.in-Ok.field-0.spent = λ i. (w.result-is i).1.1.1.0 in
+          λ spent. w.in-Ok.ensures.heard (sym spent_is ∙ spent))
+      | in-Err w ↦ (let spent_is : back.1.1.1.0 ≡ false = λ i. (w.result-is i).1.1.1.0 in
+          λ spent. absurd (let no : true ≡ false = sym spent ∙ spent_is in cc))
+    ]
+
 pub returns-clause-starves : goal.returns-clause-starves
 returns-clause-starves g c = grind (arith, common_steps)

@@ -2,6 +2,7 @@ use Rattle.std.proofs.lemmas.Grind.{common_steps}
 use Rattle.std.proofs.Common.{[], ◌∷◌, inl, inr, refl, sym, ◌∙◌, ap, length, arith, length-append}
 use Rattle.flow_base.proofs.Visits.{on_err}
 use Rattle.flow_shares.specs.Shares.{most_turns}
+use Rattle.flow_shares.proofs.Heard.{heard_next}
 use Rattle.flow_shares.proofs.Moves.{moved_none}
 use Rattle.flow_shares.proofs.Spares.{spared_none}
 use Rattle.flow_shares.proofs.Rounds.{turned_none, turned_end, there_now, apart_now, own_now, turn_lost, moved_last, stuck_last, turned_next, turn_spares, still_calm, busy_before, busy_last}
@@ -14,6 +15,7 @@ returns-then-is_empty-clause-moved g c = moved_none c.args.nodes.now.items (g.E.
 pub loop-turn-init : goal.loop-turn-init
 loop-turn-init g c = record {
   counted = ap length c.new-made.ensures;
+  heard = λ turn below. absurd (omega (arith, below));
   same = g.met.E.Ends.same_refl c.args.ends.now;
   turned = turned_none c.args.nodes.now.items (g.E.Ends.view c.args.ends.now) c.args.idle_turns c.requires.idle;
   busy = λ h. cc;
@@ -53,7 +55,8 @@ loop-turn-preserved g c =
     let few = c.loop-turn.invariant.turned.few in
     let now = c.if-branch.idle in
     record {
-      counted = omega (arith, ap length c.begin_turn.ensures, length-append c.loop-turn.made.items (c.loop-turn.turn ∷ []), c.loop-turn.invariant.counted);
+      counted = omega (arith, ap length c.begin_turn.ensures.made, length-append c.loop-turn.made.items (c.loop-turn.turn ∷ []), c.loop-turn.invariant.counted);
+      heard = heard_next (λ turn. g.G.Gate.heard c.args.gate.now c.args.number turn) c.loop-turn.turn c.loop-turn.invariant.heard c.begin_turn.ensures.heard;
       same = g.met.E.Ends.same_trans c.args.ends.now c.loop-turn.ends c.pass.new.ends c.loop-turn.invariant.same ensures.same;
       turned = elim c.if-branch.branch [
         | then-branch w ↦ turned_next c.loop-turn.turn c.loop-turn.idle c.args.idle_turns c.args.nodes.now.items c.loop-turn.nodes.items (view c.args.ends.now) (view c.loop-turn.ends) c.loop-turn.invariant.turned c.pass.new.nodes.items (view c.pass.new.ends) ensures.places ensures.ends ensures.moved ensures.spares c.in_ok-pass.field-0 ensures.busy ensures.stuck
@@ -75,6 +78,9 @@ pub returns-clause-often : goal.returns-clause-often
 returns-clause-often g c =
     let view = g.E.Ends.view in
     λ spent. turned_end c.loop-turn.turn c.loop-turn.idle c.args.idle_turns c.args.nodes.now.items c.loop-turn.nodes.items (view c.args.ends.now) (view c.loop-turn.ends) c.loop-turn.invariant.turned most_turns (omega arith)
+
+pub returns-clause-heard : goal.returns-clause-heard
+returns-clause-heard g c = λ spent turn below. c.loop-turn.invariant.heard turn (omega (arith, below))
 
 pub returns-then-idle-idle_turns-clause-busy : goal.returns-then-idle-idle_turns-clause-busy
 returns-then-idle-idle_turns-clause-busy g c =
