@@ -1,5 +1,6 @@
 // Epochs.
-ghost use Rattle.std.specs.Prelude.{◌≡◌, ◌+◌, ◌<◌, ◌≤◌, ◌⊎◌, IfOk};
+ghost use Rattle.std.specs.Prelude.{◌≡◌, ◌+◌, ◌<◌, ◌≤◌, ◌⊎◌, length, IfOk, OnOk};
+ghost use Rattle.flow_shares.specs.Starts.{AskedForEach, AskedAtEach};
 ghost use Rattle.flow_shares.specs.declared.error.WorkError.TheVariants.{NoThread};
 ghost use Rattle.flow_meetings.specs.Open.{AreOwners};
 ghost use Rattle.flow_meetings.specs.SharedNetworks.{SharedNetwork, AreFed};
@@ -40,6 +41,8 @@ pub fn epoch<
     requires graph { AreOfOneGraph network shares.items }
     requires fed { AreFed shares.items }
     ensures epoch { IfOk result (λ back. IsEpoch network shares.items back.items) }
+    ensures asked { OnOk result (AskedForEach (length shares.items) (S.asked start.old)
+        (S.asked start.new)) }
     ensures refused { S.refused start.new → S.refused start.old ⊎ (result ≡ Err NoThread) }
 {
     let met = meet(alloc, shares, owners)?;
@@ -86,6 +89,8 @@ pub fn run_epochs<
         moved_in network made.0.items → 0 < made.1) }
     ensures most { IfOk result (λ made. made.1 + moved_in network shares.items ≤
         moved_in network made.0.items) }
+    ensures asked { IfOk result (λ made. AskedAtEach made.1 (length shares.items)
+        (S.asked start.old) (S.asked start.new)) }
     ensures refused { S.refused start.new → S.refused start.old ⊎ (result ≡ Err NoThread) }
 {
     let mut shares = meet(alloc, shares, owners)?;

@@ -1,5 +1,6 @@
 // Rounds.
-ghost use Rattle.std.specs.Prelude.{◌≡◌, ◌+◌, ◌<◌, ◌≤◌, ◌⊎◌, length, IfOk};
+ghost use Rattle.std.specs.Prelude.{◌≡◌, ◌+◌, ◌<◌, ◌≤◌, ◌⊎◌, length, IfOk, OnOk};
+ghost use Rattle.flow_shares.specs.Starts.{AskedForEach, AskedAtEach};
 ghost use Rattle.flow_shares.specs.declared.error.WorkError.TheVariants.{NoThread};
 ghost use Rattle.flow_meetings.specs.Open.{AreOwners};
 ghost use Rattle.flow_meetings.specs.SharedNetworks.{SharedNetwork, NoneCanStep};
@@ -47,6 +48,8 @@ pub fn run_rounds<
         moved_in network (boxes_of made.0.items) → 0 < made.1) }
     ensures most { IfOk result (λ made. made.1 + moved_in network (boxes_of shares.items) ≤
         moved_in network (boxes_of made.0.items)) }
+    ensures asked { IfOk result (λ made. AskedAtEach made.1 (length shares.items)
+        (S.asked start.old) (S.asked start.new)) }
     ensures refused { S.refused start.new → S.refused start.old ⊎ (result ≡ Err NoThread) }
 {
     let mut shares = shares;
@@ -85,6 +88,8 @@ fn round<
     ensures moves { IfOk result (λ made. (NoneCanStep shares.items → ⊥) →
         moved_in network (boxes_of shares.items) < moved_in network (boxes_of made.items)) }
     ensures count { IfOk result (λ made. length made.items ≡ length shares.items) }
+    ensures asked { OnOk result (AskedForEach (length shares.items) (S.asked start.old)
+        (S.asked start.new)) }
     ensures refused { S.refused start.new → S.refused start.old ⊎ (result ≡ Err NoThread) }
 {
     let back = run_all(rt, alloc, shares, chunk, idle_turns, gate, start)?;

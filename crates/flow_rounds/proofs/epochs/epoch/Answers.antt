@@ -1,4 +1,7 @@
-use Rattle.std.proofs.Common.{rules}
+use Rattle.std.proofs.Common.{◌≡◌, length, rules, sym, ◌∙◌, ap, subst}
+use Rattle.std.proofs.lemmas.List.{length-map}
+use Rattle.flow_shares.specs.Lending.{share_nodes}
+use Rattle.flow_shares.specs.Starts.{AskedForEach}
 use Rattle.flow_meetings.specs.Open.{AreOwners}
 use Rattle.flow_meetings.specs.SharedNetworks.{AreFed}
 use Rattle.flow_rounds.specs.Epochs.{AreOfOneGraph}
@@ -35,3 +38,11 @@ returns-clause-epoch g c =
 -- a share with its rings may go to another thread
 pub run_all-requires-send-E : goal.run_all-requires-send-E
 run_all-requires-send-E g c κs within = search (rings_send, crosses, sendable) depth 60 fits 20000
+
+pub returns-clause-asked : goal.returns-clause-asked
+returns-clause-asked g c =
+    let asked = g.S.Start.asked in
+    let shares = c.args.shares.items in
+    let met = c.in_ok-met.met.items in
+    let same : length met ≡ length shares = sym (length-map met (λ share. share_nodes share)) ∙ ap length c.in_ok-met.ensures.bodies ∙ length-map shares (λ share. share_nodes share) in
+    subst (λ n. AskedForEach n (asked c.args.start.now) (asked c.run_all.new.start)) same c.in_ok-back.ensures.asked

@@ -1,5 +1,6 @@
 use Rattle.std.proofs.Common.{◌≡◌, ◌++◌, length, take, drop, sym, ◌∙◌, ap, subst, arith, rules}
 use Rattle.flow_shares.specs.declared.error.WorkError.TheVariants.{NoThread}
+use Rattle.flow_shares.proofs.Asked.{each_none, each_next}
 use Rattle.flow_shares.proofs.Refused.{none_refused}
 use Rattle.flow_meetings.specs.SharedNetworks.{AreFed, NoneCanStep, AreLookedAt}
 use Rattle.flow_meetings.proofs.Lists.{written_back}
@@ -20,6 +21,7 @@ epochs-init g c =
     let same = moved_same s given now graph (met_traffic s given now met) in
     record {
       asked = λ refused. refused;
+      asked_each = each_none (length given) (g.S.Start.asked c.args.start.now);
       later = met_later s given now met;
       graph = met.graph;
       met = met.met;
@@ -165,8 +167,11 @@ epochs-preserved g c =
     let more = epoch.moves fed steps in
     let counted = c.saturating_add-count.ensures in
     let later = subst (λ l. AreLater c.args.shares.items l) (sym back) (later_then c.args.shares.items items now was.later (met_later s items now met)) in
+    let asked = g.S.Start.asked in
     record {
       asked = λ refused. was.asked (none_refused c.in_ok-back.back NoThread c.in_ok-back.ensures.refused refused);
+      asked_each = each_next c.epochs.count c.saturating_add-count.result (length c.args.shares.items) _ (asked c.args.start.now) (asked c.epochs.start) (asked c.epoch.new.start)
+          was.asked_each c.in_ok-back.ensures.asked later.count counted;
       later = later_then _ _ _ later epoch.later;
       graph = epoch.graph;
       met = epoch.met;

@@ -1,4 +1,5 @@
-use Rattle.std.specs.Prelude.{◌+◌, ◌-◌, ◌<◌, ◌≤◌}
+use Rattle.std.specs.Prelude.{◌+◌, ◌-◌, ◌<◌, ◌≤◌, length}
+use Rattle.flow_shares.specs.Starts.{AskedAtEach}
 use Rattle.flow_meetings.specs.SharedNetworks.{AreFed}
 use Rattle.flow_rounds.specs.Epochs.{moved_in, AreLater, AreOfOneGraph, SharesHaveMet}
 use Rattle.flow_rounds.proofs.Whole.{most_moved}
@@ -14,6 +15,7 @@ ghost-epoch g a = g.network
 abbrev pub invariant-epochs : goal.invariant-epochs
 invariant-epochs g l = record {
   asked : g.S.Start.refused l.start → g.S.Start.refused l.fn.start;
+  asked_each : AskedAtEach l.count (length l.fn.shares.items) (g.S.Start.asked l.fn.start) (g.S.Start.asked l.start);
   later : AreLater l.fn.shares.items l.shares.items;
   graph : AreOfOneGraph g.network l.shares.items;
   met : SharesHaveMet g.network l.shares.items;

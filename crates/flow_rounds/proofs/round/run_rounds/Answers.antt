@@ -1,5 +1,6 @@
-use Rattle.std.proofs.Common.{◌≡◌, ◌++◌, length, take, drop, refl, sym, ◌∙◌, ap, subst, arith}
+use Rattle.std.proofs.Common.{◌≡◌, ◌++◌, length, take, drop, refl, sym, ◌∙◌, ap, subst, arith, rules}
 use Rattle.flow_shares.specs.declared.error.WorkError.TheVariants.{NoThread}
+use Rattle.flow_shares.proofs.Asked.{each_none, each_next}
 use Rattle.flow_shares.proofs.Refused.{none_refused}
 use Rattle.flow_meetings.specs.SharedNetworks.{NoneCanStep, AreLookedAt}
 use Rattle.flow_meetings.proofs.Lists.{written_back}
@@ -8,6 +9,18 @@ use Rattle.flow_rounds.proofs.Rounds.{rests, left_falls}
 use Rattle.flow_rounds.proofs.Shares.{all_stuck}
 use Rattle.flow_rounds.proofs.RoundLooked.{stands_looked, moved_looked}
 use Rattle.flow_rounds.proofs.round.run_rounds.Goals as goal
+
+pub rounds-init : goal.rounds-init
+rounds-init g c =
+    let stand : StandBetweenRounds g.network c.args.shares.items = search rules in
+    record {
+      asked = λ refused. refused;
+      asked_each = each_none (length c.args.shares.items) (g.S.Start.asked c.args.start.now);
+      stand = stand;
+      count = refl;
+      least = λ some. absurd (omega (arith, some));
+      most = omega arith;
+    }
 
 pub round-requires : goal.round-requires
 round-requires g c κs within =
@@ -91,8 +104,12 @@ rounds-preserved g c =
     let same = ap (λ l. moved_in s (boxes_of l)) back ∙ moved_looked s refl (λ a b keeps. keeps) items now was.stand looked in
     let moved = c.in_ok-shares.ensures.moves (λ none. let no = sym (c.are_stuck.ensures.stuck.1 (subst (λ l. NoneCanStep l) back none)) ∙ c.if-are_stuck.false in cc) in
     let counted = c.saturating_add-count.ensures in
+    let asked = g.S.Start.asked in
+    let many : length (take c.rounds.shares.len (now ++ drop (length now) items)) ≡ length c.args.shares.items = ap length back ∙ looked.count ∙ was.count in
     record {
       asked = λ refused. was.asked (none_refused c.in_ok-shares.shares NoThread c.in_ok-shares.ensures.refused refused);
+      asked_each = each_next c.rounds.count c.saturating_add-count.result (length c.args.shares.items) _ (asked c.args.start.now) (asked c.rounds.start) (asked c.round.new.start)
+          was.asked_each c.in_ok-shares.ensures.asked many counted;
       stand = c.in_ok-shares.ensures.stand;
       count = c.in_ok-shares.ensures.count ∙ ap length back ∙ looked.count ∙ was.count;
       least = λ some. omega (arith, counted);

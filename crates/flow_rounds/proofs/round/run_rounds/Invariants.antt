@@ -1,4 +1,5 @@
 use Rattle.std.specs.Prelude.{◌≡◌, ◌+◌, ◌-◌, ◌<◌, ◌≤◌, length}
+use Rattle.flow_shares.specs.Starts.{AskedAtEach}
 use Rattle.flow_rounds.specs.Standing.{StandBetweenRounds, boxes_of, moved_in}
 use Rattle.flow_rounds.proofs.Rounds.{most_moved}
 use Rattle.flow_rounds.proofs.round.run_rounds.Given as goal
@@ -10,6 +11,7 @@ ghost-round g a = g.network
 abbrev pub invariant-rounds : goal.invariant-rounds
 invariant-rounds g l = record {
   asked : g.S.Start.refused l.start → g.S.Start.refused l.fn.start;
+  asked_each : AskedAtEach l.count (length l.fn.shares.items) (g.S.Start.asked l.fn.start) (g.S.Start.asked l.start);
   stand : StandBetweenRounds g.network l.shares.items;
   count : length l.shares.items ≡ length l.fn.shares.items;
   least : moved_in g.network (boxes_of l.fn.shares.items) < moved_in g.network (boxes_of l.shares.items) → 0 < l.count;
