@@ -55,3 +55,4 @@ pub use Rattle.flow_networks.specs.Laws
 pub use Rattle.flow_networks.specs.Schedules
 pub use Rattle.flow_messages.specs.Blocks
 pub use Rattle.flow_messages.specs.Kinds
+pub mod Starts

@@ -7,6 +7,7 @@ ghost use Rattle.flow_drives.specs.Configs.{IsLawful, StartsThreads, IsInSteps};
 ghost use Rattle.flow_drives.specs.Driven.{HasNetworkOf, EndsRunOf};
 ghost use Rattle.flow_drives.specs.Drives.{EndsMaximalRun};
 ghost use Rattle.flow_drives.specs.Epochs.{TookRounds, TookEpochs};
+ghost use Rattle.flow_drives.specs.Starts.{AskedBy};
 ghost use Rattle.flow_drives.specs.Refusals.{drive_error_of};
 ghost use Rattle.flow_drives.specs.Resteds.{rested_states, rested_edges, rested_capacity, rested_rounds, rested_epochs, rested_share, rested_shares, moves_of, traffic_of, IsOverRings};
 ghost use Rattle.flow_drives.specs.declared.config.Drive.TheVariants.{Rings};
@@ -111,11 +112,11 @@ pub fn drive<
     ensures shares { StartsThreads config.now.drive
         → IfOk result (λ rested. rested_shares rested ≡ config.now.threads) }
 {
-    drive_with(rt, alloc, graph, config, gate, &mut AlwaysStart)
+    drive_with(rt, alloc, graph, config, gate, &mut AlwaysStart::new())
 }
 
 /// The same, where `start` is asked before each thread is started, and may refuse it: then the drive is refused as
-/// `NoThread`.
+/// `NoThread`. In each round and each epoch it is asked for each thread once, in order; `Serial` asks it nothing.
 pub fn drive_with<
     R: Threads,
     T: Transducer + Send + Drop + 'static,
@@ -146,6 +147,8 @@ pub fn drive_with<
         → IfOk result (λ rested. rested_share rested ≡ config.now.share.items) }
     ensures shares { StartsThreads config.now.drive
         → IfOk result (λ rested. rested_shares rested ≡ config.now.threads) }
+    ensures asked { IfOk result (λ rested. AskedBy config.now.drive (rested_rounds rested)
+        (rested_epochs rested) config.now.threads (S.asked start.old) (S.asked start.new)) }
     ensures refused { S.refused start.new → S.refused start.old ⊎ (result ≡ Err NoThread) }
 {
     if !config.lawful() {

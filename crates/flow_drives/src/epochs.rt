@@ -1,5 +1,6 @@
 // Epochs as configurations say.
-ghost use Rattle.std.specs.Prelude.{◌≡◌, ◌⊎◌, Err, IfOk, IfErr};
+ghost use Rattle.std.specs.Prelude.{◌≡◌, ◌⊎◌, length, Err, IfOk, IfErr, OnOk};
+ghost use Rattle.flow_shares.specs.Starts.{AskedForEach};
 ghost use Rattle.flow_meetings.specs.SharedNetworks.{SharedNetwork, AreFed};
 ghost use Rattle.flow_rounds.specs.Epochs.{AreOfOneGraph, IsEpoch};
 ghost use Rattle.flow_drives.specs.Configs.{IsLawful};
@@ -38,10 +39,10 @@ pub fn epoch<
     ensures epoch { IfOk result (λ back. IsEpoch network shares.items back.items) }
     ensures refused { IfErr result (λ error. (error ≡ NoMemory) ⊎ (error ≡ NoThread)) }
 {
-    epoch_with(rt, alloc, shares, config, gate, &mut AlwaysStart)
+    epoch_with(rt, alloc, shares, config, gate, &mut AlwaysStart::new())
 }
 
-/// The same, where `start` is asked before each thread is started, and may refuse it.
+/// The same, where `start` is asked before each thread is started, for each once and in order, and may refuse it.
 pub fn epoch_with<
     R: Threads,
     T: Transducer + Send + Drop + 'static,
@@ -61,6 +62,8 @@ pub fn epoch_with<
     requires fed { AreFed shares.items }
     ensures epoch { IfOk result (λ back. IsEpoch network shares.items back.items) }
     ensures refused { IfErr result (λ error. (error ≡ NoMemory) ⊎ (error ≡ NoThread)) }
+    ensures asked { OnOk result (AskedForEach (length shares.items) (S.asked start.old)
+        (S.asked start.new)) }
     ensures start { S.refused start.new → S.refused start.old ⊎ (result ≡ Err NoThread) }
 {
     let owners = owners_of_shares(alloc, &shares)?;

@@ -7,6 +7,7 @@ ghost use Rattle.flow_networks.specs.Places.{states_in};
 ghost use Rattle.flow_networks.specs.Shapes.{IsSameNetwork};
 ghost use Rattle.flow_meetings.specs.Open.{AreOwners};
 ghost use Rattle.flow_meetings.specs.SharedNetworks.{SharedNetwork, AreFed};
+ghost use Rattle.flow_shares.specs.Starts.{AskedAtEach};
 ghost use Rattle.flow_shares.specs.declared.error.WorkError.TheVariants.{NoThread};
 ghost use Rattle.flow_rounds.specs.Epochs.{moved_in, AreOfOneGraph};
 ghost use Rattle.flow_drives.specs.Configs.{IsLawful};
@@ -57,6 +58,8 @@ pub fn drive_rings<
     ensures rings { IfOk result (λ rested. IsOverRings rested) }
     ensures share { IfOk result (λ rested. rested_share rested ≡ config.now.share.items) }
     ensures shares { IfOk result (λ rested. rested_shares rested ≡ config.now.threads) }
+    ensures asked { IfOk result (λ rested. AskedAtEach (rested_epochs rested) config.now.threads
+        (S.asked start.old) (S.asked start.new)) }
     ensures refused { S.refused start.new → S.refused start.old ⊎ (result ≡ Err NoThread) }
 {
     let (origin, dealt) = deal_out(alloc, graph, config)?;
@@ -95,6 +98,8 @@ fn run_dealt<
     ensures rings { IfOk result (λ rested. IsOverRings rested) }
     ensures share { IfOk result (λ rested. rested_share rested ≡ network.share) }
     ensures shares { IfOk result (λ rested. rested_shares rested ≡ length dealt.shares.items) }
+    ensures asked { IfOk result (λ rested. AskedAtEach (rested_epochs rested) (length dealt.shares.items)
+        (S.asked start.old) (S.asked start.new)) }
     ensures refused { S.refused start.new → S.refused start.old ⊎ (result ≡ Err NoThread) }
 {
     let Dealt {

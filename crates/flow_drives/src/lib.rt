@@ -25,6 +25,7 @@ pub use driver::{DriveError, drive, drive_with};
 pub use epochs::{epoch, epoch_with};
 pub use flow_base::{Printing, Transducer};
 pub use flow_boxes::Boxes;
+pub use flow_history::History;
 pub use flow_lanes::Rings;
 pub use flow_meetings::are_fed;
 pub use flow_messages::Ends;

@@ -1,7 +1,8 @@
 use Rattle.std.proofs.Common.{◌≡◌, subst}
 use Rattle.std.specs.Prelude.{IfOk}
 use Rattle.flow_rounds.proofs.EpochBegins.{dealt_graph, dealt_fed, dealt_none}
-use Rattle.flow_drives.specs.Resteds.{rested_share, rested_shares}
+use Rattle.flow_shares.specs.Starts.{AskedAtEach}
+use Rattle.flow_drives.specs.Resteds.{rested_epochs, rested_share, rested_shares}
 use Rattle.flow_drives.proofs.joined.drive_rings.Goals as goal
 
 pub run_dealt-requires : goal.run_dealt-requires
@@ -22,3 +23,8 @@ returns-clause-share g c = subst (λ share. IfOk c.run_dealt.result (λ rested. 
 
 pub returns-clause-shares : goal.returns-clause-shares
 returns-clause-shares g c = subst (λ n. IfOk c.run_dealt.result (λ rested. rested_shares rested ≡ n)) c.in_ok-origin.ensures.dealt.count c.run_dealt.ensures.shares
+
+pub returns-clause-asked : goal.returns-clause-asked
+returns-clause-asked g c =
+    let asked = g.S.Start.asked in
+    subst (λ n. IfOk c.run_dealt.result (λ rested. AskedAtEach (rested_epochs rested) n (asked c.args.start.now) (asked c.run_dealt.new.start))) c.in_ok-origin.ensures.dealt.count c.run_dealt.ensures.asked

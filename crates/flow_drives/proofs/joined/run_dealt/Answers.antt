@@ -101,6 +101,7 @@ returns-in_err-shares g c =
       rings = nothing_made r _ _ h;
       share = nothing_made r _ _ h;
       shares = nothing_made r _ _ h;
+      asked = nothing_made r _ _ h;
       refused = search rules;
     }
 
@@ -117,5 +118,6 @@ returns-in_err-places g c =
       rings = nothing_made r _ _ h;
       share = nothing_made r _ _ h;
       shares = nothing_made r _ _ h;
+      asked = nothing_made r _ _ h;
       refused = λ now. inl (none_refused _ NoThread c.in_ok-shares.ensures.refused now);
     }

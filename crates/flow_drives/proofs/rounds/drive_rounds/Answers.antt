@@ -4,7 +4,8 @@ use Rattle.flow_networks.specs.Graphs.{states_of, edges_of}
 use Rattle.flow_networks.specs.Networks.{AreOpened}
 use Rattle.flow_rounds.proofs.RoundBegins.{dealt_stand, dealt_none}
 use Rattle.flow_drives.specs.Drives.{EndsMaximalRun}
-use Rattle.flow_drives.specs.Resteds.{rested_states, rested_share, rested_shares, traffic_of}
+use Rattle.flow_shares.specs.Starts.{AskedAtEach}
+use Rattle.flow_drives.specs.Resteds.{rested_rounds, rested_states, rested_share, rested_shares, traffic_of}
 use Rattle.flow_drives.proofs.rounds.drive_rounds.Goals as goal
 
 pub run_dealt-requires : goal.run_dealt-requires
@@ -30,3 +31,8 @@ returns-clause-share g c = subst (λ share. IfOk c.run_dealt.result (λ rested. 
 
 pub returns-clause-shares : goal.returns-clause-shares
 returns-clause-shares g c = subst (λ n. IfOk c.run_dealt.result (λ rested. rested_shares rested ≡ n)) c.in_ok-origin.ensures.dealt.count c.run_dealt.ensures.shares
+
+pub returns-clause-asked : goal.returns-clause-asked
+returns-clause-asked g c =
+    let asked = g.S.Start.asked in
+    subst (λ n. IfOk c.run_dealt.result (λ rested. AskedAtEach (rested_rounds rested) n (asked c.args.start.now) (asked c.run_dealt.new.start))) c.in_ok-origin.ensures.dealt.count c.run_dealt.ensures.asked

@@ -97,6 +97,7 @@ returns-in_err-shares g c =
       rings = nothing_made r _ _ h;
       share = nothing_made r _ _ h;
       shares = nothing_made r _ _ h;
+      asked = nothing_made r _ _ h;
       refused = search rules;
     }
 
@@ -114,5 +115,6 @@ returns-in_err-graph g c =
       rings = nothing_made r _ _ h;
       share = nothing_made r _ _ h;
       shares = nothing_made r _ _ h;
+      asked = nothing_made r _ _ h;
       refused = λ now. inl (none_refused _ NoThread c.in_ok-shares.ensures.refused now);
     }
