@@ -6,6 +6,8 @@ ghost use Rattle.flow_nodes.specs.StreamNodes.{node_behaviour};
 ghost use Rattle.flow_networks.specs.Graphs.{states_of, edges_of};
 ghost use Rattle.flow_networks.specs.Networks.{AreOpened};
 ghost use Rattle.flow_drives.specs.Configs.{IsLawful};
+ghost use Rattle.flow_drives.specs.Resteds.{rested_rounds, rested_epochs};
+ghost use Rattle.flow_drives.specs.Starts.{AskedBy};
 ghost use Rattle.snesl_network.specs.Driven.{CameToRest, WasRefused};
 ghost use Rattle.snesl_network.specs.Meant.{IsMeantFor, HasNoNetwork};
 ghost use Rattle.snesl_network.specs.NodesAtRest.{final_view};
@@ -53,10 +55,19 @@ pub fn drive_program<R: Threads, G: Gate + Send + Sync + Drop + 'static>(
     ensures refused { IfErr result (WasRefused program.now input.now config.now) }
     ensures config { (IsLawful config.now → ⊥) → result ≡ Err BadConfig }
 {
-    drive_program_with(rt, alloc, program, input, config, gate, &mut AlwaysStart)
+    drive_program_with(
+        rt,
+        alloc,
+        program,
+        input,
+        config,
+        gate,
+        &mut AlwaysStart::new(),
+    )
 }
 
-/// The same, where `start` is asked before each thread is started. Where it refuses one, that is answered as `NoThread`.
+/// The same, where `start` is asked before each thread is started, in each round and each epoch for each thread once, in
+/// order. Where it refuses one, that is answered as `NoThread`.
 pub fn drive_program_with<R: Threads, G: Gate + Send + Sync + Drop + 'static, S: Start>(
     rt: &R,
     alloc: Global,
@@ -71,6 +82,8 @@ pub fn drive_program_with<R: Threads, G: Gate + Send + Sync + Drop + 'static, S:
     ensures drive { IfOk result (λ rested. WasDrivenBy config.now.drive rested) }
     ensures refused { IfErr result (WasRefused program.now input.now config.now) }
     ensures config { (IsLawful config.now → ⊥) → result ≡ Err BadConfig }
+    ensures asked { IfOk result (λ rested. AskedBy config.now.drive (rested_rounds rested)
+        (rested_epochs rested) config.now.threads (S.asked start.old) (S.asked start.new)) }
     ensures start { S.refused start.new → S.refused start.old ⊎ (result ≡ Err NoThread) }
 {
     if !config.lawful() {
@@ -113,6 +126,8 @@ fn driven<R: Threads, G: Gate + Send + Sync + Drop + 'static, S: Start>(
     ensures refused { (text input : List ℕ)
         → IsMeantFor text input (states_of graph) (edges_of graph)
         → IfErr result (WasRefused text input config.now) }
+    ensures asked { IfOk result (λ rested. AskedBy config.now.drive (rested_rounds rested)
+        (rested_epochs rested) config.now.threads (S.asked start.old) (S.asked start.new)) }
     ensures start { S.refused start.new → S.refused start.old ⊎ (result ≡ Err NoThread) }
 {
     flow_is_carried(&graph);

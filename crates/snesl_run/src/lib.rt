@@ -7,7 +7,7 @@ pub mod report;
 pub mod runs;
 
 pub use answers::answer;
-pub use flow_drives::{AlwaysStart, Config, Drive, Gate, NoGate, Outcome, Rested, Start};
+pub use flow_drives::{AlwaysStart, Config, Drive, Gate, History, NoGate, Outcome, Rested, Start};
 pub use laws::{cuts_change_nothing, one_outcome};
 pub use report::{Report, RunError};
 pub use runs::{run, run_with};

@@ -3,6 +3,8 @@
 ghost use Rattle.std.specs.Prelude.{◌≡◌, ◌++◌, ◌∷◌, ◌⊎◌, IfErr, IfOk, []};
 ghost use Rattle.snesl_data.specs.declared.refusal.Refusal.TheVariants.{BadConfig, NoMemory, NoThread};
 ghost use Rattle.flow_drives.specs.Configs.{IsLawful};
+ghost use Rattle.flow_drives.specs.Resteds.{rested_rounds, rested_epochs};
+ghost use Rattle.flow_drives.specs.Starts.{AskedBy};
 ghost use Rattle.snesl_console.specs.Streams.{write_effect};
 ghost use Rattle.snesl_run.specs.Alike.{IsTheOneWay};
 ghost use Rattle.snesl_run.specs.Runs.{IsReported, HasWritten, IsErrorOf, IsRefusedWith};
@@ -66,11 +68,12 @@ pub fn run<R: Threads, W: Write, G: Gate + Send + Sync + Drop + 'static>(
         config,
         gate,
         out,
-        &mut AlwaysStart,
+        &mut AlwaysStart::new(),
     )
 }
 
-/// The same, where `start` is asked before each thread is started. Where it refuses one, that is answered as `NoThread`.
+/// The same, where `start` is asked before each thread is started, in each round and each epoch for each thread once, in
+/// order. Where it refuses one, that is answered as `NoThread`.
 pub fn run_with<R: Threads, W: Write, G: Gate + Send + Sync + Drop + 'static, S: Start>(
     rt: &R,
     alloc: Global,
@@ -88,6 +91,8 @@ pub fn run_with<R: Threads, W: Write, G: Gate + Send + Sync + Drop + 'static, S:
         (IsErrorOf program.now input.now config.now (write_effect W.contents out.old out.new)) }
     ensures config { (IsLawful config.now → ⊥) → IsRefusedWith BadConfig result }
     ensures one { IfOk result (IsTheOneWay program.now input.now config.now) }
+    ensures asked { IfOk result (λ report. AskedBy config.now.drive (rested_rounds report.rested)
+        (rested_epochs report.rested) config.now.threads (S.asked start.old) (S.asked start.new)) }
     ensures start { S.refused start.new → S.refused start.old ⊎ IsRefusedWith NoThread result }
 {
     one_outcome();
