@@ -1,5 +1,6 @@
 -- How a network came out that was driven until no node could step.
-use Rattle.std.specs.Prelude.{ℕ, List, Some}
+use Rattle.std.specs.Prelude.{◌≡◌, ◌++◌, ℕ, List, Some}
+use Rattle.flow_drives.specs.Starts.{each_again}
 use Rattle.flow_networks.specs.Configurations.{Configuration, IsSound}
 use Rattle.flow_networks.specs.Networks.{network_of}
 use Rattle.flow_networks.specs.Outcome.{Outcome}
@@ -15,3 +16,7 @@ pub record CameOutAs {S : Type 0} (b : Behaviour S) (states : List S) (edges : L
   pub sound : ∥ IsSound b.process (network_of b states edges) end ∥₁
   pub rest : AtRest b.process (network_of b states edges) (Some capacity) end
   pub comes_out : HasOutcome b.process (network_of b states edges) capacity end outcome
+
+-- a start was asked for so many threads in turn, as often as there were epochs
+abbrev pub AskedInTurn : (threads : ℕ) → (before after : List ℕ) → Type 0
+AskedInTurn threads before after = (epochs : ℕ) × (after ≡ before ++ each_again epochs threads)

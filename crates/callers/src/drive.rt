@@ -1,11 +1,14 @@
 // Networks that run in threads.
-ghost use Rattle.std.specs.Prelude.{◌≡◌, ◌⊎◌, IfErr, IfOk};
+ghost use Rattle.std.specs.Prelude.{◌≡◌, ◌⊎◌, [], true, false, Err, IfErr, IfOk};
 ghost use Rattle.flow_networks.specs.Graphs.{states_of, edges_of};
 ghost use Rattle.flow_networks.specs.Networks.{AreOpened};
+ghost use Rattle.flow_drives.specs.declared.config.Drive.TheVariants.{Rings};
 ghost use Rattle.flow_drives.specs.declared.driver.DriveError.TheVariants.{NoMemory, NoThread};
-ghost use Rattle.callers.specs.Drive.{CameOutAs};
+ghost use Rattle.callers.specs.Drive.{CameOutAs, AskedInTurn};
 
-use flow_drives::{Config, Drive, DriveError, NoGate, Outcome, drive, rested_is_sound};
+use flow_drives::{
+    Config, Drive, DriveError, History, NoGate, Outcome, Start, drive, drive_with, rested_is_sound,
+};
 use flow_networks::Graph;
 use flow_scalar::Transducer;
 use std::alloc::{AllocError, Global};
@@ -36,4 +39,67 @@ pub fn outcome_on_two_threads<R: Threads, T: Transducer + Send + Drop + 'static>
     let rested = drive(rt, alloc, graph, &config, gate)?;
     rested_is_sound(&rested);
     Ok(rested.outcome())
+}
+
+/// Lets some threads start, and no more after them.
+#[derive(Drop)]
+pub struct SomeStarts {
+    left: usize,
+    said_no: bool,
+    // What it was asked, which only proofs keep.
+    asked: History<usize>,
+}
+
+impl SomeStarts {
+    /// It lets so many threads start.
+    pub fn new(left: usize) -> SomeStarts
+        ensures left { result.left ≡ left }
+        ensures said { result.said_no ≡ false }
+        ensures asked { result.asked.items ≡ [] }
+    {
+        SomeStarts {
+            left,
+            said_no: false,
+            asked: History::new(),
+        }
+    }
+}
+
+impl Start for SomeStarts {
+    ghost refused = { λ start. start.said_no ≡ true };
+
+    ghost asked = { λ start. start.asked.items };
+
+    fn may_start(&mut self, thread: usize) -> bool {
+        self.asked = self.asked.with(&thread);
+        if self.left == 0 {
+            self.said_no = true;
+            return false;
+        }
+        self.left -= 1;
+        true
+    }
+}
+
+/// How a network came out, where only some threads may be started.
+///
+/// Where one more was wanted, the error is `NoThread`.
+pub fn outcome_of_some_starts<R: Threads, T: Transducer + Send + Drop + 'static>(
+    rt: &R,
+    alloc: Global,
+    graph: Graph<T>,
+    config: &Config,
+    start: &mut SomeStarts,
+) -> Result<Outcome, DriveError>
+    requires { AreOpened T.behaviour (states_of graph) }
+    ensures asked { IfOk result (λ _. config.now.drive ≡ Rings →
+        AskedInTurn config.now.threads start.old.asked.items start.new.asked.items) }
+    ensures refused { start.new.said_no ≡ true →
+        (start.old.said_no ≡ true) ⊎ (result ≡ Err NoThread) }
+{
+    let gate = Arc::new(alloc, NoGate).map_err(AllocError::from)?;
+    match drive_with(rt, alloc, graph, config, gate, start) {
+        Ok(rested) => Ok(rested.outcome()),
+        Err(error) => Err(error),
+    }
 }

@@ -3,7 +3,7 @@ ghost use Rattle.flow_networks.specs.Graphs.{states_of};
 ghost use Rattle.flow_networks.specs.Networks.{AreOpened};
 ghost use Rattle.snesl_flatten.specs.StreamNodes.{node_behaviour};
 
-use callers::drive::outcome_on_two_threads;
+use callers::drive::{SomeStarts, outcome_of_some_starts, outcome_on_two_threads};
 use callers::edges::messages;
 use callers::flatten::network_of;
 use callers::graph::carried;
@@ -13,11 +13,12 @@ use callers::segment::printed;
 use callers::syntax::is_program;
 use callers::types::value_of;
 use callers::values::value_text;
-use flow_drives::{DriveError, Outcome};
+use flow_drives::{Drive, DriveError, Outcome};
 use flow_edges::{Item, Kind, Msg};
 use flow_networks::Graph;
 use flow_scalar::{Node, Sink, Source, Stream};
 use snesl_flatten::StreamNode;
+use snesl_trials::in_threads;
 use snesl_values::{FaultKind, Refusal, Ty, text_of};
 use std::alloc::Global;
 use std::test::Fail;
@@ -112,5 +113,29 @@ fn driven(rt: &impl Threads, alloc: Global, graph: Graph<StreamNode>) -> Result<
 fn two_threads_drive_a_network(rt: HostRuntime) -> Result<(), Fail> {
     let graph = network_of(rt.alloc(), SUM, b"")?;
     assert_eq!(rt; driven(&rt, rt.alloc(), graph)?, Outcome::Value);
+    Ok(())
+}
+
+// How two threads leave the network of a program, where only so many starts are allowed.
+fn driven_by_some(
+    rt: &impl Threads,
+    alloc: Global,
+    graph: Graph<StreamNode>,
+    left: usize,
+) -> Result<Outcome, DriveError>
+    requires { AreOpened node_behaviour (states_of graph) }
+{
+    let config = in_threads(alloc, Drive::Rings, 256, 2, &[0, 1])?;
+    outcome_of_some_starts(rt, alloc, graph, &config, &mut SomeStarts::new(left))
+}
+
+#[test]
+fn a_caller_refuses_starts(rt: HostRuntime) -> Result<(), Fail> {
+    let graph = network_of(rt.alloc(), SUM, b"")?;
+    let all = driven_by_some(&rt, rt.alloc(), graph, usize::MAX)?;
+    assert_eq!(rt; all, Outcome::Value);
+    let graph = network_of(rt.alloc(), SUM, b"")?;
+    let one = driven_by_some(&rt, rt.alloc(), graph, 1);
+    assert_eq!(rt; one, Err(DriveError::NoThread));
     Ok(())
 }
