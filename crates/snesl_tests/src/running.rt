@@ -29,7 +29,15 @@ pub fn ran_over<G: Gate + Send + Sync + Drop + 'static>(
     gate: Arc<G, Global>,
     trouble: Trouble,
 ) -> Ran {
-    ran_with(rt, alloc, program, config, gate, trouble, &mut AlwaysStart)
+    ran_with(
+        rt,
+        alloc,
+        program,
+        config,
+        gate,
+        trouble,
+        &mut AlwaysStart::new(),
+    )
 }
 
 /// The same, where starts of threads may be refused.

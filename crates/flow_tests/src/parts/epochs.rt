@@ -30,7 +30,7 @@ fn run_bare<
     requires ends { All (λ share. HasNoEnds (ends_of share.ends)) shares.items }
     ensures { IfOk result (λ made. length made.0.items ≡ length shares.items) }
 {
-    run_epochs(rt, alloc, shares, &[], 1, 1, gate, &mut AlwaysStart)
+    run_epochs(rt, alloc, shares, &[], 1, 1, gate, &mut AlwaysStart::new())
 }
 
 // The numbers of two shares that are pumped once, in threads.
@@ -46,7 +46,7 @@ fn run_once<
 ) -> Result<Option<(usize, usize)>, WorkError>
     requires { All (λ share. share.starved ≡ false) shares.items }
 {
-    let back = run_all(rt, alloc, shares, 1, 1, gate, &mut AlwaysStart)?;
+    let back = run_all(rt, alloc, shares, 1, 1, gate, &mut AlwaysStart::new())?;
     Ok(numbers_of(&back))
 }
 

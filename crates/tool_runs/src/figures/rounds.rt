@@ -25,7 +25,7 @@ pub fn idle_rounds<R: Clock + AllocGlobal + Threads>(
     let start = Instant::now(rt)?;
     for _ in 0..rounds {
         let shares = bare_shares(alloc, threads)?;
-        run_all(rt, alloc, shares, 1, 1, &gate, &mut AlwaysStart)?;
+        run_all(rt, alloc, shares, 1, 1, &gate, &mut AlwaysStart::new())?;
     }
     Ok(start.elapsed(rt)?)
 }
