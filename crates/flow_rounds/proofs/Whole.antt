@@ -1,5 +1,5 @@
 -- A whole epoch: the ends of every edge meet, all shares are pumped, and the ends meet again.
-use Rattle.std.proofs.Common.{◌≡◌, ℕ, ◌+◌, ◌-◌, ◌<◌, ◌≤◌, List, [], length, get_or, Some, ◌⊎◌, inl, inr, refl, sym, ◌∙◌, ap, subst, arith}
+use Rattle.std.proofs.Common.{◌≡◌, ℕ, ◌+◌, ◌-◌, ◌<◌, ◌≤◌, List, [], ◌++◌, length, get_or, true, false, Some, ◌⊎◌, inl, inr, refl, sym, ◌∙◌, ap, subst, arith}
 use Rattle.std.proofs.lemmas.Bool.{cases_lt}
 use Rattle.std.specs.List.{All}
 use native.Mathlib.Bridge.{le_prop}
@@ -14,6 +14,8 @@ use Rattle.flow_messages.specs.Ends.{View, SameTraffic}
 use Rattle.flow_messages.specs.declared.ends.Ends.{Ghosts as EndsGhosts}
 use Rattle.flow_base.specs.Transducers.{BehaviourLaws}
 use Rattle.flow_base.specs.declared.transducer.Transducer.{Ghosts}
+use Rattle.flow_base.specs.Visits.{edge_of}
+use Rattle.flow_networks.specs.declared.placed.Placed.{Placed}
 use Rattle.flow_networks.specs.Places.{placed_state, states_in}
 use Rattle.flow_networks.specs.Skeletons.{AreSamePlaces}
 use Rattle.flow_networks.proofs.Nets.{lawful_net}
@@ -21,7 +23,8 @@ use Rattle.flow_lanes.specs.declared.rings.Rings.{Rings}
 use Rattle.flow_lanes.specs.Rings.{SameRings}
 use Rattle.flow_lanes.specs.SameEnds.{same_rings_refl, same_rings_trans}
 use Rattle.flow_shares.specs.declared.share.Share.{Share}
-use Rattle.flow_shares.specs.Shares.{IsOwn, Grows, AreStuck}
+use Rattle.kahn.specs.Processes.{reads, writes}
+use Rattle.flow_shares.specs.Shares.{inputs_of, outputs_of, IsOwn, Grows, AreStuck, HaveMoved, HaveMovedAndLost}
 use Rattle.flow_shares.specs.Pumps.{IsPumped}
 use Rattle.flow_shares.specs.Lending.{ShareNodes}
 use Rattle.flow_shares.proofs.Calm.{stuck_before}
@@ -45,11 +48,38 @@ same_then : (a b c : View) → SameTraffic a b → SameTraffic b c → SameTraff
 same_then a b c p q = record { sent = λ e. q.sent e ∙ p.sent e; received = λ e. q.received e ∙ p.received e }
 
 -- what grew from b to c grew from a to d
-grows_between : (a b c d : View) → SameTraffic a b → Grows b c → SameTraffic c d → Grows a d
+pub grows_between : (a b c d : View) → SameTraffic a b → Grows b c → SameTraffic c d → Grows a d
 grows_between a b c d p g q = record {
   received = λ e. subst (λ xs. Begins xs (d.received e)) (p.received e) (subst (λ ys. Begins (b.received e) ys) (sym (q.received e)) (g.received e));
   sent = λ e. subst (λ xs. Begins xs (d.sent e)) (p.sent e) (subst (λ ys. Begins (b.sent e) ys) (sym (q.sent e)) (g.sent e));
 }
+
+-- and so did the nodes that moved from b to c
+module _ {X : Type 0} {t : Ghosts X} (nodes later : List (Placed X t)) (a b c d : View) (p : SameTraffic a b) (q : SameTraffic c d) where
+  pub moved_between : HaveMoved nodes later b c → HaveMoved nodes later a d
+  moved_between m = record {
+    history = m.history;
+    does = m.does;
+    received = λ k i x l port. q.received (edge_of (inputs_of (get_or nodes k x)) i) ∙ m.received k i x l port ∙ ap (λ xs. xs ++ reads i (m.history k)) (p.received (edge_of (inputs_of (get_or nodes k x)) i));
+    sent = λ k i x l port. q.sent (edge_of (outputs_of (get_or nodes k x)) i) ∙ m.sent k i x l port ∙ ap (λ xs. xs ++ writes i (m.history k)) (p.sent (edge_of (outputs_of (get_or nodes k x)) i));
+    other_received = λ e none. q.received e ∙ m.other_received e none ∙ p.received e;
+    other_sent = λ e none. q.sent e ∙ m.other_sent e none ∙ p.sent e;
+  }
+
+  pub lost_between : HaveMovedAndLost nodes later b c → HaveMovedAndLost nodes later a d
+  lost_between m = record {
+    history = m.history;
+    lost = m.lost;
+    does = m.does;
+    received = λ k i x l port. (
+        let e = edge_of (inputs_of (get_or nodes k x)) i in
+        let came : List Signal → List Signal → Type 0 = λ before after. Begins (before ++ reads i (m.history k)) after × (length after ≤ length (before ++ reads i (m.history k)) + 1) × ((e ≡ m.lost → ⊥) → after ≡ before ++ reads i (m.history k)) in
+        subst (λ xs. came xs (d.received e)) (p.received e) (subst (λ ys. came (b.received e) ys) (sym (q.received e)) (m.received k i x l port))
+        );
+    sent = λ k i x l port. q.sent (edge_of (outputs_of (get_or nodes k x)) i) ∙ m.sent k i x l port ∙ ap (λ xs. xs ++ writes i (m.history k)) (p.sent (edge_of (outputs_of (get_or nodes k x)) i));
+    other_received = λ e none. q.received e ∙ m.other_received e none ∙ p.received e;
+    other_sent = λ e none. q.sent e ∙ m.other_sent e none ∙ p.sent e;
+  }
 
 module _ {X : Type 0} {t : Ghosts X} {u : EndsGhosts Rings} (network : SharedNetwork t) where
   -- shares whose ends have met are sound, where memory was refused to none
@@ -159,6 +189,33 @@ module _ {X : Type 0} {t : Ghosts X} {u : EndsGhosts Rings} (network : SharedNet
         let at_mid : s < length mid = omega (arith, l, mid_count) in
         grows_between _ _ _ _ (met_traffic shares mid first s l) (grows same_is network mid pumped count each first.graph s at_mid) (met_traffic pumped back second s (omega (arith, at_mid, count)))
 
+    -- what a pump made of a share, the epoch made of it
+    of_pump : (Q : List (Placed X t) → List (Placed X t) → View → View → Type 0)
+        → ((nodes later : List (Placed X t)) (a b c d : View) → SameTraffic a b → SameTraffic c d → Q nodes later b c → Q nodes later a d)
+        → (s : ℕ) (d : Share X Rings t u) → s < length shares
+        → Q (get_or mid s d).nodes.items (get_or pumped s d).nodes.items (u.view (get_or mid s d).ends) (u.view (get_or pumped s d).ends)
+        → Q (get_or shares s d).nodes.items (get_or back s d).nodes.items (view_at shares s) (view_at back s)
+    of_pump Q between s d l of =
+        let at_mid : s < length mid = omega (arith, l, mid_count) in
+        let at_pumped : s < length pumped = omega (arith, at_mid, count) in
+        let before = ap (λ (x : ShareNodes t). x.nodes) (same_body shares mid first.bodies s d l) in
+        let after = ap (λ (x : ShareNodes t). x.nodes) (same_body pumped back second.bodies s d at_pumped) in
+        between (get_or shares s d).nodes.items (get_or back s d).nodes.items (view_at shares s) (view_at mid s) (view_at pumped s) (view_at back s) (met_traffic shares mid first s l) (met_traffic pumped back second s at_pumped)
+        (subst (λ n. Q n (get_or back s d).nodes.items (view_at mid s) (view_at pumped s)) before
+        (subst (λ n. Q (get_or mid s d).nodes.items n (view_at mid s) (view_at pumped s)) (sym after)
+        (subst (λ v. Q (get_or mid s d).nodes.items (get_or pumped s d).nodes.items v (view_at pumped s)) (sym (view_is mid s d at_mid))
+        (subst (λ v. Q (get_or mid s d).nodes.items (get_or pumped s d).nodes.items (u.view (get_or mid s d).ends) v) (sym (view_is pumped s d at_pumped)) of))))
+
+    -- a share starved where its pump did
+    starved_at : (s : ℕ) (d : Share X Rings t u) → s < length shares → (get_or back s d).starved ≡ (get_or pumped s d).starved
+    starved_at s d l = ap (λ (x : ShareNodes t). x.starved) (same_body pumped back second.bodies s d (omega (arith, l, mid_count, count)))
+
+    went : (s : ℕ) (d : Share X Rings t u) → s < length shares → (get_or back s d).starved ≡ false → HaveMoved (get_or shares s d).nodes.items (get_or back s d).nodes.items (view_at shares s) (view_at back s)
+    went s d l fed = of_pump HaveMoved moved_between s d l ((each s d (omega (arith, l, mid_count))).moved (sym (starved_at s d l) ∙ fed))
+
+    lost : (s : ℕ) (d : Share X Rings t u) → s < length shares → (get_or back s d).starved ≡ true → HaveMovedAndLost (get_or shares s d).nodes.items (get_or back s d).nodes.items (view_at shares s) (view_at back s)
+    lost s d l starved = of_pump HaveMovedAndLost lost_between s d l ((each s d (omega (arith, l, mid_count))).lost (sym (starved_at s d l) ∙ starved))
+
     module _ (fed : AreFed back) where
       fed_pumped : AreFed pumped
       fed_pumped s d l = sym (ap (λ (x : ShareNodes t). x.starved) (same_body pumped back second.bodies s d l)) ∙ fed s d (omega (arith, l, back_count))
@@ -236,6 +293,8 @@ module _ {X : Type 0} {t : Ghosts X} {u : EndsGhosts Rings} (network : SharedNet
       graph = second.graph;
       met = second.met;
       grown = grown;
+      went = went;
+      lost = lost;
       sound = stands_sound back second.met;
       calm = calm;
       busy = busy;

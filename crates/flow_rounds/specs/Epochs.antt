@@ -1,5 +1,5 @@
 -- Shares over rings before and after an epoch.
-use Rattle.std.specs.Prelude.{◌≡◌, ℕ, ◌<◌, true, List, length, map, Some, slice_index_or}
+use Rattle.std.specs.Prelude.{◌≡◌, ℕ, ◌<◌, true, false, List, length, map, Some, slice_index_or}
 use Rattle.kahn.specs.Configurations.{Configuration, IsSound}
 use Rattle.kahn.specs.Runs.{AtRest}
 use Rattle.flow_messages.specs.Signals.{Signal}
@@ -13,7 +13,7 @@ use Rattle.flow_meetings.specs.RingMeetings.{RingsJoin, ring_slots}
 use Rattle.flow_shares.specs.Deals.{share_of, AreDealt}
 use Rattle.flow_shares.specs.declared.share.Share.{Share}
 use Rattle.flow_shares.specs.Lending.{share_nodes}
-use Rattle.flow_shares.specs.Shares.{Grows}
+use Rattle.flow_shares.specs.Shares.{Grows, HaveMoved, HaveMovedAndLost}
 use Rattle.flow_meetings.specs.Joints.{states_in_shares}
 use Rattle.flow_meetings.specs.RoundTheorems.{net_of}
 use Rattle.flow_meetings.specs.EndTheorems.{EdgesHaveMet, end_configuration}
@@ -91,6 +91,12 @@ module _ {X : Type 0} {t : Ghosts X} {u : EndsGhosts Rings} where
       pub met : SharesHaveMet network back
       -- what each share sent and received is what it had, and what came after
       pub grown : (s : ℕ) → s < length shares → Grows (view_at shares s) (view_at back s)
+      -- each node of a share went on by reads and writes of its own, which are just what came to its edges; where memory was
+      -- refused to the share, one message at most was received that no node read
+      pub went : (s : ℕ) (d : Share X Rings t u) → s < length shares → (slice_index_or back s d).starved ≡ false
+          → HaveMoved (slice_index_or shares s d).nodes.items (slice_index_or back s d).nodes.items (view_at shares s) (view_at back s)
+      pub lost : (s : ℕ) (d : Share X Rings t u) → s < length shares → (slice_index_or back s d).starved ≡ true
+          → HaveMovedAndLost (slice_index_or shares s d).nodes.items (slice_index_or back s d).nodes.items (view_at shares s) (view_at back s)
       -- where memory was refused to none, they stand sound
       pub sound : AreFed back → StandSound network back
       -- and the pumps tell whether a message was sent or received
