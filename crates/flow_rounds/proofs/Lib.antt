@@ -9,11 +9,13 @@ pub mod RoundGathers
 pub mod After
 pub mod RoundBegins
 pub mod RoundLooked
+pub mod RoundsFollow
 pub mod ShareLists
 pub mod EpochMeets
 pub mod Pumps
 pub mod EpochLooked
 pub mod Whole
+pub mod Following
 pub mod Few
 pub mod EpochBegins
 pub mod EpochGathers

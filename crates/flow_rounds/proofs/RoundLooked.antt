@@ -103,7 +103,7 @@ module _ {X : Type 0} {t : Ghosts X} {u : EndsGhosts Boxes} (network : SharedNet
   }
 
   -- that is as after a meeting
-  looked_met : HaveMetSince network shares after
+  pub looked_met : HaveMetSince network shares after
   looked_met = record {
     numbers = of_bodies (λ (b : ShareNodes t). b.number);
     nodes = of_bodies (λ (b : ShareNodes t). b.nodes);

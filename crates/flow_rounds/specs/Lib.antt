@@ -1,4 +1,5 @@
 pub mod Standing
 pub mod Epochs
 pub mod Few
+pub mod Rounds
 pub mod Owners

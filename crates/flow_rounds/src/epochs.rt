@@ -5,6 +5,7 @@ ghost use Rattle.flow_shares.specs.declared.error.WorkError.TheVariants.{NoThrea
 ghost use Rattle.flow_meetings.specs.Open.{AreOwners};
 ghost use Rattle.flow_meetings.specs.SharedNetworks.{SharedNetwork, AreFed};
 ghost use Rattle.flow_rounds.specs.Epochs.{moved_in, AreLater, AreOfOneGraph, SharesHaveMet, StandSound, StandAtRest, IsEpoch};
+ghost use Rattle.flow_rounds.specs.Few.{EpochsLead};
 
 use crate::epoch_meeting::meet;
 use flow_base::Transducer;
@@ -54,7 +55,8 @@ pub fn epoch<
 /// Runs shares in epochs, as long as a node can step where the ends of every edge have met. The shares, and how many epochs
 /// there were; the count stays at the greatest `u64`.
 ///
-/// There are no more epochs than messages were sent and received, and one at least where any was.
+/// Each epoch begins where a node can step, and moves a message: there are no more epochs than messages were sent and
+/// received, and one at least where any was.
 ///
 /// Refused as `NoThread` where a thread could not be started or `start` said no, and as `NoMemory` where memory was
 /// refused, to a node too. The shares are then let go.
@@ -85,6 +87,8 @@ pub fn run_epochs<
     ensures fed { IfOk result (λ made. AreFed made.0.items) }
     ensures sound { IfOk result (λ made. StandSound network made.0.items) }
     ensures rest { IfOk result (λ made. StandAtRest network made.0.items) }
+    ensures epochs { IfOk result (λ made.
+        EpochsLead network shares.items made.0.items made.1) }
     ensures least { IfOk result (λ made. moved_in network shares.items <
         moved_in network made.0.items → 0 < made.1) }
     ensures most { IfOk result (λ made. made.1 + moved_in network shares.items ≤

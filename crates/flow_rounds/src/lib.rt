@@ -5,7 +5,7 @@
 //! [`run_rounds`] makes rounds as long as a node can step. What all shares did is one run of the graph's network, whatever
 //! the threads did at what time.
 //!
-//! Over rings each edge is one ring, whose two ends lie in the shares of its writer and its reader. In an [`epoch`] the ends
+//! Over rings each edge is one lane, whose two ends lie in the shares of its writer and its reader. In an [`epoch`] the ends
 //! of every edge meet, each share is pumped in a thread, all of them side by side, and then the ends meet again. Within an
 //! epoch messages pass between the threads as they come, so that what all shares did need not be a run whose steps came one
 //! after another; but where the ends have met, the shares stand at a sound configuration of the graph's network (G. Kahn,

@@ -3,7 +3,8 @@ ghost use Rattle.std.specs.Prelude.{◌≡◌, ◌+◌, ◌<◌, ◌≤◌, ◌�
 ghost use Rattle.flow_shares.specs.Starts.{AskedForEach, AskedAtEach};
 ghost use Rattle.flow_shares.specs.declared.error.WorkError.TheVariants.{NoThread};
 ghost use Rattle.flow_meetings.specs.Open.{AreOwners};
-ghost use Rattle.flow_meetings.specs.SharedNetworks.{SharedNetwork, NoneCanStep};
+ghost use Rattle.flow_meetings.specs.SharedNetworks.{SharedNetwork};
+ghost use Rattle.flow_rounds.specs.Rounds.{IsRound, RoundsLead};
 ghost use Rattle.flow_rounds.specs.Standing.{boxes_of, moved_in, StandBetweenRounds, RestBetweenRounds};
 
 use crate::round_meeting::meet;
@@ -18,7 +19,8 @@ use std::thread::Threads;
 /// Runs shares in rounds, as long as a node can step. The shares, and how many rounds there were; the count stays at the
 /// greatest `u64`.
 ///
-/// There are no more rounds than messages were sent and received, and one at least where any was.
+/// Each round begins where a node can step, and moves a message: there are no more rounds than messages were sent and
+/// received, and one at least where any was.
 ///
 /// Refused as `NoThread` where a thread could not be started or `start` said no, and as `NoMemory` where memory was
 /// refused, to a node too. The shares are then let go.
@@ -44,6 +46,8 @@ pub fn run_rounds<
     requires stand { StandBetweenRounds network shares.items }
     ensures rest { IfOk result (λ made. RestBetweenRounds network made.0.items) }
     ensures count { IfOk result (λ made. length made.0.items ≡ length shares.items) }
+    ensures rounds { IfOk result (λ made.
+        RoundsLead network shares.items made.0.items made.1) }
     ensures least { IfOk result (λ made. moved_in network (boxes_of shares.items) <
         moved_in network (boxes_of made.0.items) → 0 < made.1) }
     ensures most { IfOk result (λ made. made.1 + moved_in network (boxes_of shares.items) ≤
@@ -84,9 +88,7 @@ fn round<
     requires idle { 0 < idle_turns }
     requires owners { AreOwners network.share network.edges owners.now }
     requires stand { StandBetweenRounds network shares.items }
-    ensures stand { IfOk result (λ made. StandBetweenRounds network made.items) }
-    ensures moves { IfOk result (λ made. (NoneCanStep shares.items → ⊥) →
-        moved_in network (boxes_of shares.items) < moved_in network (boxes_of made.items)) }
+    ensures round { IfOk result (λ made. IsRound network shares.items made.items) }
     ensures count { IfOk result (λ made. length made.items ≡ length shares.items) }
     ensures asked { OnOk result (AskedForEach (length shares.items) (S.asked start.old)
         (S.asked start.new)) }

@@ -8,6 +8,8 @@ use Rattle.flow_rounds.specs.Epochs.{moved_in, AreLater, AreOfOneGraph, SharesHa
 use Rattle.flow_rounds.proofs.ShareLists.{fed_stay}
 use Rattle.flow_rounds.proofs.EpochLooked.{looked_met}
 use Rattle.flow_rounds.proofs.Whole.{stands_sound, stands_at_rest, moved_same, met_traffic, met_later, left_falls, later_then}
+use Rattle.flow_rounds.proofs.Following.{lead_since, lead_on, none_lead}
+use Rattle.flow_rounds.specs.Few.{EpochsLead}
 use Rattle.flow_rounds.proofs.epochs.run_epochs.Goals as goal
 
 pub epochs-init : goal.epochs-init
@@ -26,6 +28,7 @@ epochs-init g c =
       graph = met.graph;
       met = met.met;
       fed = fed_stay given now met.bodies fed;
+      led = none_lead s given now met;
       least = λ some. absurd (omega (arith, some, same));
       most = omega (arith, same);
     }
@@ -111,6 +114,17 @@ returns-then-are_stuck-clause-rest g c =
     let met : HaveMetSince s items now = looked_met (λ a b same. same) s items now was.graph was.met looked in
     subst (λ l. StandAtRest s l) (sym back) (stands_at_rest s now met.met (c.are_stuck.ensures.stuck.0 c.if-are_stuck.true))
 
+pub returns-then-are_stuck-clause-epochs : goal.returns-then-are_stuck-clause-epochs
+returns-then-are_stuck-clause-epochs g c =
+    let s = g.network in
+    let was = c.epochs.invariant in
+    let items = c.epochs.shares.items in
+    let now = c.are_stuck.new.shares in
+    let looked = subst (λ l. AreLookedAt l now) c.deref_mut.ensures.value c.are_stuck.ensures.looked in
+    let back : take c.epochs.shares.len (now ++ drop (length now) items) ≡ now = written_back now items c.epochs.shares.len looked.count (omega (arith, c.epochs.shares.ok.0)) in
+    let met : HaveMetSince s items now = looked_met (λ a b same. same) s items now was.graph was.met looked in
+    subst (λ l. EpochsLead s c.args.shares.items l c.epochs.count) (sym back) (lead_since s c.args.shares.items items now c.epochs.count was.led met (fed_stay items now met.bodies was.fed))
+
 pub returns-then-are_stuck-clause-least : goal.returns-then-are_stuck-clause-least
 returns-then-are_stuck-clause-least g c =
     let s = g.network in
@@ -166,6 +180,7 @@ epochs-preserved g c =
     let epoch = c.in_ok-back.ensures.epoch in
     let more = epoch.moves fed steps in
     let counted = c.saturating_add-count.ensures in
+    let led = subst (λ l. EpochsLead s c.args.shares.items l c.epochs.count) (sym back) (lead_since s c.args.shares.items items now c.epochs.count was.led met (fed_stay items now met.bodies was.fed)) in
     let later = subst (λ l. AreLater c.args.shares.items l) (sym back) (later_then c.args.shares.items items now was.later (met_later s items now met)) in
     let asked = g.S.Start.asked in
     record {
@@ -176,6 +191,7 @@ epochs-preserved g c =
       graph = epoch.graph;
       met = epoch.met;
       fed = fed;
+      led = lead_on s c.args.shares.items _ c.in_ok-back.back.items c.epochs.count _ led steps epoch fed (omega (arith, counted));
       least = λ some. omega (arith, counted);
       most = omega (arith, same, more, was.most, counted);
     }

@@ -2,6 +2,7 @@ use Rattle.std.specs.Prelude.{◌+◌, ◌-◌, ◌<◌, ◌≤◌, length}
 use Rattle.flow_shares.specs.Starts.{AskedAtEach}
 use Rattle.flow_meetings.specs.SharedNetworks.{AreFed}
 use Rattle.flow_rounds.specs.Epochs.{moved_in, AreLater, AreOfOneGraph, SharesHaveMet}
+use Rattle.flow_rounds.specs.Few.{EpochsLead}
 use Rattle.flow_rounds.proofs.Whole.{most_moved}
 use Rattle.flow_rounds.proofs.epochs.run_epochs.Given as goal
 
@@ -20,6 +21,7 @@ invariant-epochs g l = record {
   graph : AreOfOneGraph g.network l.shares.items;
   met : SharesHaveMet g.network l.shares.items;
   fed : AreFed l.shares.items;
+  led : EpochsLead g.network l.fn.shares.items l.shares.items l.count;
   least : moved_in g.network l.fn.shares.items < moved_in g.network l.shares.items → 0 < l.count;
   most : l.count + moved_in g.network l.fn.shares.items ≤ moved_in g.network l.shares.items;
 }

@@ -17,22 +17,19 @@ meet-requires g c =
     let linked = still_linked refl (λ a b same. same) shares back c.in_ok-back.ensures.count c.in_ok-back.ensures.each fed s.share s.edges s.nodes s.capacity s.fit stand.deals stand.met in
     λ κs sub. (search rules, (owners, (linked, fed)))
 
-pub returns-clause-stand : goal.returns-clause-stand
-returns-clause-stand g c =
+pub returns-clause-round : goal.returns-clause-round
+returns-clause-round g c =
     let s = g.network in
     let shares = c.args.shares.items in
     let back = c.in_ok-back.back.items in
     let stand : StandBetweenRounds s shares = search rules in
     let fed = subst (λ l. AreFed l) c.deref.ensures.value (c.are_fed.ensures.0 c.if-not-are_fed.false) in
     let laws = (g.met.T.Transducer g.world.𝓛 g.world.𝓜 g.world.𝓡 ((λ s x. x), (λ x. x), (λ x. x), λ x. x)).laws in
-    stands_after laws s refl (λ a b same. same) shares back c.in_ok-met.met.items stand c.in_ok-back.ensures.count c.in_ok-back.ensures.each fed c.in_ok-met.ensures
-
-pub returns-clause-moves : goal.returns-clause-moves
-returns-clause-moves g c =
-    let s = g.network in
-    let shares = c.args.shares.items in
-    let back = c.in_ok-back.back.items in
-    let stand : StandBetweenRounds s shares = search rules in
-    let fed = subst (λ l. AreFed l) c.deref.ensures.value (c.are_fed.ensures.0 c.if-not-are_fed.false) in
-    let laws = (g.met.T.Transducer g.world.𝓛 g.world.𝓜 g.world.𝓡 ((λ s x. x), (λ x. x), (λ x. x), λ x. x)).laws in
-    moves_after laws s refl (λ a b same. same) shares back c.in_ok-met.met.items stand c.in_ok-back.ensures.count c.in_ok-back.ensures.each fed c.in_ok-met.ensures
+    record {
+      pumped = back;
+      count = c.in_ok-back.ensures.count;
+      each = c.in_ok-back.ensures.each;
+      met = c.in_ok-met.ensures;
+      stand = stands_after laws s refl (λ a b same. same) shares back c.in_ok-met.met.items stand c.in_ok-back.ensures.count c.in_ok-back.ensures.each fed c.in_ok-met.ensures;
+      moves = moves_after laws s refl (λ a b same. same) shares back c.in_ok-met.met.items stand c.in_ok-back.ensures.count c.in_ok-back.ensures.each fed c.in_ok-met.ensures;
+    }

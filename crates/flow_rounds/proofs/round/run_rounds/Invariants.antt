@@ -1,6 +1,7 @@
 use Rattle.std.specs.Prelude.{◌≡◌, ◌+◌, ◌-◌, ◌<◌, ◌≤◌, length}
 use Rattle.flow_shares.specs.Starts.{AskedAtEach}
 use Rattle.flow_rounds.specs.Standing.{StandBetweenRounds, boxes_of, moved_in}
+use Rattle.flow_rounds.specs.Rounds.{RoundsLead}
 use Rattle.flow_rounds.proofs.Rounds.{most_moved}
 use Rattle.flow_rounds.proofs.round.run_rounds.Given as goal
 
@@ -14,6 +15,7 @@ invariant-rounds g l = record {
   asked_each : AskedAtEach l.count (length l.fn.shares.items) (g.S.Start.asked l.fn.start) (g.S.Start.asked l.start);
   stand : StandBetweenRounds g.network l.shares.items;
   count : length l.shares.items ≡ length l.fn.shares.items;
+  led : RoundsLead g.network l.fn.shares.items l.shares.items l.count;
   least : moved_in g.network (boxes_of l.fn.shares.items) < moved_in g.network (boxes_of l.shares.items) → 0 < l.count;
   most : l.count + moved_in g.network (boxes_of l.fn.shares.items) ≤ moved_in g.network (boxes_of l.shares.items);
 }
