@@ -144,6 +144,7 @@ module _ {X : Type 0} {t : Ghosts X} {u : EndsGhosts Rings} (laws : BehaviourLaw
       } ∣₁;
       built = built_apart laws network.edges network.nodes network.fit network.share dealt graph.deals places (known graph.deals);
       joined = ∣ record { writers = rested.writers; readers = rested.readers; joined = rested.joined; met = rested.met } ∣₁;
+      slots = graph.capacity;
       sound = subst (λ net. ∥ IsSound t.behaviour.process net where_they_stand ∥₁) (sym same.network) rested.sound;
       rest = subst (λ net. AtRest t.behaviour.process net (Some network.capacity) where_they_stand) (sym same.network) rested.rest;
     }

@@ -18,7 +18,7 @@ use Rattle.flow_drives.specs.declared.parts.Parts.{Parts}
 use Rattle.flow_drives.specs.declared.parts.Parts.TheVariants.{Together, Apart}
 use Rattle.flow_drives.specs.declared.rested.Rested.{Rested}
 use Rattle.flow_drives.specs.declared.ring_shares.RingShares.{RingShares}
-use Rattle.flow_drives.specs.Apart.{HaveStates, traffic_apart}
+use Rattle.flow_drives.specs.Apart.{HaveSlots, HaveStates, traffic_apart}
 use Rattle.flow_drives.specs.Drives.{IsSoundAt, RestsAt}
 use Rattle.flow_drives.specs.Edges.{AreJoined}
 use Rattle.flow_drives.specs.Parts.{states_at, edges_at, traffic_at, capacity_at, share_at, shares_at, AreApart}
@@ -62,5 +62,6 @@ module _ {X : Type 0} {t : Ghosts X} where
     nodes = subst (λ (parts : Parts X t). ∥ HaveStates (share_at parts) (edges_at parts) (nodes_in shares.shares.items) (states_at parts) ∥₁) (sym is) shares.rest.nodes;
     traffic = ap (λ (parts : Parts X t). traffic_at parts) is ∙ sym (ap (λ (parts : Parts X t). traffic_apart (share_at parts) (edges_at parts) shares.shares.items) is);
     joined = subst (λ (parts : Parts X t). ∥ AreJoined ends_of (share_at parts) (edges_at parts) (ends_in shares.shares.items) RingsJoin (capacity_at parts) ∥₁) (sym is) shares.rest.joined;
+    slots = subst (λ (parts : Parts X t). HaveSlots (share_at parts) (edges_at parts) (ends_in shares.shares.items) (capacity_at parts)) (sym is) shares.rest.slots;
     fed = shares.rest.fed;
   }

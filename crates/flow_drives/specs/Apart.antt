@@ -5,6 +5,7 @@ use Rattle.flow_messages.specs.Ends.{View}
 use Rattle.flow_messages.specs.declared.ends.Ends.{Ghosts as EndsGhosts}
 use Rattle.flow_base.specs.declared.transducer.Transducer.{Ghosts}
 use Rattle.flow_networks.specs.declared.edge.Edge.{Edge}
+use Rattle.flow_networks.specs.Edges.{edge_at}
 use Rattle.flow_networks.specs.declared.placed.Placed.{Placed}
 use Rattle.flow_networks.specs.Kept.{IsBuilt}
 use Rattle.flow_networks.specs.Skeletons.{FitTogether}
@@ -12,7 +13,7 @@ use Rattle.flow_networks.specs.Networks.{state_at}
 use Rattle.flow_networks.specs.Places.{states_in}
 use Rattle.flow_lanes.specs.declared.rings.Rings.{Rings}
 use Rattle.flow_lanes.specs.Rings.{ends_of}
-use Rattle.flow_meetings.specs.RingMeetings.{RingsJoin}
+use Rattle.flow_meetings.specs.RingMeetings.{RingsJoin, ring_slots}
 use Rattle.flow_shares.specs.Deals.{share_of, AreDealt}
 use Rattle.flow_shares.specs.declared.share.Share.{Share}
 use Rattle.flow_meetings.specs.Joints.{nodes_at, AreStates}
@@ -48,6 +49,11 @@ module _ {X : Type 0} {t : Ghosts X} where
       pub shares : (k : ℕ) → k < length places → share_of share k < length dealt
       pub inside : (k : ℕ) → k < length places → slice_index_or places k 0 < length (nodes_at dealt (share_of share k))
 
+-- the ring of each of these edges has so many slots, as its writer's end says
+abbrev pub HaveSlots : (share : List ℕ) → List Edge → List Rings → ℕ → Type 0
+HaveSlots share edges ends capacity =
+    (e : ℕ) (d : Rings) → e < length edges → ring_slots (slice_index_or ends (share_of share (edge_at edges e).writer) d) e ≡ capacity
+
 -- each node that was dealt out to these shares lies at the place that the list names
 abbrev pub AreThePlaces : {X Y : Type 0} {t : Ghosts X} {u : EndsGhosts Y} → SharedNetwork t → List (Share X Y t u) → List ℕ → Type 0
 AreThePlaces network shares places = (deals : AreDealt network.share network.nodes (nodes_in shares)) → AreItsPlaces network.share network.nodes (nodes_in shares) deals places
@@ -71,5 +77,7 @@ module _ {X : Type 0} {t : Ghosts X} {u : EndsGhosts Rings} where
     pub nodes : ∥ HaveStates share edges (nodes_in shares) (states_apart share places shares) ∥₁
     pub built : IsBuilt t.behaviour (states_apart share places shares) edges
     pub joined : ∥ AreJoined ends_of share edges (ends_in shares) RingsJoin capacity ∥₁
+    -- its rings were made with just this capacity
+    pub slots : HaveSlots share edges (ends_in shares) capacity
     pub sound : IsSoundAt t.behaviour (states_apart share places shares) edges (traffic_apart share edges shares)
     pub rest : RestsAt t.behaviour (states_apart share places shares) edges capacity (traffic_apart share edges shares)

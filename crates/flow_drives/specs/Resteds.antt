@@ -10,7 +10,7 @@ use Rattle.flow_networks.specs.declared.edge.Edge.{Edge}
 use Rattle.flow_shares.specs.declared.share.Share.{Share}
 use Rattle.flow_meetings.specs.Deals.{nodes_in, ends_in}
 use Rattle.flow_meetings.specs.SharedNetworks.{AreFed}
-use Rattle.flow_drives.specs.Apart.{HaveStates, traffic_apart}
+use Rattle.flow_drives.specs.Apart.{HaveSlots, HaveStates, traffic_apart}
 use Rattle.flow_drives.specs.Edges.{AreJoined, moves_over}
 use Rattle.flow_drives.specs.Parts.{states_at, edges_at, traffic_at, capacity_at, share_at, shares_at, AreApart}
 use Rattle.flow_drives.specs.declared.rested.Rested.{Rested}
@@ -56,7 +56,7 @@ module _ {X : Type 0} {t : Ghosts X} where
   abbrev pub rested_shares : Rested X t → ℕ
   rested_shares rested = shares_at rested.parts
 
-  -- These are its shares, by their numbers, at rest.
+  -- These are its shares, in the order in which its list names them, at rest.
   pub record AreTheShares {u : EndsGhosts Rings} (rested : Rested X t) (shares : List (Share X Rings t u)) : Type 0 where
     pub over : IsOverRings rested
     pub count : length shares ≡ rested_shares rested
@@ -66,5 +66,7 @@ module _ {X : Type 0} {t : Ghosts X} where
     pub traffic : traffic_of rested ≡ traffic_apart (rested_share rested) (rested_edges rested) shares
     -- both ends of each edge are among theirs, are the two of one edge, and have met
     pub joined : ∥ AreJoined ends_of (rested_share rested) (rested_edges rested) (ends_in shares) RingsJoin (rested_capacity rested) ∥₁
+    -- and its ring has as many slots as each edge holds messages at most
+    pub slots : HaveSlots (rested_share rested) (rested_edges rested) (ends_in shares) (rested_capacity rested)
     -- memory was refused to none of them
     pub fed : AreFed shares

@@ -102,8 +102,8 @@ impl<T: Transducer> Rested<T> {
         self.epochs
     }
 
-    /// The shares, by their numbers, with all nodes and both ends of every edge, at rest and met: of a graph that was
-    /// driven over rings, and of no other.
+    /// The shares, in the order in which the configured list names them, with all nodes and both ends of every edge, at
+    /// rest and met: of a graph that was driven over rings, and of no other.
     pub fn rings(&self) -> Option<&[Share<T, Rings>]>
         ensures { MatchOption result (IsOverRings self.now → ⊥)
             (λ shares. AreTheShares self.now shares.now) }

@@ -16,7 +16,7 @@ pub struct RingShares<T: Transducer> {
     pub skeleton: Skeleton,
     /// Which share has each node: node `k` has the entry at `k` modulo the length.
     pub share: Vec<u8>,
-    /// The shares, by their numbers.
+    /// The shares, in the order in which that list names them.
     pub shares: Vec<Share<T, Rings>>,
     /// How many messages an edge holds at most.
     pub capacity: usize,
