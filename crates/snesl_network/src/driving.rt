@@ -51,7 +51,7 @@ pub fn drive_program<R: Threads, G: Gate + Send + Sync + Drop + 'static>(
 ) -> Result<Rested<StreamNode>, Refusal>
     ensures rests { IfOk result
         (λ rested. CameToRest program.now input.now config.now (final_view rested)) }
-    ensures drive { IfOk result (λ rested. WasDrivenBy config.now.drive rested) }
+    ensures drive { IfOk result (λ rested. WasDrivenBy config.now rested) }
     ensures refused { IfErr result (WasRefused program.now input.now config.now) }
     ensures config { (IsLawful config.now → ⊥) → result ≡ Err BadConfig }
 {
@@ -79,7 +79,7 @@ pub fn drive_program_with<R: Threads, G: Gate + Send + Sync + Drop + 'static, S:
 ) -> Result<Rested<StreamNode>, Refusal>
     ensures rests { IfOk result
         (λ rested. CameToRest program.now input.now config.now (final_view rested)) }
-    ensures drive { IfOk result (λ rested. WasDrivenBy config.now.drive rested) }
+    ensures drive { IfOk result (λ rested. WasDrivenBy config.now rested) }
     ensures refused { IfErr result (WasRefused program.now input.now config.now) }
     ensures config { (IsLawful config.now → ⊥) → result ≡ Err BadConfig }
     ensures asked { IfOk result (λ rested. AskedBy config.now.drive (rested_rounds rested)
@@ -122,7 +122,7 @@ fn driven<R: Threads, G: Gate + Send + Sync + Drop + 'static, S: Start>(
     ensures rests { (text input : List ℕ)
         → IsMeantFor text input (states_of graph) (edges_of graph)
         → IfOk result (λ rested. CameToRest text input config.now (final_view rested)) }
-    ensures drive { IfOk result (λ rested. WasDrivenBy config.now.drive rested) }
+    ensures drive { IfOk result (λ rested. WasDrivenBy config.now rested) }
     ensures refused { (text input : List ℕ)
         → IsMeantFor text input (states_of graph) (edges_of graph)
         → IfErr result (WasRefused text input config.now) }

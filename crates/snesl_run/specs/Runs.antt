@@ -58,7 +58,7 @@ HasWritten program input out report = WroteFor program input out (outcome_of rep
 -- out.
 pub record IsReported (program input : List ℕ) (config : Config) (report : Report) : Type 0 where
   pub came : CameToRest program input config (view_in_report report)
-  pub drive : WasDrivenBy config.drive report.rested
+  pub drive : WasDrivenBy config report.rested
   pub outcome : CameOut (view_in_report report) (outcome_of report)
 
 -- The network came to rest with all nodes ended, as this report would have told, but a failed writer has taken no more than a
