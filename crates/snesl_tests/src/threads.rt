@@ -1,9 +1,11 @@
 // Runs in threads of their own, side by side, and how many rounds and epochs there are. What several threads make of
 // programs stands in the tables of `tool_runs`.
 
-use crate::limping::SOUND;
+use crate::limping::{LimpingWriter, SOUND};
 use crate::running::{Ran, ran_over};
 use flow_drives::{Config, Drive, Gate, Outcome};
+use snesl_data::Counted;
+use snesl_run::run;
 use snesl_trials::in_threads;
 use std::alloc::{AllocError, Global};
 use std::process::Abort;
@@ -120,6 +122,47 @@ impl Gate for Counting {
     }
 }
 
+// Counts the first turns of shares 0 and 1, and those of all others.
+#[derive(Drop)]
+struct Shares {
+    first: AtomicU64,
+    second: AtomicU64,
+    others: AtomicU64,
+}
+
+impl Shares {
+    fn new() -> Shares {
+        Shares {
+            first: AtomicU64::new(0),
+            second: AtomicU64::new(0),
+            others: AtomicU64::new(0),
+        }
+    }
+
+    // How often each came to a first turn.
+    fn counts(&self) -> (u64, u64, u64) {
+        (
+            self.first.load(Ordering::SeqCst),
+            self.second.load(Ordering::SeqCst),
+            self.others.load(Ordering::SeqCst),
+        )
+    }
+}
+
+impl Gate for Shares {
+    fn turn(&self, share: usize, turn: usize) {
+        if turn > 0 {
+            return;
+        }
+        let counter = match share {
+            0 => &self.first,
+            1 => &self.second,
+            _ => &self.others,
+        };
+        counter.fetch_add(1, Ordering::SeqCst);
+    }
+}
+
 // The drives of several threads.
 const THREADED: [Drive; 2] = [Drive::Rounds, Drive::Rings];
 
@@ -217,6 +260,42 @@ fn rounds_and_epochs_are_counted(rt: HostRuntime) -> Result<(), Fail> {
         let config = in_threads(rt.alloc(), drive, 1, 16, &share)?;
         let ran = counted(&rt, rt.alloc(), program, &config, Counting::new(0), (1, 38))?;
         assert_line(&rt, &ran, b"10\n");
+    }
+    Ok(())
+}
+
+// Runs a program by `run` itself: each round or epoch has a first turn of each of the two shares, and of no other.
+fn assert_dealt_to_two<R: Abort + Threads>(
+    rt: &R,
+    alloc: Global,
+    config: &Config,
+) -> Result<(), Fail> {
+    let gate = Arc::new(alloc, Shares::new())?;
+    let mut out = Counted::new(LimpingWriter::new(alloc, SOUND));
+    let program = b"reduce_add(iota(5))";
+    let called = Arc::try_clone(&gate)?;
+    let ran = match run(rt, alloc, program, b"", config, called, &mut out) {
+        Ok(report) => {
+            let rested = report.rested();
+            let turns = rested.rounds().saturating_add(rested.epochs());
+            Some((report.outcome(), turns))
+        }
+        Err(_) => None,
+    };
+    let (first, second, others) = gate.counts();
+    assert!(rt; first > 0);
+    assert_eq!(rt;
+        (ran, second, others),
+        (Some((Outcome::Value, first)), first, 0)
+    );
+    Ok(())
+}
+
+#[test]
+fn run_deals_nodes_to_the_configured_threads(rt: HostRuntime) -> Result<(), Fail> {
+    for drive in THREADED {
+        let config = in_threads(rt.alloc(), drive, 256, 2, &[0, 1])?;
+        assert_dealt_to_two(&rt, rt.alloc(), &config)?;
     }
     Ok(())
 }
