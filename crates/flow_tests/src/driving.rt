@@ -355,6 +355,67 @@ fn outcome_under(
     }
 }
 
+// Asserts whether this configuration is lawful, and that a drive refuses it just where it is not.
+fn assert_lawful<R: Threads + Abort>(
+    rt: &R,
+    alloc: Global,
+    config: &Config,
+    lawful: bool,
+) -> Result<(), Fail> {
+    let wanted = if lawful {
+        Ok(Outcome::Value)
+    } else {
+        Err(DriveError::BadConfig)
+    };
+    let outcome = outcome_under(rt, alloc, config)?;
+    assert_eq!(rt; (config.lawful(), outcome), (lawful, wanted));
+    Ok(())
+}
+
+// Capacity, chunk, threads, idle turns, how many entries, the entry, and whether this is lawful.
+type Limits = (usize, usize, usize, usize, usize, u8, bool);
+
+const LIMITS: [Limits; 14] = [
+    (1, 1, 1, 1, 1, 0, true),
+    (65_536, 1_024, 16, 1_000_000, 4_096, 15, true),
+    (0, 1, 1, 1, 1, 0, false),
+    (65_537, 1, 1, 1, 1, 0, false),
+    (1, 0, 1, 1, 1, 0, false),
+    (1, 1_025, 1, 1, 1, 0, false),
+    (1, 1, 0, 1, 1, 0, false),
+    (1, 1, 17, 1, 1, 0, false),
+    (1, 1, 1, 0, 1, 0, false),
+    (1, 1, 1, 1_000_001, 1, 0, false),
+    (1, 1, 1, 1, 0, 0, false),
+    (1, 1, 1, 1, 4_097, 0, false),
+    (1, 1, 1, 1, 1, 1, false),
+    (1, 1, 16, 1, 1, 16, false),
+];
+
+// The configuration of these limits.
+fn limited(alloc: Global, limits: Limits, drive: Drive) -> Result<Config, AllocError> {
+    let (capacity, chunk, threads, idle, entries, entry, _) = limits;
+    Ok(Config {
+        capacity,
+        chunk,
+        threads,
+        idle,
+        share: vec![in alloc; entry; entries]?,
+        drive,
+    })
+}
+
+#[test]
+fn limits_of_configurations(rt: HostRuntime) -> Result<(), Fail> {
+    for limits in LIMITS {
+        for drive in [Drive::Serial, Drive::Rounds, Drive::Rings] {
+            let config = limited(rt.alloc(), limits, drive)?;
+            assert_lawful(&rt, rt.alloc(), &config, limits.6)?;
+        }
+    }
+    Ok(())
+}
+
 // What a deal is refused for, if it is.
 fn refusal_of<S: Drop>(dealt: Result<Vec<S>, DriveError>) -> Option<DriveError> {
     match dealt {
@@ -373,59 +434,16 @@ fn refused_to_deal(
     Ok((over_boxes, over_rings))
 }
 
-// Asserts whether this configuration is lawful, and that a drive and a deal refuse it just where it is not.
-fn assert_lawful<R: Threads + Abort>(
-    rt: &R,
-    alloc: Global,
-    config: &Config,
-    lawful: bool,
-) -> Result<(), Fail> {
-    let (wanted, refused) = if lawful {
-        (Ok(Outcome::Value), None)
-    } else {
-        (Err(DriveError::BadConfig), Some(DriveError::BadConfig))
-    };
-    let outcome = outcome_under(rt, alloc, config)?;
-    let dealt = refused_to_deal(alloc, config)?;
-    assert_eq!(rt;
-        (config.lawful(), outcome, dealt),
-        (lawful, wanted, (refused, refused))
-    );
-    Ok(())
-}
-
 #[test]
-fn limits_of_configurations(rt: HostRuntime) -> Result<(), Fail> {
-    let alloc = rt.alloc();
-    // Capacity, chunk, threads, idle turns, how many entries, the entry, and whether this is lawful.
-    let cases = [
-        (1, 1, 1, 1, 1, 0, true),
-        (65_536, 1_024, 16, 1_000_000, 4_096, 15, true),
-        (0, 1, 1, 1, 1, 0, false),
-        (65_537, 1, 1, 1, 1, 0, false),
-        (1, 0, 1, 1, 1, 0, false),
-        (1, 1_025, 1, 1, 1, 0, false),
-        (1, 1, 0, 1, 1, 0, false),
-        (1, 1, 17, 1, 1, 0, false),
-        (1, 1, 1, 0, 1, 0, false),
-        (1, 1, 1, 1_000_001, 1, 0, false),
-        (1, 1, 1, 1, 0, 0, false),
-        (1, 1, 1, 1, 4_097, 0, false),
-        (1, 1, 1, 1, 1, 1, false),
-        (1, 1, 16, 1, 1, 16, false),
-    ];
-    for &(capacity, chunk, threads, idle, entries, entry, lawful) in &cases {
-        for drive in [Drive::Serial, Drive::Rounds, Drive::Rings] {
-            let config = Config {
-                capacity,
-                chunk,
-                threads,
-                idle,
-                share: vec![in alloc; entry; entries]?,
-                drive,
-            };
-            assert_lawful(&rt, alloc, &config, lawful)?;
-        }
+fn deals_have_the_same_limits(rt: HostRuntime) -> Result<(), Fail> {
+    for limits in LIMITS {
+        let config = limited(rt.alloc(), limits, Drive::Rings)?;
+        let refused = if limits.6 {
+            None
+        } else {
+            Some(DriveError::BadConfig)
+        };
+        assert_eq!(rt; refused_to_deal(rt.alloc(), &config)?, (refused, refused));
     }
     Ok(())
 }

@@ -92,17 +92,11 @@ edge 3.0 4.1
 edge 4.0 5.0
 ";
 
-/// The numbers below 70,000 and their flags.
-pub const MANY_NUMBERS: &str = r"
-node 0 source units 1
-node 0 const 70000
-node 0 iota
-node 0 sink bool
-node 0 sink int
+/// More units than a pump has turns.
+pub const MANY_UNITS: &str = r"
+node 0 source units 66000
+node 0 sink unit
 edge 0.0 1.0
-edge 1.0 2.0
-edge 2.0 3.0
-edge 2.1 4.0
 ";
 
 /// The numbers below 12,000, each negated by eleven nodes in turn, and the text of their sum: as many nodes as there may be threads.
@@ -141,10 +135,10 @@ edge 13.0 14.1
 edge 14.0 15.0
 ";
 
-/// The text of the sums of the numbers below 200, each up to the one before.
+/// The text of the sums of the numbers below 60, each up to the one before.
 pub const SCAN_OF_NUMBERS: &str = r"
 node 0 source units 1
-node 0 const 200
+node 0 const 60
 node 0 iota
 node 0 fork bool 2
 node 0 scan_add one

@@ -3,7 +3,7 @@
 ghost use Rattle.flow_meetings.specs.SharedNetworks.{AreFed};
 ghost use Rattle.flow_drives.specs.Configs.{IsLawful};
 
-use crate::sketches::{MANY_NUMBERS, SUM_OF_FIVE, graph_of};
+use crate::sketches::{MANY_UNITS, SUM_OF_FIVE, graph_of};
 use flow_base::Transducer;
 use flow_drives::{Config, Drive, NoGate, Share, deal, deal_rings, pump};
 use flow_messages::Ends;
@@ -106,7 +106,7 @@ fn pumped_to_rest<T: Transducer + Drop, E: Ends + Drop>(
     None
 }
 
-// Some 140,000 messages, of which each turn puts one: after 65,536 turns, and as many more, a share is spent.
+// Each turn moves one of 66,000 units: after 65,536 of them the share is spent, and a second pump ends with the last.
 #[test]
 fn a_spent_share_goes_on(rt: HostRuntime) -> Result<(), Fail> {
     let alloc = rt.alloc();
@@ -118,7 +118,7 @@ fn a_spent_share_goes_on(rt: HostRuntime) -> Result<(), Fail> {
         share: vec![in alloc; 0u8]?,
         drive: Drive::Rings,
     };
-    let shares = deal_rings(alloc, graph_of(alloc, MANY_NUMBERS)?, &config)?;
-    assert_eq!(rt; pumped_to_rest(shares, &config), Some((3, true)));
+    let shares = deal_rings(alloc, graph_of(alloc, MANY_UNITS)?, &config)?;
+    assert_eq!(rt; pumped_to_rest(shares, &config), Some((2, true)));
     Ok(())
 }
