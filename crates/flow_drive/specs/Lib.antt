@@ -1,0 +1,64 @@
+-- what the contracts cite: of configurations, drives, and graphs at rest
+pub use Rattle.flow_drives.specs.declared.config.Config
+pub use Rattle.flow_drives.specs.declared.config.Drive
+pub use Rattle.flow_drives.specs.declared.driver.DriveError
+pub use Rattle.flow_drives.specs.declared.rested.Rested
+pub use Rattle.flow_drives.specs.Limits
+pub use Rattle.flow_drives.specs.Configs
+pub use Rattle.flow_drives.specs.Drives
+pub use Rattle.flow_drives.specs.Epochs
+pub use Rattle.flow_drives.specs.Edges
+pub use Rattle.flow_drives.specs.Apart
+pub use Rattle.flow_drives.specs.Parts
+pub use Rattle.flow_drives.specs.Refusals
+pub use Rattle.flow_drives.specs.Resteds
+pub use Rattle.flow_drives.specs.Driven
+pub use Rattle.flow_drives.specs.Dealings
+pub use Rattle.flow_drives.specs.Pumped
+pub use Rattle.flow_drives.specs.Origins
+pub use Rattle.flow_drives.specs.Texts
+-- of the nodes
+pub use Rattle.flow_nodes.specs.StreamNodes
+-- of networks and their runs
+pub use Rattle.kahn.specs.declared.outcome.Outcome
+pub use Rattle.kahn.specs.Configurations
+pub use Rattle.kahn.specs.Outcomes
+pub use Rattle.kahn.specs.Runs
+pub use Rattle.flow_messages.specs.Ends
+pub use Rattle.flow_messages.specs.declared.ends.Ends as EndsTrait
+pub use Rattle.flow_messages.specs.Signals
+pub use Rattle.flow_base.specs.Transducers
+pub use Rattle.flow_base.specs.declared.transducer.Transducer
+pub use Rattle.flow_networks.specs.Alike
+pub use Rattle.flow_networks.specs.Graphs
+pub use Rattle.flow_networks.specs.MaximalRuns
+pub use Rattle.flow_networks.specs.Networks
+pub use Rattle.flow_networks.specs.Shapes
+-- of shares, and of the ends that they have
+pub use Rattle.flow_lanes.specs.declared.rings.Rings as RingEnds
+pub use Rattle.flow_lanes.specs.Rings
+pub use Rattle.flow_boxes.specs.declared.boxes.Boxes
+pub use Rattle.flow_meetings.specs.declared.owners.EdgeOwners
+pub use Rattle.flow_meetings.specs.BoxMeetings
+pub use Rattle.flow_meetings.specs.Met
+pub use Rattle.flow_meetings.specs.RingMeetings
+pub use Rattle.flow_shares.specs.Deals
+pub use Rattle.flow_shares.specs.declared.share.Share
+pub use Rattle.flow_shares.specs.Lending
+pub use Rattle.flow_shares.specs.Looks
+pub use Rattle.flow_shares.specs.Pumps
+pub use Rattle.flow_shares.specs.Shares
+pub use Rattle.flow_shares.specs.declared.error.WorkError
+pub use Rattle.flow_meetings.specs.Joints
+pub use Rattle.flow_meetings.specs.EndTheorems
+pub use Rattle.flow_meetings.specs.Deals as ShareDeals
+pub use Rattle.flow_meetings.specs.Open
+pub use Rattle.flow_meetings.specs.SharedNetworks
+pub use Rattle.flow_rounds.specs.Epochs as ShareEpochs
+pub use Rattle.flow_base.specs.Visits as NodeVisits
+pub use Rattle.flow_boxes.specs.Reserved
+pub use Rattle.flow_networks.specs.FlowTheorems
+pub use Rattle.flow_networks.specs.Laws
+pub use Rattle.flow_networks.specs.Schedules
+pub use Rattle.flow_messages.specs.Blocks
+pub use Rattle.flow_messages.specs.Kinds
