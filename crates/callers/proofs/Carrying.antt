@@ -1,15 +1,15 @@
 -- How many messages a run leaves on an edge.
 use Rattle.std.proofs.Common.{◌≡◌, ℕ, ◌+◌, ◌≤◌, eqb, cond, List, [], ◌∷◌, ◌++◌, length, Some, subst, ap, ⊎_elim, eq-eqb, ne_eqb, length-append, arith}
 use Rattle.std.proofs.lemmas.Bool.{cases_eq}
-use Rattle.flow_networks.specs.Configurations.{Configuration, start}
-use Rattle.flow_networks.specs.Ends.{View}
-use Rattle.flow_networks.specs.MaximalRuns.{EndsMaximalRun}
-use Rattle.flow_networks.specs.Networks.{network_of, configuration_of}
-use Rattle.flow_networks.specs.Processes.{Event, Reads, Writes}
-use Rattle.flow_networks.specs.Runs.{Can, next, Run}
-use Rattle.flow_networks.specs.Signals.{Signal}
-use Rattle.flow_networks.specs.Transducers.{Behaviour}
-use Rattle.flow_networks.specs.declared.edge.Edge.{Edge}
+use Rattle.flow_graph.specs.Configurations.{Configuration, start}
+use Rattle.flow_graph.specs.Ends.{View}
+use Rattle.flow_graph.specs.MaximalRuns.{EndsMaximalRun}
+use Rattle.flow_graph.specs.Networks.{network_of, configuration_of}
+use Rattle.flow_graph.specs.Processes.{Event, Reads, Writes}
+use Rattle.flow_graph.specs.Runs.{Can, next, Run}
+use Rattle.flow_graph.specs.Signals.{Signal}
+use Rattle.flow_graph.specs.Transducers.{Behaviour}
+use Rattle.flow_graph.specs.Edge.{Edge}
 
 -- From each edge no more was received than was sent, and no more was sent than was received and fits.
 pub record IsHeld {S : Type 0} (capacity : ℕ) (c : Configuration S Signal) : Type 0 where

@@ -1,15 +1,15 @@
 -- How a graph at rest came out.
 use Rattle.std.proofs.Common.{◌≡◌, ℕ, List, Some, subst}
-use Rattle.flow_networks.specs.Configurations.{IsSound}
-use Rattle.flow_networks.specs.Ends.{View}
-use Rattle.flow_networks.specs.Networks.{network_of, configuration_of}
-use Rattle.flow_networks.specs.Outcome.{Outcome}
-use Rattle.flow_networks.specs.Outcomes.{HasOutcome}
-use Rattle.flow_networks.specs.Runs.{AtRest}
-use Rattle.flow_networks.specs.Shapes.{IsSameNetwork}
-use Rattle.flow_networks.specs.Transducers.{Behaviour}
-use Rattle.flow_networks.specs.declared.edge.Edge.{Edge}
-use Rattle.flow_drives.specs.Drives.{IsSoundAt, RestsAt, ComesOut}
+use Rattle.flow_graph.specs.Configurations.{IsSound}
+use Rattle.flow_graph.specs.Ends.{View}
+use Rattle.flow_graph.specs.Networks.{network_of, configuration_of}
+use Rattle.flow_graph.specs.Outcome.{Outcome}
+use Rattle.flow_graph.specs.Outcomes.{HasOutcome}
+use Rattle.flow_graph.specs.Runs.{AtRest}
+use Rattle.flow_graph.specs.Shapes.{IsSameNetwork}
+use Rattle.flow_graph.specs.Transducers.{Behaviour}
+use Rattle.flow_graph.specs.Edge.{Edge}
+use Rattle.flow_drive.specs.Drives.{IsSoundAt, RestsAt, ComesOut}
 use Rattle.callers.specs.Drive.{CameOutAs}
 
 -- a graph at rest is where the network of the graph that it was came out

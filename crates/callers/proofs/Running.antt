@@ -3,8 +3,8 @@ use Rattle.std.proofs.Common.{◌≡◌, ℕ, List, [], ◌++◌, None, Some, in
 use Rattle.std.specs.Global.{Global}
 use Rattle.snesl_values.specs.Counted.{Counted}
 use Rattle.snesl_values.specs.Fault.{Fault}
-use Rattle.flow_drives.specs.declared.config.Config.{Config}
-use Rattle.flow_drives.specs.declared.config.Drive.TheVariants.{Serial}
+use Rattle.flow_drive.specs.Config.{Config}
+use Rattle.flow_drive.specs.Drive.TheVariants.{Serial}
 use Rattle.snesl_run.specs.Configs.{IsLawful, StartsThreads}
 use Rattle.snesl_run.specs.Counted.{counted_inner}
 use Rattle.snesl_run.specs.Outcome.TheVariants.{Value as Ended, Fault as Failed, Stalled}

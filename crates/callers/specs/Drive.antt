@@ -1,14 +1,14 @@
 -- How a network came out that was driven until no node could step.
 use Rattle.std.specs.Prelude.{◌≡◌, ◌++◌, ℕ, List, Some}
-use Rattle.flow_drives.specs.Starts.{each_again}
-use Rattle.flow_networks.specs.Configurations.{Configuration, IsSound}
-use Rattle.flow_networks.specs.Networks.{network_of}
-use Rattle.flow_networks.specs.Outcome.{Outcome}
-use Rattle.flow_networks.specs.Outcomes.{HasOutcome}
-use Rattle.flow_networks.specs.Runs.{AtRest}
-use Rattle.flow_networks.specs.Signals.{Signal}
-use Rattle.flow_networks.specs.Transducers.{Behaviour}
-use Rattle.flow_networks.specs.declared.edge.Edge.{Edge}
+use Rattle.flow_drive.specs.Starts.{each_again}
+use Rattle.flow_graph.specs.Configurations.{Configuration, IsSound}
+use Rattle.flow_graph.specs.Networks.{network_of}
+use Rattle.flow_graph.specs.Outcome.{Outcome}
+use Rattle.flow_graph.specs.Outcomes.{HasOutcome}
+use Rattle.flow_graph.specs.Runs.{AtRest}
+use Rattle.flow_graph.specs.Signals.{Signal}
+use Rattle.flow_graph.specs.Transducers.{Behaviour}
+use Rattle.flow_graph.specs.Edge.{Edge}
 
 -- Some sound configuration of this network, in which no node can step at this capacity, came out so.
 pub record CameOutAs {S : Type 0} (b : Behaviour S) (states : List S) (edges : List Edge) (capacity : ℕ) (outcome : Outcome) : Type 0 where

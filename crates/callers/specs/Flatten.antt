@@ -5,7 +5,7 @@ use Rattle.snesl_values.specs.Types.{Ty}
 use Rattle.snesl_syntax.specs.Parse.{Parses}
 use Rattle.snesl_types.specs.Programs.{HasTyping}
 use Rattle.snesl_types.specs.Tree.{ProgramTree}
-use Rattle.flow_networks.specs.declared.edge.Edge.{Edge}
+use Rattle.flow_graph.specs.Edge.{Edge}
 use Rattle.snesl_flatten.specs.GraphNetworks.{AreOpened}
 use Rattle.snesl_flatten.specs.Networks.{NodeState, NetworkMeans}
 use Rattle.snesl_flatten.specs.StreamNodes.{node_behaviour}

@@ -2,7 +2,7 @@
 use Rattle.std.specs.Prelude.{◌≡◌, ◌⊎◌, ℕ, List, Option, None, Some, Vec}
 use Rattle.std.specs.Global.{Global}
 use Rattle.snesl_values.specs.Values.{Value}
-use Rattle.flow_drives.specs.declared.config.Config.{Config}
+use Rattle.flow_drive.specs.Config.{Config}
 use Rattle.snesl_run.specs.Driven.{IsTooGreat}
 use Rattle.snesl_run.specs.Meaning.{Means, is_refused, has_value}
 use Rattle.snesl_run.specs.Outcome.TheVariants.{Stalled}

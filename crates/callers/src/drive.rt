@@ -1,16 +1,16 @@
 // Networks that run in threads.
 ghost use Rattle.std.specs.Prelude.{◌≡◌, ◌⊎◌, [], true, false, Err, IfErr, IfOk};
-ghost use Rattle.flow_networks.specs.Graphs.{states_of, edges_of};
-ghost use Rattle.flow_networks.specs.Networks.{AreOpened};
-ghost use Rattle.flow_drives.specs.declared.config.Drive.TheVariants.{Rings};
-ghost use Rattle.flow_drives.specs.declared.driver.DriveError.TheVariants.{NoMemory, NoThread};
+ghost use Rattle.flow_drive.specs.Drive.TheVariants.{Rings};
+ghost use Rattle.flow_drive.specs.DriveError.TheVariants.{NoMemory, NoThread};
+ghost use Rattle.flow_drive.specs.StreamNodes.{node_behaviour};
+ghost use Rattle.flow_graph.specs.Graphs.{states_of, edges_of};
+ghost use Rattle.flow_graph.specs.Networks.{AreOpened};
 ghost use Rattle.callers.specs.Drive.{CameOutAs, AskedInTurn};
 
-use flow_drives::{
+use flow_drive::{
     Config, Drive, DriveError, History, NoGate, Outcome, Start, drive, drive_with, rested_is_sound,
 };
-use flow_networks::Graph;
-use flow_scalar::Transducer;
+use flow_graph::Graph;
 use std::alloc::{AllocError, Global};
 use std::sync::Arc;
 use std::thread::Threads;
@@ -18,13 +18,13 @@ use std::thread::Threads;
 /// How a network came out whose nodes two threads shared.
 ///
 /// An error is `NoMemory` or `NoThread`.
-pub fn outcome_on_two_threads<R: Threads, T: Transducer + Send + Drop + 'static>(
-    rt: &R,
+pub fn outcome_on_two_threads(
+    rt: &impl Threads,
     alloc: Global,
-    graph: Graph<T>,
+    graph: Graph,
 ) -> Result<Outcome, DriveError>
-    requires { AreOpened T.behaviour (states_of graph) }
-    ensures outcome { IfOk result (CameOutAs T.behaviour (states_of graph) (edges_of graph) 256) }
+    requires { AreOpened node_behaviour (states_of graph) }
+    ensures outcome { IfOk result (CameOutAs node_behaviour (states_of graph) (edges_of graph) 256) }
     ensures refused { IfErr result (λ error. (error ≡ NoMemory) ⊎ (error ≡ NoThread)) }
 {
     let config = Config {
@@ -84,14 +84,14 @@ impl Start for SomeStarts {
 /// How a network came out, where only some threads may be started.
 ///
 /// Where one more was wanted, the error is `NoThread`.
-pub fn outcome_of_some_starts<R: Threads, T: Transducer + Send + Drop + 'static>(
-    rt: &R,
+pub fn outcome_of_some_starts(
+    rt: &impl Threads,
     alloc: Global,
-    graph: Graph<T>,
+    graph: Graph,
     config: &Config,
     start: &mut SomeStarts,
 ) -> Result<Outcome, DriveError>
-    requires { AreOpened T.behaviour (states_of graph) }
+    requires { AreOpened node_behaviour (states_of graph) }
     ensures asked { IfOk result (λ _. config.now.drive ≡ Rings →
         AskedInTurn config.now.threads start.old.asked.items start.new.asked.items) }
     ensures refused { start.new.said_no ≡ true →

@@ -1,10 +1,10 @@
 // A network of one's own.
 ghost use Rattle.std.specs.Prelude.{◌≡◌, ◌+◌, ◌<◌, ◌≤◌, IfErr, IfOk, IfSome};
-ghost use Rattle.flow_networks.specs.EdgeLimits.{greatest_capacity};
-ghost use Rattle.flow_networks.specs.Refusal.TheVariants.{NoMemory};
+ghost use Rattle.flow_graph.specs.EdgeLimits.{greatest_capacity};
+ghost use Rattle.flow_graph.specs.Refusal.TheVariants.{NoMemory};
+ghost use Rattle.flow_graph.specs.StreamNodes.{node_behaviour, state_of};
 
-use flow_networks::{Edge, GraphBuilder, settle};
-use flow_scalar::Transducer;
+use flow_graph::{Edge, GraphBuilder, StreamNode, settle};
 use snesl_values::Refusal;
 use std::alloc::Global;
 
@@ -12,14 +12,14 @@ use std::alloc::Global;
 /// step. `None` where they and their one edge are no network.
 ///
 /// An error where memory was refused.
-pub fn carried<T: Transducer + Drop>(
+pub fn carried(
     alloc: Global,
-    writer: T,
-    reader: T,
+    writer: StreamNode,
+    reader: StreamNode,
     capacity: usize,
 ) -> Result<Option<(u64, u64)>, Refusal>
-    requires writer { T.behaviour.opening (T.state writer) ≡ T.state writer }
-    requires reader { T.behaviour.opening (T.state reader) ≡ T.state reader }
+    requires writer { node_behaviour.opening (state_of writer) ≡ state_of writer }
+    requires reader { node_behaviour.opening (state_of reader) ≡ state_of reader }
     requires some { 0 < capacity }
     requires limit { capacity ≤ greatest_capacity }
     ensures received { IfOk result (λ counts. IfSome counts (λ count. count.1 ≤ count.0)) }

@@ -1,6 +1,6 @@
 // Programs that are run.
 ghost use Rattle.std.specs.Prelude.{◌≡◌, IfOk, IfErr};
-ghost use Rattle.flow_drives.specs.declared.config.Drive.TheVariants.{Serial};
+ghost use Rattle.flow_drive.specs.Drive.TheVariants.{Serial};
 ghost use Rattle.snesl_run.specs.Configs.{IsLawful};
 ghost use Rattle.callers.specs.Run.{IsLineOf, IsRefusedFor};
 

@@ -48,6 +48,7 @@ pub use Rattle.flow_shares.specs.Lending
 pub use Rattle.flow_shares.specs.Looks
 pub use Rattle.flow_shares.specs.Pumps
 pub use Rattle.flow_shares.specs.Shares
+pub use Rattle.flow_shares.specs.Starts
 pub use Rattle.flow_shares.specs.declared.error.WorkError
 pub use Rattle.flow_meetings.specs.Joints
 pub use Rattle.flow_meetings.specs.EndTheorems

@@ -5,7 +5,7 @@ ghost use Rattle.flow_networks.specs.Networks.{AreOpened};
 ghost use Rattle.flow_nodes.specs.StreamNodes.{node_behaviour};
 ghost use Rattle.flow_drives.specs.Configs.{IsLawful, StartsThreads, IsInSteps};
 ghost use Rattle.flow_drives.specs.Driven.{HasNetworkOf, EndsRunOf};
-ghost use Rattle.flow_drives.specs.Epochs.{TookRounds, TookEpochs};
+ghost use Rattle.flow_drives.specs.Epochs.{TookRounds, TookEpochs, AskedBy};
 ghost use Rattle.flow_drives.specs.Resteds.{rested_capacity, rested_rounds, rested_epochs, rested_share, rested_shares, moves_of, IsOverRings};
 ghost use Rattle.flow_drives.specs.declared.config.Drive.TheVariants.{Rings};
 ghost use Rattle.flow_drives.specs.declared.driver.DriveError.TheVariants.{BadConfig, NoThread, Short};
@@ -56,7 +56,7 @@ pub fn drive<G: Gate + Send + Sync + Drop + 'static>(
 }
 
 /// The same, where `start` is asked before each thread is started, and may refuse it: then the drive is refused as
-/// `NoThread`.
+/// `NoThread`. In each round and each epoch it is asked for each thread once, in order; `Serial` asks it nothing.
 pub fn drive_with<G: Gate + Send + Sync + Drop + 'static, S: Start>(
     rt: &impl Threads,
     alloc: Global,
@@ -82,6 +82,8 @@ pub fn drive_with<G: Gate + Send + Sync + Drop + 'static, S: Start>(
         → IfOk result (λ rested. rested_share rested ≡ config.now.share.items) }
     ensures shares { StartsThreads config.now.drive
         → IfOk result (λ rested. rested_shares rested ≡ config.now.threads) }
+    ensures asked { IfOk result (λ rested. AskedBy config.now.drive (rested_rounds rested)
+        (rested_epochs rested) config.now.threads (S.asked start.old) (S.asked start.new)) }
     ensures refused { S.refused start.new → S.refused start.old ⊎ (result ≡ Err NoThread) }
 {
     flow_drives::drive_with(rt, alloc, graph, config, gate, start)

@@ -1,5 +1,6 @@
 // Epochs as configurations say.
-ghost use Rattle.std.specs.Prelude.{◌≡◌, ◌⊎◌, Err, IfOk, IfErr};
+ghost use Rattle.std.specs.Prelude.{◌≡◌, ◌⊎◌, length, Err, IfOk, IfErr, OnOk};
+ghost use Rattle.flow_shares.specs.Starts.{AskedForEach};
 ghost use Rattle.flow_meetings.specs.SharedNetworks.{SharedNetwork, AreFed};
 ghost use Rattle.flow_rounds.specs.Epochs.{AreOfOneGraph, IsEpoch};
 ghost use Rattle.flow_drives.specs.Configs.{IsLawful};
@@ -37,7 +38,7 @@ pub fn epoch<G: Gate + Send + Sync + Drop + 'static>(
     flow_drives::epoch(rt, alloc, shares, config, gate)
 }
 
-/// The same, where `start` is asked before each thread is started, and may refuse it.
+/// The same, where `start` is asked before each thread is started, for each once and in order, and may refuse it.
 pub fn epoch_with<G: Gate + Send + Sync + Drop + 'static, S: Start>(
     rt: &impl Threads,
     alloc: Global,
@@ -52,6 +53,8 @@ pub fn epoch_with<G: Gate + Send + Sync + Drop + 'static, S: Start>(
     requires fed { AreFed shares.items }
     ensures epoch { IfOk result (λ back. IsEpoch network shares.items back.items) }
     ensures refused { IfErr result (λ error. (error ≡ NoMemory) ⊎ (error ≡ NoThread)) }
+    ensures asked { OnOk result (AskedForEach (length shares.items) (S.asked start.old)
+        (S.asked start.new)) }
     ensures start { S.refused start.new → S.refused start.old ⊎ (result ≡ Err NoThread) }
 {
     flow_drives::epoch_with(rt, alloc, shares, config, gate, start)

@@ -23,6 +23,7 @@ pub use flow_boxes::Boxes;
 pub use flow_drives::{
     Config, Drive, DriveError, MAX_CHUNK, MAX_IDLE_TURNS, MAX_SHARE, MAX_THREADS, runs_rest_alike,
 };
+pub use flow_history::History;
 pub use flow_lanes::Rings;
 pub use flow_meetings::are_fed;
 pub use flow_messages::Ends;

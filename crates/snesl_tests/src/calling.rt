@@ -1,7 +1,7 @@
 // Each caller of the public crates runs.
-ghost use Rattle.flow_networks.specs.Graphs.{states_of};
-ghost use Rattle.flow_networks.specs.Networks.{AreOpened};
-ghost use Rattle.snesl_flatten.specs.StreamNodes.{node_behaviour};
+ghost use Rattle.flow_graph.specs.Graphs.{states_of};
+ghost use Rattle.flow_graph.specs.Networks.{AreOpened};
+ghost use Rattle.flow_graph.specs.StreamNodes.{node_behaviour};
 
 use callers::drive::{SomeStarts, outcome_of_some_starts, outcome_on_two_threads};
 use callers::edges::messages;
@@ -13,11 +13,10 @@ use callers::segment::printed;
 use callers::syntax::is_program;
 use callers::types::value_of;
 use callers::values::value_text;
-use flow_drives::{Drive, DriveError, Outcome};
+use flow_drive::{Drive, DriveError, Outcome};
 use flow_edges::{Item, Kind, Msg};
-use flow_networks::Graph;
+use flow_graph::{Graph, StreamNode};
 use flow_scalar::{Node, Sink, Source, Stream};
-use snesl_flatten::StreamNode;
 use snesl_trials::in_threads;
 use snesl_values::{FaultKind, Refusal, Ty, text_of};
 use std::alloc::Global;
@@ -103,7 +102,7 @@ fn all_is_carried_to_a_reader_of_its_kind(rt: HostRuntime) -> Result<(), Fail> {
 }
 
 // How two threads leave the network of a program.
-fn driven(rt: &impl Threads, alloc: Global, graph: Graph<StreamNode>) -> Result<Outcome, DriveError>
+fn driven(rt: &impl Threads, alloc: Global, graph: Graph) -> Result<Outcome, DriveError>
     requires { AreOpened node_behaviour (states_of graph) }
 {
     outcome_on_two_threads(rt, alloc, graph)
