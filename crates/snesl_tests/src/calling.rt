@@ -14,7 +14,7 @@ use callers::syntax::is_program;
 use callers::types::value_of;
 use callers::values::value_text;
 use flow_drive::{Drive, DriveError, Outcome};
-use flow_edges::{Item, Kind, Msg};
+use flow_edges::{Item, Kind, Msg, Table};
 use flow_graph::{Graph, StreamNode};
 use flow_scalar::{Node, Sink, Source, Stream};
 use snesl_trials::in_threads;
@@ -98,6 +98,17 @@ fn carried_units(alloc: Global, kind: Kind) -> Result<Option<(u64, u64)>, Refusa
 fn all_is_carried_to_a_reader_of_its_kind(rt: HostRuntime) -> Result<(), Fail> {
     assert_eq!(rt; carried_units(rt.alloc(), Kind::Unit)?, Some((4, 4)));
     assert_eq!(rt; carried_units(rt.alloc(), Kind::Int)?, None);
+    Ok(())
+}
+
+// Three units and the end, by a schedule, and by a first step of each node.
+#[test]
+fn strangers_step_and_settle_a_graph(rt: HostRuntime) -> Result<(), Fail> {
+    let settled = strangers::graph::settled(rt.alloc())?.ok_or("no graph")?;
+    assert_eq!(rt; strangers::graph::counts_of(&settled, 0), Some((4, 4)));
+    let mut graph = strangers::graph::units(rt.alloc())?.ok_or("no graph")?;
+    let mut ends = Table::new(rt.alloc(), graph.edges(), 4)?;
+    assert_eq!(rt; strangers::graph::steps(&mut graph, &mut ends)?, 2);
     Ok(())
 }
 

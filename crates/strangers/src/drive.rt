@@ -1,0 +1,167 @@
+// Graphs that are driven.
+use flow_drive::{
+    AlwaysStart, Boxes, Config, Drive, DriveError, Ends, Gate, NoGate, Outcome, Rested, Rings,
+    Share, Start, deal, deal_rings, drive, drive_with, pump,
+};
+use snesl_flatten::flatten;
+use snesl_types::Typed;
+use snesl_values::{Inputs, Refusal};
+use std::alloc::{AllocError, Global};
+use std::sync::Arc;
+use std::thread::Threads;
+
+/// A configuration of two threads.
+pub fn two_threads(alloc: Global, drive: Drive) -> Result<Config, AllocError> {
+    Ok(Config {
+        capacity: 256,
+        chunk: 16,
+        threads: 2,
+        idle: 64,
+        share: vec![in alloc; 0u8, 1]?,
+        drive,
+    })
+}
+
+/// Whether a configuration is lawful.
+pub fn is_lawful(config: &Config) -> bool {
+    config.lawful()
+}
+
+/// A gate that does nothing.
+pub struct Open;
+
+impl Gate for Open {
+    fn turn(&self, share: usize, turn: usize) {
+        let _ = (share, turn);
+    }
+}
+
+/// The network of a program at rest, if the inputs are its own.
+pub fn rested(
+    rt: &impl Threads,
+    alloc: Global,
+    typed: &Typed,
+    inputs: Inputs,
+    config: &Config,
+) -> Result<Option<Rested>, Refused> {
+    let plan = flatten(alloc, typed).map_err(Refused::Flatten)?;
+    if !plan.fits(&inputs) {
+        return Ok(None);
+    }
+    let graph = plan.with(inputs)?;
+    let gate = Arc::new(alloc, NoGate).map_err(AllocError::from)?;
+    Ok(Some(drive(rt, alloc, graph, config, gate)?))
+}
+
+/// The same, where each start is asked for.
+pub fn rested_with<S: Start>(
+    rt: &impl Threads,
+    alloc: Global,
+    typed: &Typed,
+    inputs: Inputs,
+    config: &Config,
+    start: &mut S,
+) -> Result<Option<Rested>, Refused> {
+    let plan = flatten(alloc, typed).map_err(Refused::Flatten)?;
+    if !plan.fits(&inputs) {
+        return Ok(None);
+    }
+    let graph = plan.with(inputs)?;
+    let gate = Arc::new(alloc, NoGate).map_err(AllocError::from)?;
+    Ok(Some(drive_with(rt, alloc, graph, config, gate, start)?))
+}
+
+/// Why there is no network at rest.
+#[derive(Drop)]
+pub enum Refused {
+    Flatten(Refusal),
+    Drive(DriveError),
+}
+
+impl From<AllocError> for Refused {
+    fn from(_: AllocError) -> Self {
+        Refused::Drive(DriveError::NoMemory)
+    }
+}
+
+impl From<DriveError> for Refused {
+    fn from(error: DriveError) -> Self {
+        Refused::Drive(error)
+    }
+}
+
+/// The shares of a program's network, over boxes, if the inputs are its own.
+pub fn shares(
+    alloc: Global,
+    typed: &Typed,
+    inputs: Inputs,
+    config: &Config,
+) -> Result<Option<Vec<Share<Boxes>>>, Refused> {
+    let plan = flatten(alloc, typed).map_err(Refused::Flatten)?;
+    if !plan.fits(&inputs) {
+        return Ok(None);
+    }
+    let graph = plan.with(inputs)?;
+    Ok(Some(deal(alloc, graph, config)?))
+}
+
+/// The shares of a program's network, over rings, if the inputs are its own.
+pub fn ring_shares(
+    alloc: Global,
+    typed: &Typed,
+    inputs: Inputs,
+    config: &Config,
+) -> Result<Option<Vec<Share<Rings>>>, Refused> {
+    let plan = flatten(alloc, typed).map_err(Refused::Flatten)?;
+    if !plan.fits(&inputs) {
+        return Ok(None);
+    }
+    let graph = plan.with(inputs)?;
+    Ok(Some(deal_rings(alloc, graph, config)?))
+}
+
+/// One share, pumped if it may be. Whether it is spent, and whether it is starved.
+pub fn pumped<E: Ends + Drop>(share: Share<E>, config: &Config) -> Option<(bool, bool)> {
+    if share.starved() || !config.lawful() {
+        return None;
+    }
+    let share = pump::<E, NoGate>(share, config, &NoGate);
+    Some((share.spent(), share.starved()))
+}
+
+/// What can be asked of a network at rest.
+pub fn told(rested: &Rested) -> (Outcome, &[u8], usize, usize, u64) {
+    (
+        rested.outcome(),
+        rested.text(),
+        rested.nodes(),
+        rested.edges(),
+        rested.epochs(),
+    )
+}
+
+/// How many messages were sent and received on an edge.
+pub fn counts_of(rested: &Rested, edge: usize) -> Option<(u64, u64)> {
+    if edge < rested.edges() {
+        return Some(rested.counts(edge));
+    }
+    None
+}
+
+/// The shares of a network that was driven over rings.
+pub fn shares_of(rested: &Rested) -> Option<&[Share<Rings>]> {
+    rested.rings()
+}
+
+/// The least full edge whose writer waits, where it has stalled.
+pub fn stalled_at(outcome: &Outcome) -> Option<usize> {
+    match outcome {
+        Outcome::Stalled { edge } => Some(*edge),
+        Outcome::Value | Outcome::Fault(_) => None,
+    }
+}
+
+/// Whether the start of a thread is allowed by what always says yes.
+pub fn may_start(worker: usize) -> bool {
+    AlwaysStart.may_start(worker)
+}

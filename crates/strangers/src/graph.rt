@@ -1,0 +1,72 @@
+// Graphs, and their steps.
+use flow_edges::{Kind, Table};
+use flow_graph::{
+    Edge, Graph, GraphBuilder, Moved, NoMemory, Settled, StreamNode, settle, step_once,
+};
+use flow_scalar::{Node, Sink, Source, Stream};
+use snesl_values::Refusal;
+use std::alloc::Global;
+
+/// Three units, and what drops them.
+pub fn units(alloc: Global) -> Result<Option<Graph>, Refusal> {
+    let mut builder = GraphBuilder::new(alloc);
+    let writer = builder.node(StreamNode::Source(Source::new(alloc, Stream::Units(3))))?;
+    let reader = builder.node(StreamNode::Sink(Node::new(Sink::new(Kind::Unit), 0)))?;
+    let edge = Edge {
+        writer,
+        writer_port: 0,
+        reader,
+        reader_port: 0,
+    };
+    if !builder.may_join(edge) {
+        return Ok(None);
+    }
+    builder.edge(edge)?;
+    if !builder.complete() {
+        return Ok(None);
+    }
+    Ok(Some(builder.build()))
+}
+
+/// One step of each node, in order. How many made one.
+pub fn steps(graph: &mut Graph, ends: &mut Table) -> Result<usize, NoMemory> {
+    let mut moved: usize = 0;
+    for node in 0..graph.nodes() {
+        if node < graph.nodes() && graph.has_ends(ends, node) {
+            match step_once(graph, ends, node)? {
+                Moved::One => moved = moved.saturating_add(1),
+                Moved::Nothing => {}
+            }
+        }
+    }
+    Ok(moved)
+}
+
+/// Three units settled by a schedule, which names a node that is not there too.
+pub fn settled(alloc: Global) -> Result<Option<Settled>, Refusal> {
+    let mut builder = GraphBuilder::new(alloc);
+    builder.node(StreamNode::Source(Source::new(alloc, Stream::Units(3))))?;
+    builder.node(StreamNode::Sink(Node::new(Sink::new(Kind::Unit), 0)))?;
+    let edge = Edge {
+        writer: 0,
+        writer_port: 0,
+        reader: 1,
+        reader_port: 0,
+    };
+    if !builder.may_join(edge) {
+        return Ok(None);
+    }
+    builder.edge(edge)?;
+    if !builder.complete() {
+        return Ok(None);
+    }
+    Ok(Some(settle(alloc, builder.build(), 4, &[0, 1, 99])?))
+}
+
+/// How many messages were sent and received on an edge.
+pub fn counts_of(settled: &Settled, edge: usize) -> Option<(u64, u64)> {
+    if edge < settled.graph().edges() {
+        return Some(settled.counts(edge));
+    }
+    None
+}

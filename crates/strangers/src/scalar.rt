@@ -1,0 +1,84 @@
+// Transducers over scalars.
+use flow_edges::{Item, Kind, Msg};
+use flow_scalar::{
+    Binary, BinaryOperator, Const, Fork, Iota, Length, Node, Reduce, Reduction, Scalar, ScanAdd,
+    Sink, Source, Stream, Transducer, Unary, UnaryOperator, UnitsOf, Want,
+};
+use snesl_values::Dialect;
+use std::alloc::{AllocError, Global};
+
+/// What a transducer wants.
+pub fn wanted(node: &impl Transducer) -> Want {
+    node.want()
+}
+
+/// The port that a transducer wants to read or to write, if it wants one.
+pub fn port_wanted(want: &Want) -> Option<usize> {
+    match want {
+        Want::Read(port) | Want::Write(port) => Some(*port),
+        Want::Ended | Want::Faulted(_) => None,
+    }
+}
+
+/// Gives a message to a transducer, if it wants to read.
+pub fn given<T: Transducer>(node: &mut T, message: Msg) -> Result<bool, AllocError> {
+    let Want::Read(port) = node.want() else {
+        return Ok(false);
+    };
+    node.give(port, message)?;
+    Ok(true)
+}
+
+/// The message that a transducer wants to write, if it wants to.
+pub fn emitted<T: Transducer>(node: &mut T) -> Result<Option<Msg>, AllocError> {
+    if let Want::Write(_) = node.want() {
+        return Ok(Some(node.emit()?));
+    }
+    Ok(None)
+}
+
+/// The first unit of three.
+pub fn first_unit(alloc: Global) -> Result<Msg, AllocError> {
+    let mut units = Source::new(alloc, Stream::Units(3));
+    units.emit()
+}
+
+/// What a constant wants.
+pub fn constant() -> Want {
+    wanted(&Node::new(Const::new(Scalar::Int(5)), 0))
+}
+
+/// What operators want.
+pub fn operators() -> [Want; 2] {
+    let unary = Node::new(Unary::new(Dialect::One, UnaryOperator::Not), 0);
+    let binary = Node::new(Binary::new(Dialect::One, BinaryOperator::Add), 7);
+    [wanted(&unary), wanted(&binary)]
+}
+
+/// What a copy to two outputs and a sink want.
+pub fn copies(alloc: Global) -> [Want; 2] {
+    let fork = Node::new(Fork::new(alloc, Kind::Unit, 2), 0);
+    let sink = Node::new(Sink::new(Kind::Unit), 0);
+    [wanted(&fork), wanted(&sink)]
+}
+
+/// What counts and folds want.
+pub fn folds() -> [Want; 5] {
+    let iota = Node::new(Iota::new(), 0);
+    let units = Node::new(UnitsOf::new(), 0);
+    let scan = Node::new(ScanAdd::new(Dialect::One), 0);
+    let sum = Node::new(Reduce::new(Dialect::One, Reduction::Sum), 0);
+    let length = Node::new(Length::new(Dialect::One), 0);
+    [
+        wanted(&iota),
+        wanted(&units),
+        wanted(&scan),
+        wanted(&sum),
+        wanted(&length),
+    ]
+}
+
+/// An item of an integer.
+pub fn five() -> Msg {
+    Msg::Item(Item::Int(5))
+}
