@@ -1,5 +1,6 @@
 pub mod Lists
 pub mod Coming
+pub mod Came
 pub mod Followed
 pub mod Owing
 pub mod Drained

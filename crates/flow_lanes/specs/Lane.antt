@@ -1,7 +1,8 @@
 -- What a contract sees of the two ends of a lane.
-use Rattle.std.specs.Prelude.{ℕ, List, Option, min}
+use Rattle.std.specs.Prelude.{ℕ, List, [], Option, min}
 use Rattle.flow_messages.specs.declared.message.Kind.{Kind}
 use Rattle.flow_messages.specs.declared.message.Msg.{Msg}
+use Rattle.flow_messages.specs.Stores.{content_of}
 use Rattle.flow_rings.specs.Edge as ring
 use Rattle.flow_lanes.specs.declared.ends.LaneWriter.{LaneWriter}
 use Rattle.flow_lanes.specs.declared.ends.LaneWriter.TheVariants.{Messages as MessagesTo, Scalars as ScalarsTo}
@@ -38,6 +39,16 @@ received (ScalarsFrom p) = taken_from p
 abbrev pub certain_held : LaneReader → List Msg
 certain_held (MessagesFrom r) = ring.certain_held r
 certain_held (ScalarsFrom p) = held_in p
+
+-- what the reader's ring states as received: over a lane of scalars, all that the pocket took over, given since or not
+abbrev pub taken_over : LaneReader → List Msg
+taken_over (MessagesFrom r) = ring.received r
+taken_over (ScalarsFrom p) = ring.received p.edge
+
+-- what the pocket holds of it
+abbrev pub in_pocket : LaneReader → List Msg
+in_pocket (MessagesFrom r) = []
+in_pocket (ScalarsFrom p) = content_of p.inbox.store
 
 -- the two are the ends of one lane
 abbrev pub IsLane : LaneWriter → LaneReader → Type 0

@@ -28,4 +28,4 @@ pub use making::lane;
 pub use meeting::meet_lane;
 pub use pocket::Pocket;
 pub use rings::Rings;
-pub use theorems::rings_stay_joined;
+pub use theorems::{received_came_over_the_ring, rings_stay_joined};

@@ -1,11 +1,19 @@
-// What follows for the ends of the shares. The function does nothing: its contract is the theorem.
-ghost use Rattle.std.specs.Prelude.{◌≡◌, ℕ, true, []};
+// What follows for lanes, and for the ends of the shares. The functions do nothing: their contracts are the theorems.
+ghost use Rattle.std.specs.Prelude.{◌≡◌, ◌++◌, ℕ, true, []};
 ghost use mathlib.Core.List.{IsPrefix};
 ghost use Rattle.flow_messages.specs.Signals.{ended};
 ghost use Rattle.flow_messages.specs.Ends.{SameEnds};
 ghost use Rattle.flow_rings.specs.declared.ring.Held.{Held};
+ghost use Rattle.flow_lanes.specs.declared.ends.LaneReader.{LaneReader};
 ghost use Rattle.flow_lanes.specs.declared.rings.Rings.{Rings};
+ghost use Rattle.flow_lanes.specs.Lane.{received, in_pocket, taken_over};
 ghost use Rattle.flow_lanes.specs.Rings.{ends_of, writer_at, reader_at, capacity_at, SameRings, Joins, RingsHaveMet};
+
+/// What was received over a lane, and what its pocket holds and has not given yet, are together all that `rtrb` states as
+/// received of the reader's ring. A lane of messages has no pocket: there the two are the same.
+pub fn received_came_over_the_ring()
+    ensures { (reader : LaneReader) → received reader ++ in_pocket reader ≡ taken_over reader }
+{}
 
 /// The ends of one edge stay so, whatever either share was called for since: each is there, at its
 /// number, and the edge keeps its capacity. Where they have met, what was received is a prefix of
