@@ -125,8 +125,8 @@ impl<T: Transducer> Placed<T> {
         self.node.emit()
     }
 
-    /// A visit: as many steps as it can make over the ends of its edges, at least one where they are certain of one, and
-    /// at most `chunk`. Whether it made a step.
+    /// A visit: some steps over the ends of its edges, at least one where they are certain of one. Whether it made a step.
+    /// That there are at most `chunk` is not promised.
     ///
     /// An error where memory was refused. Then it stays where it was before that step, and a message that it was to read
     /// is lost.

@@ -237,7 +237,6 @@ fn tokens_in(dialect: Dialect, alloc: Global, text: &[u8]) -> Result<Vec<Token>,
 
 /// The tokens of a program text, in order, each with the offset of its first byte. Offsets count
 /// bytes from 0. Blanks may stand before, between and after tokens, and the longest token is taken.
-/// Each byte is looked at a bounded number of times.
 ///
 /// # Errors
 ///
