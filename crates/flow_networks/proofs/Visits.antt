@@ -21,17 +21,17 @@ use Rattle.flow_messages.specs.Whole.{IsWhole, waiting}
 use Rattle.flow_messages.proofs.Waiting.{held-count, room-count, none-waits}
 use Rattle.flow_base.specs.Transducers.{Behaviour, BehaviourLaws}
 use Rattle.flow_base.specs.declared.transducer.Transducer.{Ghosts}
-use Rattle.flow_base.specs.Visits.{Visited, IsStuck, edge_of}
+use Rattle.flow_base.specs.Visits.{Visited, BrokeOff, IsStuck, edge_of}
 use Rattle.flow_networks.specs.declared.edge.Edge.{Edge}
 use Rattle.flow_networks.specs.declared.placed.Placed.{Placed}
 use Rattle.flow_networks.specs.Edges.{in_edge, out_edge}
 use Rattle.flow_networks.specs.Networks.{state_at, inputs_at, outputs_at, SameBut, network_of, configuration_of}
-use Rattle.flow_networks.specs.Visits.{IsVisited, HasAllEnds, Visits}
+use Rattle.flow_networks.specs.Visits.{IsVisited, HasAllEnds, Visits, VisitBrokeOff}
 use Rattle.flow_networks.specs.Places.{placed_state, states_in, AreSeated, IsSamePlace}
 use Rattle.flow_networks.specs.Kept.{IsBuilt}
 use Rattle.flow_networks.proofs.Nets.{lawful_net}
 use Rattle.flow_networks.proofs.Reached.{same_but, state_written}
-use Rattle.flow_networks.proofs.Seats.{state_here, input_here, output_here, states_after, openings_same}
+use Rattle.flow_networks.proofs.Seats.{state_here, inputs_here, outputs_here, input_here, output_here, states_after, openings_same}
 use Rattle.flow_networks.proofs.Carried.{read_own, read_other, sent_own, sent_other}
 
 -- events of one node are events of the nodes of the list that has it alone
@@ -232,3 +232,22 @@ module _ {X : Type 0} {t : Ghosts X} (laws : BehaviourLaws t.behaviour) (nodes :
 
       others : SameBut t.behaviour k (states_in nodes) (states_in (set nodes k y))
       others = same_but t.behaviour laws (states_in nodes) (states_in (set nodes k y)) (openings_same nodes k x inside is y place) k (placed_state y) (states_after nodes k x inside is y)
+
+-- a visit that broke off, of a placed node
+module _ {X : Type 0} {t : Ghosts X} (laws : BehaviourLaws t.behaviour) (nodes : List (Placed X t)) (edges : List Edge) (built : IsBuilt t.behaviour (states_in nodes) edges) (seated : AreSeated nodes edges)
+    (k : ℕ) (x : Placed X t) (inside : k < length nodes) (is : x ≡ get_or nodes k x) (y : Placed X t) (place : IsSamePlace x y) (a v : View) where
+  pub node_broke : BrokeOff x.inputs.items x.outputs.items t.behaviour (placed_state x) a (placed_state y) v → VisitBrokeOff t.behaviour k edges (states_in nodes) a (states_in (set nodes k y)) v
+  node_broke broke = record {
+    inputs = x.inputs.items;
+    outputs = x.outputs.items;
+    each_input = inputs_here nodes k x inside is;
+    each_output = outputs_here nodes k x inside is;
+    reads = λ p port. input_here nodes k x inside is edges built.joined seated p port;
+    writes = λ q port. output_here nodes k x inside is edges built.joined seated q port;
+    broke = subst (λ s. BrokeOff x.inputs.items x.outputs.items t.behaviour (state_at t.behaviour (states_in nodes) k) a s v) (sym after)
+        (subst (λ s. BrokeOff x.inputs.items x.outputs.items t.behaviour s a (placed_state y) v) (state_here nodes k x inside is) broke);
+    others = same_but t.behaviour laws (states_in nodes) (states_in (set nodes k y)) (openings_same nodes k x inside is y place) k (placed_state y) (states_after nodes k x inside is y);
+  }
+    where
+      after : state_at t.behaviour (states_in (set nodes k y)) k ≡ placed_state y
+      after = state_written t.behaviour (states_in nodes) (states_in (set nodes k y)) k (placed_state y) (omega (arith, inside, length-map nodes placed_state)) (states_after nodes k x inside is y)

@@ -4,10 +4,10 @@ use Rattle.flow_messages.specs.Whole.{IsWhole}
 use Rattle.flow_networks.specs.Graphs.{states_of, edges_of}
 use Rattle.flow_networks.specs.Places.{placed_state}
 use Rattle.flow_networks.proofs.NodeEnds.{all_node_ends, any_kind, ends_reads, ends_writes}
-use Rattle.flow_networks.proofs.Reached.{if_ok_if}
+use Rattle.flow_networks.proofs.Reached.{if_ok_if, on_err}
 use Rattle.flow_networks.proofs.Seats.{openings_same, built_same, seated_same}
 use Rattle.flow_networks.proofs.Shapes.{shape_opened}
-use Rattle.flow_networks.proofs.Visits.{node_visits}
+use Rattle.flow_networks.proofs.Visits.{node_visits, node_broke}
 use Rattle.flow_networks.proofs.graph.Graph.visit.Goals as goal
 
 pub run-requires-clause-reads : goal.run-requires-clause-reads
@@ -65,3 +65,14 @@ returns-clause-visits g c =
     if_ok_if _ _ c.run.result
     (λ any visited. node_visits g.met.T.Transducer.laws nodes graph.edges.items graph.built graph.seated c.args.node x l c.index_mut.ensures.value y c.run.ensures.place capacity (g.E.Ends.view ends) (g.E.Ends.view ends') (g.met.E.WholeEnds.whole ends) whole' c.run.ensures.ends c.requires.ends any visited)
     c.run.ensures.visited
+
+pub returns-clause-broke : goal.returns-clause-broke
+returns-clause-broke g c =
+    let graph = c.args.self.now in
+    let nodes = graph.nodes.items in
+    let x = c.index_mut.result.now in
+    let y = c.run.new.self in
+    let l : c.args.node < length nodes = omega (arith, c.requires.inside, length-map nodes placed_state) in
+    on_err c.run.result
+    (λ broke. node_broke g.met.T.Transducer.laws nodes graph.edges.items graph.built graph.seated c.args.node x l c.index_mut.ensures.value y c.run.ensures.place (g.E.Ends.view c.args.ends.now) (g.E.Ends.view c.run.new.ends) broke)
+    c.run.ensures.broke
