@@ -87,6 +87,14 @@ impl Ends for Boxes {
     }
 
     #[inline(always)]
+    fn scalar_is_next(&mut self, edge: usize) -> bool {
+        match &self.inboxes[edge] {
+            Some(inbox) => inbox.store.scalar_first(),
+            None => unreachable!(),
+        }
+    }
+
+    #[inline(always)]
     fn space(&mut self, edge: usize) -> usize {
         match &self.outboxes[edge] {
             Some(outbox) => outbox.room,

@@ -15,13 +15,13 @@ pub use Rattle.flow_messages.specs.Tables
 -- what every table keeps
 pub use Rattle.flow_messages.specs.TableLaws
 -- of the two ends of an edge over a ring, and of those that a share owns
-pub use Rattle.flow_rings.specs.declared.flat.Flat
+pub use Rattle.flow_messages.specs.declared.flat.Flat
 pub use Rattle.flow_rings.specs.declared.ring.EdgeWriter
 pub use Rattle.flow_rings.specs.declared.ring.EdgeReader
 pub use Rattle.flow_rings.specs.declared.ring.FinishedMark
 pub use Rattle.flow_rings.specs.declared.ring.Held
 pub use Rattle.flow_lanes.specs.declared.rings.Rings as RingEnds
-pub use Rattle.flow_rings.specs.Flats
+pub use Rattle.flow_messages.specs.Flats
 pub use Rattle.arrayvec.specs.ArrayVec
 pub use Rattle.flow_rings.specs.Edge
 pub use Rattle.flow_lanes.specs.Rings

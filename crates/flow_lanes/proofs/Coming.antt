@@ -5,8 +5,8 @@ use Rattle.flow_messages.specs.declared.message.Msg.{Msg}
 use Rattle.flow_messages.specs.Stores.{content_of}
 use Rattle.flow_boxes.specs.declared.inbox.Inbox.{Inbox}
 use Rattle.flow_boxes.specs.Coming.{HasCome}
-use Rattle.flow_rings.specs.declared.flat.Flat.{Flat}
-use Rattle.flow_rings.specs.Flats.{message_of, messages_of}
+use Rattle.flow_messages.specs.declared.flat.Flat.{Flat}
+use Rattle.flow_messages.specs.Flats.{message_of, messages_of}
 
 pub come_none : (a : Inbox) → HasCome [] a a
 come_none a = record { arrived = sym (append-nil a.arrived.items); held = sym (append-nil (content_of a.store)); received = refl; capacity = refl }

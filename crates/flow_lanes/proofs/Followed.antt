@@ -18,8 +18,8 @@ use Rattle.flow_messages.specs.Kinds.{FitsEdge, TakesKind}
 use Rattle.flow_messages.specs.Signals.{signals, signal_of, ended}
 use Rattle.flow_messages.proofs.Fitting.{kind_fits}
 use Rattle.flow_messages.proofs.Signals.{ended-more}
-use Rattle.flow_rings.specs.declared.flat.Flat.{Flat}
-use Rattle.flow_rings.specs.Flats.{message_of, messages_of}
+use Rattle.flow_messages.specs.declared.flat.Flat.{Flat}
+use Rattle.flow_messages.specs.Flats.{message_of, messages_of}
 use Rattle.flow_lanes.specs.Followed.{followed_unless_ended, item_messages}
 
 -- what a put leaves where an end was put, and where none was

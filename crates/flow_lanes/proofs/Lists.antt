@@ -1,11 +1,12 @@
 -- Sums of what messages say, and what begins with what.
-use Rattle.std.proofs.Common.{◌≡◌, ℕ, ◌+◌, ◌<◌, ◌≤◌, List, [], ◌∷◌, ◌++◌, length, take, get_or, sym, ap, ◌∙◌, arith, add-one, append_assoc, append-nil}
+use Rattle.std.proofs.Common.{◌≡◌, ℕ, ◌+◌, ◌<◌, ◌≤◌, List, [], ◌∷◌, ◌++◌, length, take, get_or, refl, sym, ap, ◌∙◌, arith, add-one, append_assoc, append-nil}
 use Rattle.std.proofs.Math.Seq.{take-suc}
 use Rattle.std.proofs.lemmas.List.{map-append}
 use mathlib.Core.List.{IsPrefix}
 use Rattle.flow_messages.specs.declared.message.Msg.{Msg}
-use Rattle.flow_rings.specs.declared.flat.Flat.{Flat}
-use Rattle.flow_rings.specs.Flats.{message_of, messages_of}
+use Rattle.flow_messages.specs.declared.flat.Flat.{Flat}
+use Rattle.flow_messages.specs.Signals.{signals}
+use Rattle.flow_messages.specs.Flats.{message_of, messages_of, scalar_first}
 use Rattle.flow_lanes.specs.Credits.{credit}
 
 pub credit-append : (xs ys : List Msg) → credit (xs ++ ys) ≡ credit xs + credit ys
@@ -41,3 +42,10 @@ pub filled : {A : Type 0} (c d ms h i j : List A) → IsPrefix h i → IsPrefix 
 filled c d ms h i j p q is =
     let all = prefix-after c h (ms ++ j) (prefix-trans h i (ms ++ j) p q) in
     (all.0, all.1 ∙ sym (append_assoc c ms j) ∙ ap (λ l. l ++ j) (sym is))
+
+-- what a pocket holds comes first, if it holds any where some is certain
+pub pocket_first : (c k : List Msg) → (0 < length (c ++ k) → 0 < length c) → scalar_first (signals c) ≡ scalar_first (signals (c ++ k))
+unfolding signals
+pocket_first [] [] some = refl
+pocket_first [] (m ∷ k) some = absurd (omega (arith, some (omega arith)))
+pocket_first (m ∷ c) k some = refl

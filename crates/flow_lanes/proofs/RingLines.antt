@@ -99,7 +99,7 @@ module _ (ws : List (Option LaneWriter)) (rs : List (Option LaneReader)) (e : �
   reader_ends : SameEnds from till
   reader_ends = record { kinds = λ k. refl; reads = at_line-kept reads_of rs e false old (Some v) h is (sym (ap reads_of was)); writes = λ k. refl }
 
-  now_coming : till.coming e ≡ signals (certain_held v)
+  pub now_coming : till.coming e ≡ signals (certain_held v)
   now_coming = at_line-same coming_of rs e [] (Some v) h
 
   pub had_coming : from.coming e ≡ signals (certain_held r)

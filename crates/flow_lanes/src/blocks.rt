@@ -2,7 +2,7 @@
 ghost use Rattle.std.specs.Prelude.{◌≡◌, ◌+◌, ◌≤◌, length, min, take};
 ghost use Rattle.flow_messages.specs.Kinds.{TakesKind};
 ghost use Rattle.flow_rings.specs.Edge.{sent, certain_room, kind_of, SameWriter};
-ghost use Rattle.flow_rings.specs.Flats.{messages_of};
+ghost use Rattle.flow_messages.specs.Flats.{messages_of};
 ghost use Rattle.flow_lanes.specs.Followed.{followed_unless_ended, item_messages};
 
 use crate::counted::CountedWriter;
@@ -21,7 +21,7 @@ pub(crate) trait Scalar: Copy {
     ghost use Rattle.flow_messages.specs.declared.message.Kind.{Kind};
     ghost use Rattle.flow_messages.specs.declared.message.Item.{Item};
     ghost use Rattle.flow_messages.specs.declared.message.Msg.TheVariants.{Item as ItemMsg};
-    ghost use Rattle.flow_rings.specs.Flats.{message_of};
+    ghost use Rattle.flow_messages.specs.Flats.{message_of};
 
     // The item that it stands for.
     ghost item: { Self → Item };

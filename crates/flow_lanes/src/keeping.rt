@@ -2,7 +2,7 @@
 ghost use Rattle.std.specs.Prelude.{◌≡◌, ◌+◌, ◌≤◌, length, take};
 ghost use Rattle.flow_messages.specs.Stores.{content_of};
 ghost use Rattle.flow_boxes.specs.Coming.{HasCome};
-ghost use Rattle.flow_rings.specs.Flats.{messages_of};
+ghost use Rattle.flow_messages.specs.Flats.{messages_of};
 ghost use Rattle.flow_lanes.specs.Followed.{item_messages};
 
 use crate::blocks::{PLACES, Scalar};

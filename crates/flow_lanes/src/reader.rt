@@ -3,6 +3,8 @@ ghost use Rattle.std.specs.Prelude.{◌≡◌, ◌<◌, ◌≤◌, ◌↔◌, []
 ghost use Rattle.std.specs.Io.Iter.{u64_saturate};
 ghost use mathlib.Core.List.{IsPrefix};
 ghost use Rattle.flow_messages.specs.Contents.{unit_messages, flag_messages, int_messages};
+ghost use Rattle.flow_messages.specs.Flats.{scalar_first};
+ghost use Rattle.flow_messages.specs.Signals.{signals};
 ghost use Rattle.flow_lanes.specs.Lane.{received, certain_held, SameReader};
 
 use crate::ends::LaneReader;
@@ -23,6 +25,23 @@ impl LaneReader {
             LaneReader::Scalars(pocket) => {
                 pocket.fill();
                 pocket.inbox.store.len() > 0
+            }
+        }
+    }
+
+    /// Whether the lane is certain to hold a message, and the next is no vector.
+    #[inline(always)]
+    pub fn scalar_is_next(&mut self) -> bool
+        ensures same { SameReader self.old self.new }
+        ensures looked { (received self.new ≡ received self.old) ×
+            IsPrefix (certain_held self.old) (certain_held self.new) }
+        ensures value { result ≡ scalar_first (signals (certain_held self.new)) }
+    {
+        match self {
+            LaneReader::Messages(edge) => edge.scalar_is_next(),
+            LaneReader::Scalars(pocket) => {
+                pocket.fill_if_empty();
+                pocket.inbox.store.scalar_first()
             }
         }
     }

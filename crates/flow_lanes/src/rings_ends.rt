@@ -48,6 +48,14 @@ impl Ends for Rings {
     }
 
     #[inline(always)]
+    fn scalar_is_next(&mut self, edge: usize) -> bool {
+        match &mut self.readers[edge] {
+            Some(reader) => reader.scalar_is_next(),
+            None => unreachable!(),
+        }
+    }
+
+    #[inline(always)]
     fn space(&mut self, edge: usize) -> usize {
         match &mut self.writers[edge] {
             Some(writer) => writer.space(),

@@ -7,7 +7,7 @@ ghost use Rattle.flow_messages.specs.declared.message.Item.TheVariants.{Int as I
 ghost use Rattle.flow_messages.specs.Stores.{content_of};
 ghost use Rattle.flow_boxes.specs.Received.{received_of};
 ghost use Rattle.flow_rings.specs.Edge.{certain_held, certain_room, kind_of, received, SameReader, SameWriter};
-ghost use Rattle.flow_rings.specs.Flats.{messages_of};
+ghost use Rattle.flow_messages.specs.Flats.{messages_of};
 ghost use Rattle.flow_lanes.specs.Credits.{Owes};
 ghost use Rattle.flow_lanes.specs.Taken.{taken_from, held_in};
 
@@ -121,7 +121,7 @@ impl Pocket {
 
     // Messages that came are held, where none is.
     #[inline(always)]
-    fn fill_if_empty(&mut self)
+    pub(crate) fn fill_if_empty(&mut self)
         ensures edge { SameReader self.old.edge self.new.edge }
         ensures back { SameWriter self.old.back self.new.back }
         ensures taken { taken_from self.new ≡ taken_from self.old }

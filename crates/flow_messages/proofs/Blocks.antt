@@ -12,10 +12,10 @@ use Rattle.flow_messages.specs.Signals.{Signal, signal_of, carry, stop, is_stop,
 use Rattle.flow_messages.specs.Blocks.{unit_signals}
 use Rattle.flow_messages.specs.Ends.{View, held, SameEnds, LookedForRoom, Put, Taken, TakenAll, PutAll}
 
-prefix_then : {X : Type 0} (xs ys zs : List X) → IsPrefix xs ys → IsPrefix ys zs → IsPrefix xs zs
+pub prefix_then : {X : Type 0} (xs ys zs : List X) → IsPrefix xs ys → IsPrefix ys zs → IsPrefix xs zs
 prefix_then xs ys zs (more, is) (rest, all) = (more ++ rest, sym (append_assoc xs more rest) ∙ ap (λ l. l ++ rest) is ∙ all)
 
-same_ends_then : (a b c : View) → SameEnds a b → SameEnds b c → SameEnds a c
+pub same_ends_then : (a b c : View) → SameEnds a b → SameEnds b c → SameEnds a c
 same_ends_then a b c h g = record { kinds = λ k. g.kinds k ∙ h.kinds k; writes = λ k. g.writes k ∙ h.writes k; reads = λ k. g.reads k ∙ h.reads k }
 
 -- one more of what was certain: it is the next, and the rest still comes
@@ -84,10 +84,10 @@ ended_append (stop ∷ xs) ys h = absurd (cc)
 
 -- one message more was put, where room was certain
 module _ (a v w : View) (e : ℕ) (ms : List Signal) (m : Signal) (message : Msg) (r : Result (Unit {0}) Refused) (all : PutAll a e ms v) (no_end : ended ms ≡ false) where
-  still_open : ended (a.sent e) ≡ false → ended (v.sent e) ≡ false
+  pub still_open : ended (a.sent e) ≡ false → ended (v.sent e) ≡ false
   still_open free = ap ended (all.sent ∙ ap (λ b. cond b (a.sent e) (a.sent e ++ ms)) free) ∙ ended_append (a.sent e) ms free ∙ no_end
 
-  still_shut : ended (a.sent e) ≡ true → v.sent e ≡ a.sent e
+  pub still_shut : ended (a.sent e) ≡ true → v.sent e ≡ a.sent e
   still_shut shut = all.sent ∙ ap (λ b. cond b (a.sent e) (a.sent e ++ ms)) shut
 
   shut_sent : (now : List Signal) → ended (a.sent e) ≡ true → now ≡ a.sent e → now ≡ cond (ended (a.sent e)) (a.sent e) (a.sent e ++ (ms ++ m ∷ []))
@@ -96,8 +96,8 @@ module _ (a v w : View) (e : ℕ) (ms : List Signal) (m : Signal) (message : Msg
   open_sent : (now : List Signal) → ended (a.sent e) ≡ false → now ≡ v.sent e ++ m ∷ [] → now ≡ cond (ended (a.sent e)) (a.sent e) (a.sent e ++ (ms ++ m ∷ []))
   open_sent now free is = is ∙ ap (λ l. l ++ m ∷ []) (all.sent ∙ ap (λ b. cond b (a.sent e) (a.sent e ++ ms)) free) ∙ append_assoc (a.sent e) ms (m ∷ []) ∙ ap (λ b. cond b (a.sent e) (a.sent e ++ (ms ++ m ∷ []))) (sym free)
 
-  pub put_next : length ms < a.room e → OnOk r (Put v e m w) → IfErr r (λ x. (x.message ≡ message) × LookedForRoom v e w) → IsErrAnd r (λ x. x.why ≡ Closed) ↔ (ended (v.sent e) ≡ true) → (ended (v.sent e) ≡ false → 0 < v.room e → IsOk r) → PutAll a e (ms ++ m ∷ []) w
-  put_next room ok refused closed succeeds = by_answer r ok refused closed succeeds where
+  pub put_more : 0 < v.room e → OnOk r (Put v e m w) → IfErr r (λ x. (x.message ≡ message) × LookedForRoom v e w) → IsErrAnd r (λ x. x.why ≡ Closed) ↔ (ended (v.sent e) ≡ true) → (ended (v.sent e) ≡ false → 0 < v.room e → IsOk r) → PutAll a e (ms ++ m ∷ []) w
+  put_more some ok refused closed succeeds = by_answer r ok refused closed succeeds where
     by_answer : (r : Result (Unit {0}) Refused) → OnOk r (Put v e m w) → IfErr r (λ x. (x.message ≡ message) × LookedForRoom v e w) → IsErrAnd r (λ x. x.why ≡ Closed) ↔ (ended (v.sent e) ≡ true) → (ended (v.sent e) ≡ false → 0 < v.room e → IsOk r) → PutAll a e (ms ++ m ∷ []) w
     by_answer (Ok x) ok refused closed succeeds = record {
       ends = same_ends_then a v w all.ends ok.ends;
@@ -116,7 +116,7 @@ module _ (a v w : View) (e : ℕ) (ms : List Signal) (m : Signal) (message : Msg
       ends = same_ends_then a v w all.ends refused.1.ends;
       sent = elim (cases_Bool (ended (a.sent e))) [
         | inl shut ↦ shut_sent (w.sent e) shut (refused.1.traffic.sent e ∙ still_shut shut)
-        | inr free ↦ absurd (let no = succeeds (still_open free) (omega (arith, all.room_here)) in cc)
+        | inr free ↦ absurd (let no = succeeds (still_open free) some in cc)
       ];
       others = λ k ne. refused.1.traffic.sent k ∙ all.others k ne;
       received = λ k. refused.1.traffic.received k ∙ all.received k;
@@ -125,6 +125,9 @@ module _ (a v w : View) (e : ℕ) (ms : List Signal) (m : Signal) (message : Msg
       room = λ k ne. refused.1.room k ne ∙ all.room k ne;
       room_here = omega (arith, all.room_here, refused.1.more, length-append ms (m ∷ []));
     }
+
+  pub put_next : length ms < a.room e → OnOk r (Put v e m w) → IfErr r (λ x. (x.message ≡ message) × LookedForRoom v e w) → IsErrAnd r (λ x. x.why ≡ Closed) ↔ (ended (v.sent e) ≡ true) → (ended (v.sent e) ≡ false → 0 < v.room e → IsOk r) → PutAll a e (ms ++ m ∷ []) w
+  put_next room ok refused closed succeeds = put_more (omega (arith, room, all.room_here)) ok refused closed succeeds
 
 -- what a block says, with one item more
 pub block_next : {X : Type 0} (f : X → Signal) (xs : List X) (i : ℕ) (d : X) → i < length xs → map f (take (i + 1) xs) ≡ map f (take i xs) ++ f (get_or xs i d) ∷ []

@@ -1,15 +1,17 @@
 -- Messages in blocks: what is put, taken and seen.
-use Rattle.std.proofs.Common.{◌≡◌, ℕ, ℤ, zero, suc, ◌+◌, ◌-◌, ◌<◌, ◌≤◌, Bool, List, [], ◌∷◌, ◌++◌, length, drop, take, map, get_or, min, refl, sym, ap, ◌∙◌, arith, add-one, suc-add, zero-add, append_assoc, append-nil, length-append, length-drop}
+use Rattle.std.proofs.Common.{◌≡◌, ℕ, ℤ, zero, suc, ◌+◌, ◌-◌, ◌<◌, ◌≤◌, Bool, true, false, List, [], ◌∷◌, ◌++◌, length, drop, take, map, get_or, min, refl, sym, ap, subst, ◌∙◌, arith, add-one, suc-add, zero-add, append_assoc, append-nil, length-append, length-drop}
 use Rattle.std.proofs.lemmas.List.{length-map, length-replicate, replicate-append-replicate, drop-replicate, drop-append-le, drop-map, map-append, replicate_more}
 use Rattle.std.proofs.lemmas.Grind.{take_at_read}
 use Rattle.std.proofs.Math.Seq.{drop-nil, drop-append_seam}
 use Rattle.std.proofs.lemmas.Bool.Decides.{nat_tests}
 use Rattle.std.specs.Ordering.{nat_cmp, ord_min}
-use Rattle.std.specs.Prelude.{Option, Some, None, IfNone}
+use Rattle.std.specs.Prelude.{Option, Some, None, IsSome, IfNone, ◌↔◌}
 use mathlib.Core.List.{IsPrefix}
 use Rattle.flow_messages.specs.declared.message.Msg.{Msg}
 use Rattle.flow_messages.specs.declared.message.Msg.TheVariants.{Item as ItemMsg}
 use Rattle.flow_messages.specs.declared.message.Item.TheVariants.{Unit as UnitItem, Bool as BoolItem, Int as IntItem}
+use Rattle.flow_messages.specs.Signals.{signals, signal_of}
+use Rattle.flow_messages.specs.Flats.{is_scalar, scalar_first}
 use Rattle.flow_messages.specs.Contents.{content, unit_messages, flag_messages, int_messages}
 
 -- a list of length 0
@@ -236,3 +238,30 @@ moved_on xs first ys n (rest, all) long =
 -- both together are as long as they were
 pub both_long : {X : Type 0} (xs ys xs' ys' : List X) → xs ++ ys ≡ xs' ++ ys' → length xs + length ys ≡ length xs' + length ys'
 both_long xs ys xs' ys' is = sym (length-append xs ys) ∙ ap length is ∙ length-append xs' ys'
+
+-- where more is held than the last part, a scalar comes first
+pub scalar_begins : (u : ℕ) (f : List Bool) (i : List ℤ) (q : List Msg) → length q < length (content u f i q) → true ≡ scalar_first (signals (content u f i q))
+unfolding content signals
+scalar_begins zero [] [] q more = absurd (omega (arith, more))
+scalar_begins zero [] (n ∷ i) q more = refl
+scalar_begins zero (b ∷ f) i q more = refl
+scalar_begins (suc u) f i q more = refl
+
+-- else the last part comes first
+pub queue_begins : (u : ℕ) (f : List Bool) (i : List ℤ) (q : List Msg) → length (content u f i q) ≤ length q → content u f i q ≡ q
+unfolding content
+queue_begins zero [] [] q less = refl
+queue_begins zero [] (n ∷ i) q less = absurd (omega (arith, less, length-append (int_messages (n ∷ i)) q, length-map i (λ n. ItemMsg (IntItem n))))
+queue_begins zero (b ∷ f) i q less = absurd (omega (arith, less, length-content 0 (b ∷ f) i q))
+queue_begins (suc u) f i q less = absurd (omega (arith, less, length-content (suc u) f i q))
+
+-- the first message tells whether a scalar comes first
+pub first_tells : (q : List Msg) (m : Msg) → 0 < length q → m ≡ get_or q 0 m → is_scalar (signal_of m) ≡ scalar_first (signals q)
+unfolding signals
+first_tells [] m some is = absurd (omega (arith, some))
+first_tells (n ∷ q) m some is = ap (λ (x : Msg). is_scalar (signal_of x)) is
+
+pub none_first : {X : Type 0} (q : List Msg) (r : Option X) → IsSome r ↔ (0 < length q) → r ≡ None → false ≡ scalar_first (signals q)
+unfolding signals
+none_first [] r iff is = refl
+none_first (n ∷ q) r iff is = absurd (let there = subst IsSome is (iff.1 (omega arith)) in cc)

@@ -7,3 +7,4 @@ pub mod Blocks
 pub mod Lines
 pub mod Contents
 pub mod Widened
+pub mod Scalars

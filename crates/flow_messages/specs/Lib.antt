@@ -1,6 +1,7 @@
 pub mod Cells
 pub mod Signals
 pub mod Kinds
+pub mod Flats
 pub mod Ends
 pub mod Blocks
 pub mod Contents

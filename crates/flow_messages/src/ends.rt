@@ -1,4 +1,5 @@
 // The ends of a set of edges.
+use crate::flat::{Block, Flat};
 use crate::message::{Item, Msg};
 
 /// Why a message was not put on an edge.
@@ -22,9 +23,12 @@ pub struct Refused {
 /// No call takes memory, and none waits. Ends that hold items of one kind side by side show them as slices, so that many are
 /// read, taken or put in one call; others show none, and then go one message at a time.
 pub trait Ends {
-    ghost use Rattle.std.specs.Prelude.{◌≡◌, ◌<◌, ◌≤◌, ◌↔◌, true, false, [], ◌∷◌, IsTrue, IsOk, IsSome, IfSome, IfNone, OnOk, IfErr, IsErrAnd, length, take};
+    ghost use Rattle.std.specs.Prelude.{◌≡◌, ◌<◌, ◌≤◌, ◌↔◌, true, false, [], ◌∷◌, ◌++◌, IsTrue, IsOk, IsSome, IfSome, IfNone, OnOk, IfErr, IsErrAnd, length, take};
     ghost use mathlib.Core.List.{IsPrefix};
-    ghost use Rattle.flow_messages.specs.Signals.{signal_of, ended};
+    ghost use Rattle.std.specs.List.{All};
+    ghost use Rattle.arrayvec.specs.ArrayVec.{array_vec_len};
+    ghost use Rattle.flow_messages.specs.Signals.{signal_of, ended, orderly};
+    ghost use Rattle.flow_messages.specs.Flats.{message_of, flat_signals, flats_appended, scalar_first};
     ghost use Rattle.flow_messages.specs.Kinds.{FitsEdge, TakesKind};
     ghost use Rattle.flow_messages.specs.declared.message.Kind.TheVariants.{Unit as UnitKind, Bool as BoolKind, Int as IntKind};
     ghost use Rattle.flow_messages.specs.Ends.{View, held, LookedForRoom, LookedForMessages, Put, Taken, TakenAll, PutAll};
@@ -59,15 +63,31 @@ pub trait Ends {
         ensures looked { LookedForMessages (view self.old) edge (view self.new) }
         ensures value { IsTrue result ↔ (0 < held (view self.new) edge) };
 
-    /// How many messages more the edge is certain to have room for, or fewer of them.
+    /// How many messages more the edge is certain to have room for: not fewer than it was certain of before.
     fn space(&mut self, edge: usize) -> usize
         requires { (view self.old).writes edge ≡ true }
         ensures same { same self.old self.new }
         ensures looked { LookedForRoom (view self.old) edge (view self.new) }
         ensures value { result ≤ (view self.new).room edge }
+        ensures sure { (view self.old).room edge ≤ result };
+
+    /// Whether the edge is certain to have room for so many messages more.
+    fn room_for(&mut self, edge: usize, count: usize) -> bool
+        requires { (view self.old).writes edge ≡ true }
+        ensures same { same self.old self.new }
+        ensures looked { LookedForRoom (view self.old) edge (view self.new) }
+        ensures value { IsTrue result → count ≤ (view self.new).room edge }
+        ensures sure { count ≤ (view self.old).room edge → IsTrue result }
     {
-        if self.room(edge) { 1 } else { 0 }
+        count <= self.space(edge)
     }
+
+    /// Whether a message is certain to be there, and the next is no vector.
+    fn scalar_is_next(&mut self, edge: usize) -> bool
+        requires { (view self.old).reads edge ≡ true }
+        ensures same { same self.old self.new }
+        ensures looked { LookedForMessages (view self.old) edge (view self.new) }
+        ensures value { result ≡ scalar_first ((view self.new).coming edge) };
 
     /// The message that the next take is certain to give, where these ends can show it. It stays.
     fn front(&self, edge: usize) -> Option<&Msg>
@@ -182,6 +202,72 @@ pub trait Ends {
         for int in ints {
             let _ = self.put(edge, Msg::Item(Item::Int(*int as i128)));
         }
+    }
+
+    /// Puts the messages of a block after all others, in order, and empties it.
+    ///
+    /// Where room is certain for fewer of them, or `End` was put on the edge before, the answer is false:
+    /// then nothing was put, and the block is as it was. An `End` may only be the last of the block.
+    fn put_block(&mut self, edge: usize, block: &mut Block) -> bool
+        requires writes { (view self.old).writes edge ≡ true }
+        requires fit { All (λ x. FitsEdge ((view self.old).kind edge) (signal_of (message_of x)))
+            block.old.items }
+        requires last { orderly (flat_signals block.old.items) ≡ true }
+        ensures same { same self.old self.new }
+        ensures put { IsTrue result →
+            PutAll (view self.old) edge (flat_signals block.old.items) (view self.new) }
+        ensures sent { IsTrue result → (view self.new).sent edge ≡
+            (view self.old).sent edge ++ flat_signals block.old.items }
+        ensures emptied { IsTrue result → block.new.items ≡ [] }
+        ensures refused { result ≡ false → LookedForRoom (view self.old) edge (view self.new) }
+        ensures kept { result ≡ false → block.new.items ≡ block.old.items }
+        ensures succeeds { ended ((view self.old).sent edge) ≡ false →
+            length block.old.items ≤ (view self.old).room edge → IsTrue result }
+    {
+        if !self.room_for(edge, block.len()) {
+            return false;
+        }
+        for flat in block.as_slice() {
+            if self.put(edge, flat.message()).is_err() {
+                return false;
+            }
+        }
+        block.clear();
+        true
+    }
+
+    /// Takes the oldest messages that were not taken, up to the first vector, at most `most`, as far as the block has
+    /// room, and appends them to it in order. The answer is how many: not none where a scalar was certain to come
+    /// next, the block had room and `most` is not 0.
+    fn take_block(&mut self, edge: usize, block: &mut Block, most: usize) -> usize
+        requires { (view self.old).reads edge ≡ true }
+        ensures same { same self.old self.new }
+        ensures before { block.new.items ≡ block.old.items ++ flats_appended block.old block.new }
+        ensures taken { TakenAll (view self.old) edge
+            (flat_signals (flats_appended block.old block.new)) (view self.new) }
+        ensures count { result ≡ length (flats_appended block.old block.new) }
+        ensures most { result ≤ most }
+        ensures all { result < most → array_vec_len block.new < 64 →
+            scalar_first ((view self.new).coming edge) ≡ false }
+        ensures succeeds { scalar_first ((view self.old).coming edge) ≡ true → 0 < most →
+            array_vec_len block.old < 64 → 0 < result }
+    {
+        for taken in 0..most {
+            if block.is_full() {
+                return taken;
+            }
+            if !self.scalar_is_next(edge) {
+                return taken;
+            }
+            let Some(message) = self.take(edge) else {
+                unreachable!()
+            };
+            let Some(flat) = Flat::of(&message) else {
+                unreachable!()
+            };
+            block.push(flat);
+        }
+        most
     }
 
     ghost same_refl: { (a : Self) → same a a };

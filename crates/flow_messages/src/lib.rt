@@ -8,6 +8,7 @@
 
 mod counted;
 mod ends;
+mod flat;
 mod histories;
 mod line;
 mod message;
@@ -20,6 +21,7 @@ mod whole;
 
 pub use counted::CountedEnds;
 pub use ends::{Ends, Refused, Why};
+pub use flat::{Block, Flat};
 pub use histories::{with_flags, with_ints, with_units};
 pub use message::{Item, Kind, Msg};
 pub use store::Store;

@@ -3,6 +3,7 @@ ghost use Rattle.std.specs.Prelude.{◌≡◌, false, IfOk, IsOk};
 ghost use Rattle.snesl_data.specs.Values.{value_of};
 ghost use Rattle.flow_messages.specs.Cells.{cell_of, datum as datum_cell, is_of};
 ghost use Rattle.flow_messages.specs.Signals.{signal_of, is_stop};
+ghost use Rattle.flow_messages.specs.Flats.{is_scalar};
 
 use snesl_data::{Datum, copy_datum};
 use std::alloc::{AllocError, Global};
@@ -86,6 +87,17 @@ impl Msg {
         match self {
             Msg::Item(_) => false,
             Msg::End => true,
+        }
+    }
+
+    /// Whether it is no vector: an item of another kind, or the end of the stream.
+    #[inline(always)]
+    pub fn is_scalar(&self) -> bool
+        ensures { result ≡ is_scalar (signal_of self.now) }
+    {
+        match self {
+            Msg::Item(Item::Vec(_)) => false,
+            Msg::Item(Item::Unit | Item::Bool(_) | Item::Int(_)) | Msg::End => true,
         }
     }
 }

@@ -3,6 +3,8 @@ ghost use Rattle.std.specs.Prelude.{◌≡◌, ◌+◌, ◌<◌, ◌≤◌, [], 
 ghost use Rattle.std.specs.VecDeque.{deque_len, deque_capacity};
 ghost use mathlib.Core.List.{IsPrefix};
 ghost use Rattle.flow_messages.specs.Runs.{run_items};
+ghost use Rattle.flow_messages.specs.Signals.{signals};
+ghost use Rattle.flow_messages.specs.Flats.{scalar_first};
 ghost use Rattle.flow_messages.specs.Contents.{content, unit_messages, flag_messages, int_messages};
 
 use crate::message::{Item, Msg};
@@ -97,6 +99,20 @@ impl Store {
             return None;
         }
         self.queue.front()
+    }
+
+    /// Whether it holds a message, and the oldest is no vector.
+    #[inline(always)]
+    pub fn scalar_first(&self) -> bool
+        ensures { result ≡ scalar_first (signals (content_of self.now)) }
+    {
+        if self.held > self.queue.len() {
+            return true;
+        }
+        match self.queue.front() {
+            Some(message) => message.is_scalar(),
+            None => false,
+        }
     }
 
     /// Puts a message after all others.

@@ -62,6 +62,11 @@ impl Ends for Table {
     }
 
     #[inline(always)]
+    fn scalar_is_next(&mut self, edge: usize) -> bool {
+        self.lines[edge].store.scalar_first()
+    }
+
+    #[inline(always)]
     fn space(&mut self, edge: usize) -> usize {
         self.lines[edge].space()
     }

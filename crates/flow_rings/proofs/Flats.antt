@@ -7,16 +7,16 @@ use Rattle.rtrb.specs.Fifo.{Allowed, EachAllowed}
 use Rattle.rtrb.specs.Ends.{SameRing}
 use Rattle.rtrb.specs.declared.end.End.{End}
 use Rattle.std.specs.declared.alloc.Global.{Global}
-use Rattle.std.specs.Prelude.{◌-◌, Option, None, Result, Ok, Err, IfOk, slice_get}
+use Rattle.std.specs.Prelude.{◌-◌, nat_lt, Option, None, Result, Ok, Err, IfOk, slice_get}
 use Rattle.flow_messages.specs.declared.message.Kind.{Kind}
 use Rattle.flow_messages.specs.declared.message.Msg.{Msg}
 use Rattle.flow_messages.specs.Signals.{signals, signal_of, is_stop, ended, orderly}
 use Rattle.flow_messages.proofs.Signals.{ended-more, ended-snoc}
-use Rattle.flow_rings.specs.declared.flat.Flat.{Flat}
-use Rattle.flow_rings.specs.declared.flat.Flat.TheVariants.{Unit as UnitFlat, Bool as BoolFlat, Int as IntFlat, End as EndFlat}
+use Rattle.flow_messages.specs.declared.flat.Flat.{Flat}
+use Rattle.flow_messages.specs.declared.flat.Flat.TheVariants.{Unit as UnitFlat, Bool as BoolFlat, Int as IntFlat, End as EndFlat}
 use Rattle.flow_rings.specs.Ring.{Which, place}
 use Rattle.flow_messages.specs.Kinds.{fits}
-use Rattle.flow_rings.specs.Flats.{message_of, messages_of, MayBePut}
+use Rattle.flow_messages.specs.Flats.{message_of, messages_of, MayBePut, is_scalar, scalar_first}
 
 -- what stands for a message that fits may follow an unended list
 pub may_follow : (k : Kind) (before : List Flat) (m : Msg) → ended (signals (messages_of before)) ≡ false → fits k (signal_of m) ≡ true → (x : Flat) → message_of x ≡ m → MayBePut k before x
@@ -120,3 +120,26 @@ which_same k a b s = λ i. (k, ((s.0 i, s.1 i), (s.2 i, s.3 i)))
 pub if_ok : {X E : Type 0} (P Q : X → Type 0) (r : Result X E) → ((x : X) → P x → Q x) → IfOk r P → IfOk r Q
 if_ok P Q (Ok x) f p = f x p
 if_ok P Q (Err e) f p = tt
+
+-- the oldest message that is known is a scalar or not
+pub shows_scalar : (k : List Msg) (m : Msg) → IsPrefix (m ∷ []) k → is_scalar (signal_of m) ≡ scalar_first (signals k)
+unfolding signals
+shows_scalar [] m (more, is) = absurd (cc)
+shows_scalar (n ∷ k) m (more, is) = ap (λ (x : Msg). is_scalar (signal_of x)) (first_of m n more k is) where
+  first_of : (m n : Msg) (more k : List Msg) → m ∷ more ≡ n ∷ k → m ≡ n
+  first_of m n more k is = cc
+
+-- where none is known there is no scalar
+pub shows_none : (k : List Msg) → length k ≡ 0 → false ≡ scalar_first (signals k)
+unfolding signals
+shows_none [] h = refl
+shows_none (n ∷ k) h = absurd (omega (arith, h))
+
+-- a scalar message is one
+pub flat_shows : (k : List Flat) → nat_lt 0 (length k) ≡ scalar_first (signals (messages_of k))
+unfolding signals
+flat_shows [] = refl
+flat_shows (UnitFlat ∷ k) = refl
+flat_shows (BoolFlat b ∷ k) = refl
+flat_shows (IntFlat n ∷ k) = refl
+flat_shows (EndFlat ∷ k) = refl

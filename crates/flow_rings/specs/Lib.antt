@@ -1,3 +1,2 @@
-pub mod Flats
 pub mod Ring
 pub mod Edge

@@ -8,7 +8,7 @@ use denote.RawPtr.{Ptr}
 use Rattle.flow_messages.specs.declared.message.Kind.{Kind}
 use Rattle.flow_messages.specs.declared.message.Kind.TheVariants.{Unit as UnitKind, Bool as BoolKind, Int as IntKind}
 use Rattle.flow_messages.specs.declared.message.Msg.{Msg}
-use Rattle.flow_rings.specs.Flats.{messages_of}
+use Rattle.flow_messages.specs.Flats.{messages_of}
 use Rattle.flow_rings.specs.declared.ring.WriterRing.{WriterRing}
 use Rattle.flow_rings.specs.declared.ring.WriterRing.TheVariants.{Messages as MessagesTo, Units as UnitsTo, Flags as FlagsTo, Ints as IntsTo}
 use Rattle.flow_rings.specs.declared.ring.ReaderRing.{ReaderRing}

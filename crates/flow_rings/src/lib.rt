@@ -21,7 +21,6 @@
 //! those of a ring of the crate `rtrb`.
 #![tactic(auto)]
 
-mod flat;
 mod making;
 mod reader;
 mod receiving;
@@ -30,7 +29,7 @@ mod sending;
 mod theorems;
 mod writer;
 
-pub use flat::{Block, Flat};
+pub use flow_messages::{Block, Flat};
 pub use making::{edge, meet, scalar_edge};
 pub use ring::{
     Closing, ClosingFlags, ClosingInts, ClosingUnits, EdgeReader, EdgeWriter, FinishedMark, Held,

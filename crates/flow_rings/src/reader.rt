@@ -5,13 +5,12 @@ ghost use Rattle.std.specs.Io.Iter.{u64_saturate};
 ghost use Rattle.arrayvec.specs.ArrayVec.{array_vec_len};
 ghost use mathlib.Core.List.{IsPrefix};
 ghost use Rattle.flow_messages.specs.Signals.{signals, signal_of, ended, orderly};
-ghost use Rattle.flow_rings.specs.Flats.{message_of, messages_of, flats_appended};
+ghost use Rattle.flow_messages.specs.Flats.{message_of, messages_of, flats_appended, scalar_first};
 ghost use Rattle.flow_messages.specs.Kinds.{FitsEdge};
 ghost use Rattle.flow_rings.specs.Edge.{received, certain_held, reader_kind, SameReader, all_sent, IsMarkOf};
 
-use crate::flat::{Block, Flat};
 use crate::ring::{EdgeReader, FinishedMark};
-use flow_messages::Msg;
+use flow_messages::{Block, Flat, Msg};
 
 impl EdgeReader {
     /// Takes the oldest message that was not taken, or none where none is certain to be there.
@@ -98,6 +97,17 @@ impl EdgeReader {
         let count = self.ring.pop_slice(flats, most);
         self.taken = self.taken.saturating_add(count as u64);
         count
+    }
+
+    /// Whether the edge is certain to hold a message, and the next is no vector.
+    #[inline(always)]
+    pub fn scalar_is_next(&mut self) -> bool
+        ensures same { SameReader self.old self.new }
+        ensures looked { (received self.new ≡ received self.old) ×
+            IsPrefix (certain_held self.old) (certain_held self.new) }
+        ensures value { result ≡ scalar_first (signals (certain_held self.new)) }
+    {
+        self.ring.scalar_is_next()
     }
 
     /// The oldest message that was not taken, where the edge was seen to hold one and can show it. It

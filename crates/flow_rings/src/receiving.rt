@@ -6,14 +6,13 @@ ghost use Rattle.arrayvec.specs.ArrayVec.{array_vec_len};
 ghost use Rattle.rtrb.specs.Ring as port;
 ghost use Rattle.rtrb.specs.Fifo.{Allowed};
 ghost use Rattle.flow_messages.specs.Signals.{signals, signal_of, ended, orderly};
-ghost use Rattle.flow_rings.specs.Flats.{message_of, messages_of, flats_appended};
+ghost use Rattle.flow_messages.specs.Flats.{message_of, messages_of, flats_appended, scalar_first};
 ghost use Rattle.flow_messages.specs.Kinds.{FitsEdge};
 ghost use Rattle.flow_rings.specs.Ring.{sent, received, known_free, known_items, all_sent, reader_kind, SameProducer, SameConsumer, IsPair, IsFinishedOf};
-ghost use Rattle.flow_rings.specs.declared.flat.Flat.{Flat as Scalar};
+ghost use Rattle.flow_messages.specs.declared.flat.Flat.{Flat as Scalar};
 
-use crate::flat::{Block, Flat};
 use crate::ring::{MarkRing, ReaderRing, WriterRing};
-use flow_messages::Msg;
+use flow_messages::{Block, Flat, Msg};
 use rtrb::{Consumer, PopError, Protocol};
 use std::alloc::Global;
 
@@ -86,6 +85,31 @@ fn pop_over<P: Protocol<Flat>>(
 {
     let (first, _) = flats.split_at_mut(most.min(flats.len()));
     ring.pop_partial_slice(first)
+}
+
+// Whether a message is there, and the oldest is no vector.
+#[inline(always)]
+fn scalar_shows<P: Protocol<Msg>>(ring: &mut Consumer<Msg, Global, P>) -> bool
+    ensures ring { port.SameConsumer ring.old ring.new }
+    ensures looked { (port.received ring.new ≡ port.received ring.old) ×
+        IsPrefix (port.known_items ring.old) (port.known_items ring.new) }
+    ensures value { result ≡ scalar_first (signals (port.known_items ring.new)) }
+{
+    if ring.slots() == 0 {
+        return false;
+    }
+    ring.peek_known().is_scalar()
+}
+
+// Whether a scalar message is there.
+#[inline(always)]
+fn flat_shows<P: Protocol<Flat>>(ring: &mut Consumer<Flat, Global, P>) -> bool
+    ensures ring { port.SameConsumer ring.old ring.new }
+    ensures looked { (port.received ring.new ≡ port.received ring.old) ×
+        IsPrefix (port.known_items ring.old) (port.known_items ring.new) }
+    ensures value { result ≡ scalar_first (signals (messages_of (port.known_items ring.new))) }
+{
+    ring.slots() > 0
 }
 
 impl ReaderRing {
@@ -174,6 +198,22 @@ impl ReaderRing {
             ReaderRing::Units(ring) => ring.is_empty(),
             ReaderRing::Flags(ring) => ring.is_empty(),
             ReaderRing::Ints(ring) => ring.is_empty(),
+        }
+    }
+
+    // Whether a message is there, and the oldest is no vector.
+    #[inline(always)]
+    pub(crate) fn scalar_is_next(&mut self) -> bool
+        ensures ring { SameConsumer self.old self.new }
+        ensures looked { (received self.new ≡ received self.old) ×
+            IsPrefix (known_items self.old) (known_items self.new) }
+        ensures value { result ≡ scalar_first (signals (known_items self.new)) }
+    {
+        match self {
+            ReaderRing::Messages(ring) => scalar_shows(ring),
+            ReaderRing::Units(ring) => flat_shows(ring),
+            ReaderRing::Flags(ring) => flat_shows(ring),
+            ReaderRing::Ints(ring) => flat_shows(ring),
         }
     }
 

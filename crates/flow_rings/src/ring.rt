@@ -4,8 +4,7 @@ ghost use Rattle.std.specs.Io.Iter.{u64_saturate};
 ghost use Rattle.flow_messages.specs.Signals.{signals, ended, orderly};
 ghost use Rattle.flow_rings.specs.Ring.{sent, received, all_sent};
 
-use crate::flat::Flat;
-use flow_messages::Msg;
+use flow_messages::{Flat, Msg};
 use rtrb::{Consumer, Finished, Producer, Protocol};
 use std::alloc::Global;
 
@@ -25,7 +24,7 @@ pub struct ClosingUnits;
 
 impl Protocol<Flat> for ClosingUnits {
     ghost use Rattle.flow_messages.specs.declared.message.Kind.TheVariants.{Unit as UnitKind};
-    ghost use Rattle.flow_rings.specs.Flats.{MayBePut};
+    ghost use Rattle.flow_messages.specs.Flats.{MayBePut};
 
     ghost allows = { MayBePut UnitKind };
 }
@@ -36,7 +35,7 @@ pub struct ClosingFlags;
 
 impl Protocol<Flat> for ClosingFlags {
     ghost use Rattle.flow_messages.specs.declared.message.Kind.TheVariants.{Bool as BoolKind};
-    ghost use Rattle.flow_rings.specs.Flats.{MayBePut};
+    ghost use Rattle.flow_messages.specs.Flats.{MayBePut};
 
     ghost allows = { MayBePut BoolKind };
 }
@@ -47,7 +46,7 @@ pub struct ClosingInts;
 
 impl Protocol<Flat> for ClosingInts {
     ghost use Rattle.flow_messages.specs.declared.message.Kind.TheVariants.{Int as IntKind};
-    ghost use Rattle.flow_rings.specs.Flats.{MayBePut};
+    ghost use Rattle.flow_messages.specs.Flats.{MayBePut};
 
     ghost allows = { MayBePut IntKind };
 }

@@ -4,16 +4,15 @@ ghost use Rattle.rtrb.specs.Ring as port;
 ghost use Rattle.rtrb.specs.Fifo.{EachAllowed};
 ghost use Rattle.rtrb.specs.declared.errors.PushError.TheVariants.{Full};
 ghost use Rattle.flow_messages.specs.Signals.{signals, signal_of, ended, orderly};
-ghost use Rattle.flow_rings.specs.Flats.{message_of, messages_of, is_scalar};
+ghost use Rattle.flow_messages.specs.Flats.{message_of, messages_of, is_scalar};
 ghost use Rattle.flow_messages.specs.Kinds.{FitsEdge};
 ghost use Rattle.flow_rings.specs.Ring.{sent, received, known_free, known_items, producer_capacity, writer_kind, SameProducer, SameConsumer, IsPair, Finishes};
-ghost use Rattle.flow_rings.specs.declared.flat.Flat.{Flat as Scalar};
+ghost use Rattle.flow_messages.specs.declared.flat.Flat.{Flat as Scalar};
 ghost use mathlib.Core.List.{IsPrefix};
 ghost use Rattle.std.specs.List.{All};
 
-use crate::flat::Flat;
 use crate::ring::{MarkRing, ReaderRing, WriterRing};
-use flow_messages::Msg;
+use flow_messages::{Flat, Msg};
 use rtrb::{Producer, Protocol, PushError};
 use std::alloc::Global;
 

@@ -5,12 +5,11 @@ ghost use Rattle.std.specs.Io.Iter.{u64_saturate};
 ghost use Rattle.flow_messages.specs.Signals.{signals, signal_of, ended, orderly};
 ghost use Rattle.flow_messages.specs.declared.ends.Why.TheVariants.{Full, Closed};
 ghost use Rattle.flow_rings.specs.Edge.{sent, certain_room, kind_of, SameWriter, Finishes};
-ghost use Rattle.flow_rings.specs.Flats.{message_of, messages_of};
+ghost use Rattle.flow_messages.specs.Flats.{message_of, messages_of};
 ghost use Rattle.flow_messages.specs.Kinds.{FitsEdge};
 
-use crate::flat::{Block, Flat};
 use crate::ring::{EdgeWriter, FinishedMark};
-use flow_messages::{Msg, Refused, Why};
+use flow_messages::{Block, Flat, Msg, Refused, Why};
 use rtrb::PushError;
 
 // Whether the last of these is the end of the stream.

@@ -1,5 +1,5 @@
 use Rattle.std.proofs.Common.{◌≡◌, length, take}
-use Rattle.flow_rings.specs.Flats.{messages_of}
+use Rattle.flow_messages.specs.Flats.{messages_of}
 use Rattle.flow_lanes.specs.Followed.{item_messages}
 use Rattle.flow_lanes.proofs.blocks.lay_out.Given as goal
 

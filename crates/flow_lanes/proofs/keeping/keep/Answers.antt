@@ -1,5 +1,5 @@
 use Rattle.std.proofs.Common.{drop, ap}
-use Rattle.flow_rings.specs.Flats.{messages_of}
+use Rattle.flow_messages.specs.Flats.{messages_of}
 use Rattle.flow_lanes.proofs.Coming.{come_as, come_all, room_left}
 use Rattle.flow_lanes.proofs.keeping.keep.Goals as goal
 

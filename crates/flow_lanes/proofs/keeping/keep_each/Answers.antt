@@ -2,7 +2,7 @@ use Rattle.std.proofs.Common.{length, take, ap, ◌∙◌, subst, arith, length-
 use Rattle.std.proofs.lemmas.List.{length-map, length-take-le, take_all}
 use Rattle.flow_messages.specs.Stores.{content_of}
 use Rattle.flow_boxes.specs.Coming.{HasCome}
-use Rattle.flow_rings.specs.Flats.{message_of, messages_of}
+use Rattle.flow_messages.specs.Flats.{message_of, messages_of}
 use Rattle.flow_lanes.proofs.Lists.{messages_next}
 use Rattle.flow_lanes.proofs.Coming.{come_none}
 use Rattle.flow_lanes.proofs.keeping.keep_each.Goals as goal

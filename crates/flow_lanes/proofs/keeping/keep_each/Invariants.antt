@@ -1,6 +1,6 @@
 use Rattle.std.proofs.Common.{take}
 use Rattle.flow_boxes.specs.Coming.{HasCome}
-use Rattle.flow_rings.specs.Flats.{messages_of}
+use Rattle.flow_messages.specs.Flats.{messages_of}
 use Rattle.flow_lanes.proofs.keeping.keep_each.Given as goal
 
 -- what is held so far

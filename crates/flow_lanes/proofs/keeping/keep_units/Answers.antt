@@ -1,6 +1,6 @@
 use Rattle.std.proofs.Common.{◌∙◌, take, sym, arith}
 use Rattle.flow_messages.specs.Contents.{unit_messages}
-use Rattle.flow_rings.specs.Flats.{messages_of}
+use Rattle.flow_messages.specs.Flats.{messages_of}
 use Rattle.flow_lanes.proofs.Coming.{come_as}
 use Rattle.flow_lanes.proofs.Followed.{units_taken}
 use Rattle.flow_lanes.proofs.keeping.keep_units.Goals as goal

@@ -2,7 +2,7 @@ use Rattle.std.proofs.Common.{length, ap, sym, ◌∙◌, arith}
 use Rattle.std.proofs.lemmas.Option.{slice_get_within, unwrap_or-slice_get}
 use Rattle.std.specs.Prelude.{unwrap_or, ◌-◌}
 use Rattle.flow_messages.specs.Signals.{is_stop, signal_of}
-use Rattle.flow_rings.specs.Flats.{message_of}
+use Rattle.flow_messages.specs.Flats.{message_of}
 use Rattle.flow_rings.proofs.Flats.{last_ends, none_ends}
 use Rattle.flow_rings.proofs.writer.ends.Goals as goal
 

@@ -1,7 +1,7 @@
 use Rattle.std.proofs.Common.{take}
 use Rattle.flow_messages.specs.Stores.{content_of}
 use Rattle.flow_rings.specs.Edge.{certain_held}
-use Rattle.flow_rings.specs.Flats.{messages_of}
+use Rattle.flow_messages.specs.Flats.{messages_of}
 use Rattle.flow_lanes.proofs.Lists.{filled, prefix-refl}
 use Rattle.flow_lanes.proofs.pocket.Pocket.take_block.Goals as goal
 

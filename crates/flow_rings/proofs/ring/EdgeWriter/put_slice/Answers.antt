@@ -3,7 +3,7 @@ use Rattle.flow_messages.specs.declared.message.Msg.{Msg}
 use Rattle.flow_messages.specs.Signals.{signals, ended, orderly}
 use Rattle.flow_messages.proofs.Signals.{ended-more, orderly-more}
 use Rattle.std.proofs.Common.{List}
-use Rattle.flow_rings.specs.Flats.{messages_of}
+use Rattle.flow_messages.specs.Flats.{messages_of}
 use Rattle.flow_rings.specs.Edge.{sent}
 use Rattle.flow_rings.proofs.ring.EdgeWriter.put_slice.Goals as goal
 

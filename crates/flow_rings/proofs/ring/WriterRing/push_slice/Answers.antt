@@ -3,7 +3,7 @@ use Rattle.std.specs.List.{All}
 use Rattle.flow_messages.specs.declared.message.Kind.TheVariants.{Unit, Bool, Int}
 use Rattle.flow_messages.specs.Signals.{signals, signal_of, ended}
 use Rattle.flow_messages.specs.Kinds.{FitsEdge}
-use Rattle.flow_rings.specs.Flats.{message_of}
+use Rattle.flow_messages.specs.Flats.{message_of}
 use Rattle.flow_rings.specs.Ring.{sent, writer_kind}
 use Rattle.flow_rings.proofs.Flats.{each_follows}
 use Rattle.flow_rings.proofs.ring.WriterRing.push_slice.Goals as goal

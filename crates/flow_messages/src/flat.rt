@@ -1,10 +1,10 @@
-// Scalar messages, as they lie in blocks and in the rings of scalars.
+// Scalar messages, as they lie in blocks and in rings of scalars.
 ghost use Rattle.std.specs.Prelude.{◌≡◌, false, IfSome, IfNone};
 ghost use Rattle.flow_messages.specs.Signals.{signal_of, is_stop};
-ghost use Rattle.flow_rings.specs.Flats.{message_of, is_scalar};
+ghost use Rattle.flow_messages.specs.Flats.{message_of, is_scalar};
 
+use crate::message::{Item, Msg};
 use arrayvec::ArrayVec;
-use flow_messages::{Item, Msg};
 
 /// A scalar message: an item that is no vector, or the end of the stream.
 #[derive(Clone, Copy, Debug, PartialEq, Eq)]

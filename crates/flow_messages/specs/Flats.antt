@@ -1,5 +1,5 @@
 -- Scalar messages, and which messages an edge of one kind takes.
-use Rattle.std.specs.Prelude.{◌≡◌, Bool, true, false, List, map, drop}
+use Rattle.std.specs.Prelude.{◌≡◌, Bool, true, false, List, [], ◌∷◌, map, drop}
 use Rattle.arrayvec.specs.ArrayVec.{ArrayVec, array_vec_len}
 use Rattle.flow_messages.specs.declared.message.Kind.{Kind}
 use Rattle.flow_messages.specs.declared.message.Msg.{Msg}
@@ -8,8 +8,8 @@ use Rattle.flow_messages.specs.declared.message.Item.TheVariants.{Unit as UnitIt
 use Rattle.flow_messages.specs.Cells.{unit, flag, int, datum}
 use Rattle.flow_messages.specs.Signals.{Signal, carry, stop, signal_of, signals, ended}
 use Rattle.flow_messages.specs.Kinds.{fits}
-use Rattle.flow_rings.specs.declared.flat.Flat.{Flat}
-use Rattle.flow_rings.specs.declared.flat.Flat.TheVariants.{Unit as UnitFlat, Bool as BoolFlat, Int as IntFlat, End as EndFlat}
+use Rattle.flow_messages.specs.declared.flat.Flat.{Flat}
+use Rattle.flow_messages.specs.declared.flat.Flat.TheVariants.{Unit as UnitFlat, Bool as BoolFlat, Int as IntFlat, End as EndFlat}
 
 -- the message that it stands for
 abbrev pub message_of : Flat → Msg
@@ -29,6 +29,15 @@ is_scalar (carry unit) = true
 is_scalar (carry (flag b)) = true
 is_scalar (carry (int n)) = true
 is_scalar stop = true
+
+-- what these scalar messages say, in order
+abbrev pub flat_signals : List Flat → List Signal
+flat_signals xs = signals (messages_of xs)
+
+-- whether a message comes first that is no vector
+abbrev pub scalar_first : List Signal → Bool
+scalar_first [] = false
+scalar_first (m ∷ ms) = is_scalar m
 
 -- on an edge of the kind x may follow these: none of them is an end, and x fits
 abbrev pub MayBePut : Kind → List Flat → Flat → Type 0
