@@ -1,5 +1,6 @@
 // Courses over edges: what is done at their ends, step by step, and what is to come of it. Each is a row, of boxes or of rings.
-ghost use Rattle.std.specs.Prelude.{◌≡◌, ◌<◌, ◌≤◌, ℕ, length, slice_index_or};
+ghost use Rattle.std.specs.Prelude.{◌≡◌, ◌<◌, ◌≤◌, ℕ, true, length, slice_index_or};
+ghost use Rattle.flow_messages.specs.declared.message.Kind.TheVariants.{Int as IntKind};
 ghost use Rattle.std.specs.List.{All};
 ghost use Rattle.flow_messages.specs.Ends.{SameEnds};
 ghost use Rattle.flow_messages.specs.Limits.{greatest_capacity};
@@ -7,11 +8,12 @@ ghost use Rattle.flow_tests.specs.Joined.{AreJoined};
 ghost use Rattle.flow_tests.specs.Taking.{AllTake};
 
 use crate::parts::messages::{is_message, is_refused, message};
+use crate::parts::one_thread::block as block_of;
 use crate::parts::opened::{alike, own_owner, owners};
 use flow_boxes::Boxes;
 use flow_lanes::Rings;
 use flow_meetings::{EdgeOwners, Meeting, Opening, meet_all, open_all};
-use flow_messages::{CountedEnds, Kind, Why};
+use flow_messages::{Block as Scalars, CountedEnds, Kind, Why};
 use std::alloc::{AllocError, Global};
 use std::process::Abort;
 use std::test::Fail;
@@ -43,6 +45,12 @@ pub enum Block {
     ShowsFlags(&'static [bool]),
     ShowsInts(&'static [i64]),
     SkipsOne,
+    /// Whether there is room for so many.
+    HasRoomFor(usize, bool),
+    /// These numbers are put, and `End` after them where it closes; or they are refused, and nothing is.
+    PutsScalars(&'static [i128], bool, bool),
+    /// At most so many messages are taken, and these come, with `End` after them where it closes.
+    TakesScalars(usize, &'static [i128], bool),
 }
 
 // A step of a course.
@@ -234,8 +242,36 @@ const UNITS_OVER_BOXES: Course = Course {
     ],
 };
 
-const OVER_BOXES: [Course; 6] = [
+// Blocks of scalars go whole or not at all, and come in order.
+const SCALARS: Course = Course {
+    name: "blocks of scalars",
+    shares: Shares::One,
+    kind: Kind::Int,
+    capacity: 3,
+    steps: &[
+        CourseStep::At(0, 0, Act::Blocks(Block::HasRoomFor(3, true))),
+        CourseStep::At(0, 0, Act::Blocks(Block::HasRoomFor(4, false))),
+        CourseStep::At(0, 0, Act::Blocks(Block::PutsScalars(&[1, 2], false, true))),
+        CourseStep::At(0, 0, Act::Blocks(Block::PutsScalars(&[3], true, false))),
+        CourseStep::At(0, 0, Act::Blocks(Block::PutsScalars(&[3], false, true))),
+        CourseStep::At(0, 0, Act::Blocks(Block::PutsScalars(&[], true, false))),
+        CourseStep::Meet,
+        CourseStep::At(0, 0, Act::Blocks(Block::TakesScalars(0, &[], false))),
+        CourseStep::At(0, 0, Act::Blocks(Block::TakesScalars(2, &[1, 2], false))),
+        CourseStep::At(0, 0, Act::Blocks(Block::TakesScalars(64, &[3], false))),
+        CourseStep::At(0, 0, Act::Blocks(Block::TakesScalars(64, &[], false))),
+        CourseStep::Meet,
+        CourseStep::At(0, 0, Act::Blocks(Block::PutsScalars(&[4], true, true))),
+        CourseStep::At(0, 0, Act::Blocks(Block::PutsScalars(&[5], false, false))),
+        CourseStep::Meet,
+        CourseStep::At(0, 0, Act::Blocks(Block::TakesScalars(64, &[4], true))),
+        CourseStep::At(0, 0, Act::Counts(5, 5)),
+    ],
+};
+
+const OVER_BOXES: [Course; 7] = [
     EACH_WAY,
+    SCALARS,
     INTS_OVER_BOXES,
     FLAGS_OVER_BOXES,
     UNITS_OVER_BOXES,
@@ -285,8 +321,9 @@ const OVER_BOXES: [Course; 6] = [
     },
 ];
 
-const OVER_RINGS: [Course; 9] = [
+const OVER_RINGS: [Course; 10] = [
     EACH_WAY,
+    SCALARS,
     INTS_OVER_RINGS,
     FLAGS_OVER_RINGS,
     UNITS_OVER_RINGS,
@@ -408,12 +445,42 @@ fn goes_in_blocks<E: CountedEnds>(ends: &mut E, edge: usize, kind: Kind, block: 
             ends.put_ints(edge, ints);
         }
         Block::SkipsOne if reads && ends.ready(edge) => ends.skip(edge, 1),
+        Block::HasRoomFor(count, room) => return writes && ends.room_for(edge, count) == room,
+        Block::PutsScalars(numbers, closes, put) if writes && kind == Kind::Int => {
+            return puts_scalars(ends, edge, kind, numbers, closes) == put;
+        }
+        Block::TakesScalars(most, numbers, closes) if reads => {
+            let mut taken = Scalars::new();
+            let count = ends.take_block(edge, &mut taken, most);
+            return count == taken.len() && taken.as_slice() == block_of(Kind::Int, numbers, closes).as_slice();
+        }
         Block::ShowsUnits(count) => return reads && ends.units(edge) == count,
         Block::ShowsFlags(flags) => return reads && ends.flags(edge) == flags,
         Block::ShowsInts(ints) => return reads && ends.ints(edge) == ints,
         _ => return false,
     }
     true
+}
+
+// Puts these numbers as a block, and `End` after them where it closes. Whether they are put; if not, the block is as it was.
+fn puts_scalars<E: CountedEnds>(
+    ends: &mut E,
+    edge: usize,
+    kind: Kind,
+    numbers: &[i128],
+    closes: bool,
+) -> bool
+    requires writes { (E.view ends.old).writes edge ≡ true }
+    requires ints { kind ≡ IntKind }
+    requires takes { AllTake (E.view ends.old) kind }
+    ensures same { E.same ends.old ends.new }
+    ensures ends { SameEnds (E.view ends.old) (E.view ends.new) }
+{
+    let mut put = block_of(Kind::Int, numbers, closes);
+    if ends.put_block(edge, &mut put) {
+        return put.is_empty();
+    }
+    put.as_slice() != block_of(Kind::Int, numbers, closes).as_slice()
 }
 
 // The same in the share of this number.

@@ -5,7 +5,7 @@ ghost use Rattle.flow_messages.specs.declared.message.Kind.TheVariants.{Vec as V
 ghost use Rattle.flow_messages.specs.Signals.{signals, signal_of, is_stop, orderly};
 ghost use Rattle.flow_rings.specs.Edge.{IsEdge, kind_of};
 ghost use Rattle.flow_messages.specs.Kinds.{fits};
-ghost use Rattle.flow_rings.specs.Flats.{message_of, messages_of};
+ghost use Rattle.flow_messages.specs.Flats.{message_of, messages_of};
 ghost use Rattle.flow_tests.specs.Ints.{TakesInts};
 
 use crate::parts::messages::{is_message, is_refused, message};
@@ -89,8 +89,8 @@ fn flat(kind: Kind, number: i128) -> Flat
     }
 }
 
-// The block of the items of this kind that stand for these numbers, and of `End` where it closes, as far as it has room.
-fn block(kind: Kind, numbers: &[i128], closes: bool) -> Block
+/// The block of the items of this kind that stand for these numbers, and of `End` where it closes, as far as it has room.
+pub fn block(kind: Kind, numbers: &[i128], closes: bool) -> Block
     requires scalar { kind ≢ VecKind }
     ensures fit { All (λ x. fits kind (signal_of (message_of x)) ≡ true) result.items }
     ensures last { orderly (signals (messages_of result.items)) ≡ true }

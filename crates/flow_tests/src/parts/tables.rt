@@ -117,3 +117,25 @@ fn wide_integers(rt: HostRuntime) -> Result<(), Fail> {
     assert_eq!(rt; first_wrong(&mut table, &WIDE_AND_NARROW), None);
     Ok(())
 }
+
+// A block of scalars is put whole, or not at all, and is taken in order.
+const OF_SCALARS: [(usize, Act); 8] = [
+    (0, Act::Blocks(Block::HasRoomFor(3, true))),
+    (0, Act::Blocks(Block::HasRoomFor(4, false))),
+    (
+        0,
+        Act::Blocks(Block::PutsScalars(&[1, 2, WIDE], true, false)),
+    ),
+    (0, Act::Blocks(Block::PutsScalars(&[1, WIDE], true, true))),
+    (0, Act::Blocks(Block::PutsScalars(&[3], false, false))),
+    (0, Act::Blocks(Block::TakesScalars(1, &[1], false))),
+    (0, Act::Blocks(Block::TakesScalars(64, &[WIDE], true))),
+    (0, Act::Counts(3, 3)),
+];
+
+#[test]
+fn blocks_of_scalars(rt: HostRuntime) -> Result<(), Fail> {
+    let mut table = Table::new(rt.alloc(), 1, 3)?;
+    assert_eq!(rt; first_wrong(&mut table, &OF_SCALARS), None);
+    Ok(())
+}
