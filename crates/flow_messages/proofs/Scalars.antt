@@ -1,5 +1,5 @@
 -- Blocks of scalar messages: what is put and taken.
-use Rattle.std.proofs.Common.{◌≡◌, ℕ, zero, suc, ◌+◌, ◌<◌, ◌≤◌, true, false, cond, List, [], ◌∷◌, ◌++◌, length, map, take, drop, refl, sym, ap, subst, ◌∙◌, arith, inl, inr, add-one, get_or, append_assoc, append-nil, length-append}
+use Rattle.std.proofs.Common.{◌≡◌, ℕ, zero, suc, ◌+◌, ◌<◌, ◌≤◌, true, false, cond, List, [], ◌∷◌, ◌++◌, length, take, drop, refl, sym, ap, subst, ◌∙◌, arith, inl, inr, add-one, get_or, append_assoc, append-nil}
 use Rattle.std.proofs.Math.Seq.{drop-append_seam, take-suc}
 use Rattle.std.proofs.lemmas.List.{length-map, map-append}
 use mathlib.Core.List.{IsPrefix}
@@ -10,8 +10,8 @@ use Rattle.flow_messages.specs.Signals.{Signal, signals, signal_of, ended, order
 use Rattle.flow_messages.specs.Flats.{message_of, messages_of, is_scalar, flat_signals, scalar_first}
 use Rattle.flow_messages.specs.TableLaws.{signals-length}
 use Rattle.flow_messages.proofs.Signals.{signals-snoc}
-use Rattle.flow_messages.specs.Ends.{View, SameEnds, LookedForRoom, LookedForMessages, Put, Taken, TakenAll, PutAll}
-use Rattle.flow_messages.proofs.Blocks.{prefix_then, same_ends_then, still_open}
+use Rattle.flow_messages.specs.Ends.{View, LookedForRoom, LookedForMessages, Put, Taken, TakenAll, PutAll}
+use Rattle.flow_messages.proofs.Blocks.{same_ends_then, still_open}
 use Rattle.std.specs.List.{All}
 use Rattle.std.specs.Prelude.{Option, Result, Ok, Err, OnOk, IfErr, IsOk, IsErrAnd, ◌↔◌}
 use Rattle.std.proofs.lemmas.Bool.{cases_Bool}
@@ -182,9 +182,9 @@ module _ (a v w : View) (e : ℕ) (ms : List Signal) (message : Msg) (all : PutA
   room_after (Ok x) ok put = put.room_here
 
   pub not_refused : (r : Result (Unit {0}) Refused) → (IsOk r → ⊥) → (ended (v.sent e) ≡ false → 0 < v.room e → IsOk r) → ended (a.sent e) ≡ false → ⊥
-  not_refused r no succeeds free = no (succeeds (still_open a v w e ms (signal_of message) message r all no_end free) some)
+  not_refused r bad succeeds free = bad (succeeds (still_open a v w e ms (signal_of message) message r all no_end free) some)
 
   pub refused_first : (r : Result (Unit {0}) Refused) (i : ℕ) → (IsOk r → ⊥) → IfErr r (λ x. (x.message ≡ message) × LookedForRoom v e w) → (ended (v.sent e) ≡ false → 0 < v.room e → IsOk r) → (i ≡ 0 → LookedForRoom a e v) → (0 < i → ended (a.sent e) ≡ false) → LookedForRoom a e w
-  refused_first (Ok x) i no refused succeeds looked free = absurd (no refl)
-  refused_first (Err x) zero no refused succeeds looked free = looked_then a v w e (looked refl) refused.1
-  refused_first (Err x) (suc i) no refused succeeds looked free = absurd (not_refused (Err x) no succeeds (free (omega arith)))
+  refused_first (Ok x) i bad refused succeeds looked free = absurd (bad refl)
+  refused_first (Err x) zero bad refused succeeds looked free = looked_then a v w e (looked refl) refused.1
+  refused_first (Err x) (suc i) bad refused succeeds looked free = absurd (not_refused (Err x) bad succeeds (free (omega arith)))

@@ -1,4 +1,4 @@
-use Rattle.std.proofs.Common.{rules, ◌≡◌, ◌<◌, ◌≤◌, length, take, refl, sym, ap, ◌∙◌, subst, arith, IsOk}
+use Rattle.std.proofs.Common.{rules, ◌<◌, length, take, refl, sym, ap, ◌∙◌, subst, arith, IsOk}
 use Rattle.std.proofs.lemmas.List.{take_all}
 use Rattle.flow_messages.specs.Signals.{signal_of}
 use Rattle.flow_messages.specs.Flats.{flat_signals}

@@ -1,4 +1,4 @@
-use Rattle.std.proofs.Common.{rules, ◌≡◌, ◌<◌, ◌≤◌, [], ◌∷◌, ◌++◌, length, drop, sym, ap, ◌∙◌, subst, arith, append-nil, length-append}
+use Rattle.std.proofs.Common.{rules, ◌≤◌, [], ◌∷◌, ◌++◌, length, drop, sym, ap, ◌∙◌, subst, arith, append-nil, length-append}
 use Rattle.arrayvec.specs.ArrayVec.{array_vec_len}
 use Rattle.flow_messages.specs.Signals.{signal_of}
 use Rattle.flow_messages.specs.Flats.{flat_signals}

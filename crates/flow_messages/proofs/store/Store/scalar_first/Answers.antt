@@ -1,5 +1,4 @@
 use Rattle.std.proofs.Common.{◌<◌, length, sym, ap, ◌∙◌, refl, arith}
-use Rattle.flow_messages.specs.declared.message.Msg.{Msg}
 use Rattle.flow_messages.specs.Signals.{signals}
 use Rattle.flow_messages.specs.Flats.{scalar_first}
 use Rattle.flow_messages.specs.Runs.{run_items}
