@@ -7,7 +7,7 @@ use Rattle.rtrb.specs.Fifo.{Allowed, EachAllowed}
 use Rattle.rtrb.specs.Ends.{SameRing}
 use Rattle.rtrb.specs.declared.end.End.{End}
 use Rattle.std.specs.declared.alloc.Global.{Global}
-use Rattle.std.specs.Prelude.{◌-◌, nat_lt, Option, None, Result, Ok, Err, IfOk, slice_get}
+use Rattle.std.specs.Prelude.{◌-◌, Option, None, Result, Ok, Err, IfOk, slice_get}
 use Rattle.flow_messages.specs.declared.message.Kind.{Kind}
 use Rattle.flow_messages.specs.declared.message.Msg.{Msg}
 use Rattle.flow_messages.specs.Signals.{signals, signal_of, is_stop, ended, orderly}
@@ -135,11 +135,16 @@ unfolding signals
 shows_none [] h = refl
 shows_none (n ∷ k) h = absurd (omega (arith, h))
 
--- a scalar message is one
-pub flat_shows : (k : List Flat) → nat_lt 0 (length k) ≡ scalar_first (signals (messages_of k))
+-- where some are known, a scalar is
+pub flats_show : (k : List Flat) → 0 < length k → true ≡ scalar_first (signals (messages_of k))
 unfolding signals
-flat_shows [] = refl
-flat_shows (UnitFlat ∷ k) = refl
-flat_shows (BoolFlat b ∷ k) = refl
-flat_shows (IntFlat n ∷ k) = refl
-flat_shows (EndFlat ∷ k) = refl
+flats_show [] some = absurd (omega (arith, some))
+flats_show (UnitFlat ∷ k) some = refl
+flats_show (BoolFlat b ∷ k) some = refl
+flats_show (IntFlat n ∷ k) some = refl
+flats_show (EndFlat ∷ k) some = refl
+
+pub no_flats : (k : List Flat) → length k ≡ 0 → false ≡ scalar_first (signals (messages_of k))
+unfolding signals
+no_flats [] none = refl
+no_flats (x ∷ k) none = absurd (omega (arith, none))

@@ -109,7 +109,11 @@ fn flat_shows<P: Protocol<Flat>>(ring: &mut Consumer<Flat, Global, P>) -> bool
         IsPrefix (port.known_items ring.old) (port.known_items ring.new) }
     ensures value { result ≡ scalar_first (signals (messages_of (port.known_items ring.new))) }
 {
-    ring.slots() > 0
+    let count = ring.slots();
+    if count == 0 {
+        return false;
+    }
+    true
 }
 
 impl ReaderRing {
