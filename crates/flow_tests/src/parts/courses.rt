@@ -452,7 +452,8 @@ fn goes_in_blocks<E: CountedEnds>(ends: &mut E, edge: usize, kind: Kind, block: 
         Block::TakesScalars(most, numbers, closes) if reads => {
             let mut taken = Scalars::new();
             let count = ends.take_block(edge, &mut taken, most);
-            return count == taken.len() && taken.as_slice() == block_of(Kind::Int, numbers, closes).as_slice();
+            return count == taken.len()
+                && taken.as_slice() == block_of(Kind::Int, numbers, closes).as_slice();
         }
         Block::ShowsUnits(count) => return reads && ends.units(edge) == count,
         Block::ShowsFlags(flags) => return reads && ends.flags(edge) == flags,
