@@ -1,15 +1,20 @@
 // Answers the job on standard input.
 #![tactic(auto)]
 
-use snesl_console::complain;
+use snesl_console::{complain, send};
 use snesl_data::{Counted, Refusal};
-use snesl_run::answer;
+use snesl_run::{answer, settings};
 use std::alloc::{AllocError, Global};
 use std::env::{self, FillError};
 use std::io::{self, ErrorKind, Read, Write};
 use std::process::ExitCode;
 use std::rt::Env;
 use std::thread::Threads;
+
+// What is said besides of words that are no settings.
+const HELP: &[u8] = b"snesl reads a job from standard input, and takes options, as `--chunk 256`
+(docs/LANGUAGE.md). `levuttar run FILE` runs a file, `levuttar --help` helps.
+";
 
 fn main(rt: HostRuntime) -> ExitCode {
     let mut job = Counted::new(rt.stdin());
@@ -26,7 +31,8 @@ fn main(rt: HostRuntime) -> ExitCode {
     ExitCode::from(status)
 }
 
-// Answers the job, under the words of the command line. The error is that memory was refused to the words.
+// Answers the job, under the words of the command line. Where these are refused, standard error tells where help is. The error is
+// that memory was refused to the words.
 fn answered<H: Env + AllocGlobal + Threads, R: Read, W: Write, E: Write>(
     rt: &H,
     job: &mut Counted<R>,
@@ -35,7 +41,13 @@ fn answered<H: Env + AllocGlobal + Threads, R: Read, W: Write, E: Write>(
 ) -> io::Result<u8> {
     let args = args_of(rt)?;
     let words = words_of(rt.alloc(), &args)?;
-    Ok(answer(rt, rt.alloc(), &words, job, out, err))
+    let status = answer(rt, rt.alloc(), &words, job, out, err);
+    if status == Refusal::BadConfig.status()
+        && matches!(settings(rt.alloc(), &words), Err(Refusal::BadConfig))
+    {
+        let _ = send(err, HELP);
+    }
+    Ok(status)
 }
 
 // The words of the command line. Where one of them is no UTF-8, the name and one word are given, each as `?`.
