@@ -1,5 +1,6 @@
 // The command line, by clap.
 
+use crate::choosing::{choice_of, explain_word};
 use crate::drawing::draw_command;
 use crate::sizing::size_command;
 use crate::watching::watch_word;
@@ -9,50 +10,54 @@ use snesl_run::{Config, settings};
 use std::alloc::{AllocError, Global};
 
 // The options that say settings. Each has a name, the word before its value, what that is, and a line of help.
-const OPTIONS: [(&str, &str, &str, &str); 6] = [
+pub(crate) const OPTIONS: [(&str, &str, &str, &str); 6] = [
     (
         "capacity",
         "--capacity",
         "MESSAGES",
-        "How many messages an edge holds, 1 to 65536 [without it: 256]",
+        "How many messages an edge holds, 1 to 65536",
     ),
     (
         "chunk",
         "--chunk",
         "STEPS",
-        "How many steps a node makes before the next has its turn, 1 to 1024 [without it: 16]",
+        "How many steps a visit of a node has, 1 to 1024",
     ),
     (
         "threads",
         "--threads",
         "THREADS",
-        "How many threads there are, 1 to 16 [without it: 2]",
+        "How many threads there are, 1 to 16",
     ),
     (
         "idle",
         "--idle",
         "TURNS",
-        "How many turns in a row without a step end a thread, 1 to 1000000 [without it: 64]",
+        "After how many turns without a step a thread\nends, 1 to 1000000",
     ),
     (
         "drive",
         "--drive",
         "DRIVE",
-        "serial: in one thread; rounds: in threads, round after round; rings: in threads, over rings between them [without it: rings]",
+        "serial: in one thread; rounds: in threads,\nround after round; rings: in threads, over\nrings between them",
     ),
     (
         "deal",
         "--deal",
         "DIGITS",
-        "Which thread has each node, in turn: 1 to 64 digits of 0..9 and a..f, each below the number of threads",
+        "Which thread has each node, in turn: 1 to 64\ndigits of 0..9 and a..f",
     ),
 ];
+
+const VERSION: &str = "1.0";
 
 // The command of the program, with its subcommands.
 pub(crate) fn command<'a>(alloc: Global) -> Result<Command<'a>, AllocError> {
     Command::new(alloc, "levuttar")
         .bin_name("levuttar")?
         .about("Runs programs of Streaming NESL, and says in words what goes wrong")
+        .version(VERSION)
+        .after_help("Example: echo 'reduce_add({x * x : x in iota(4)})' | levuttar run")
         .subcommand_required(true)
         .arg_required_else_help(true)
         .subcommand(run_command(alloc)?)?
@@ -60,12 +65,19 @@ pub(crate) fn command<'a>(alloc: Global) -> Result<Command<'a>, AllocError> {
         .subcommand(draw_command(alloc)?)
 }
 
+const RUNS: &str = "A job is a program, a line `---`, and its input text. What no option says is
+chosen: one thread, 1024 steps a visit, 1024 messages an edge, and more of them
+where the program stalls.
+
+Example: levuttar run --explain examples/primes.snesl";
+
 // The subcommand `run`.
 fn run_command<'a>(alloc: Global) -> Result<Command<'a>, AllocError> {
     let run = Command::new(alloc, "run")
         .about("Runs a job: prints its value, or says what went wrong and where")
-        .after_help("A job is a program, a line `---`, and its input text.");
+        .after_help(RUNS);
     with_settings(alloc, run)?
+        .arg(explain_word(alloc))?
         .arg(watch_word(alloc))?
         .arg(file_word(alloc))
 }
@@ -91,17 +103,25 @@ pub(crate) fn with_settings<'a>(
 pub(crate) fn file_word<'a>(alloc: Global) -> Arg<'a> {
     Arg::new(alloc, "file")
         .value_name("FILE")
-        .help("The job; without it, standard input is read")
+        .help("The job; without it or for `-`, standard input")
 }
 
-// The configuration that the words say.
+// The configuration that the words say. What they do not say is chosen.
 pub(crate) fn config_of(alloc: Global, matches: &ArgMatches<'_>) -> Result<Config, Refusal> {
     let mut words = vec![in alloc; "levuttar"]?;
     for (name, word, _, _) in OPTIONS {
-        if let Some(value) = matches.get_str(name) {
+        if let Some(value) = value_of(name, matches) {
             words.push(word)?;
             words.push(value)?;
         }
     }
     settings(alloc, &words)
+}
+
+// The value that an option has, by a word or by choice.
+fn value_of<'a>(name: &str, matches: &ArgMatches<'a>) -> Option<&'a str> {
+    match matches.get_str(name) {
+        Some(value) => Some(value),
+        None => choice_of(name, matches),
+    }
 }

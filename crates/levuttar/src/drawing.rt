@@ -4,6 +4,7 @@ use crate::command_line::{config_of, file_word, with_settings};
 use crate::reading::read_job;
 use crate::running::{run_alone, say_outcome};
 use crate::saying::{say_plainly, say_refused};
+use crate::voice::Voice;
 use clap::{Arg, ArgAction, ArgMatches, Command};
 use snesl_console::send;
 use snesl_data::{Counted, Refusal};
@@ -20,23 +21,23 @@ use std::thread::Threads;
 
 // What is drawn besides, each by an option: its name, and a line of help.
 const FLAGS: [(&str, &str); 2] = [
-    (
-        "text",
-        "Writes a line for each node, and not a picture for Graphviz",
-    ),
+    ("text", "Writes a line for each node, and no picture"),
     (
         "traffic",
-        "Runs the job first, under the settings below, and says how many messages went over each edge",
+        "Runs the job first, and says how many messages\nwent over each edge",
     ),
 ];
+
+const DRAWS: &str = "A job is a program, a line `---`, and its input text. Without `--traffic` it is
+not run, and with it what no option says is chosen.
+
+Example: levuttar draw --traffic examples/primes.snesl | dot -Tsvg >primes.svg";
 
 // The subcommand `draw`.
 pub(crate) fn draw_command<'a>(alloc: Global) -> Result<Command<'a>, AllocError> {
     let mut draw = Command::new(alloc, "draw")
         .about("Draws the network of a program, in DOT, the language of Graphviz")
-        .after_help(
-            "A job is a program, a line `---`, and its input text. Without `--traffic` it is not run.",
-        );
+        .after_help(DRAWS);
     for (name, help) in FLAGS {
         let flag = Arg::new(alloc, name).long(name);
         draw = draw.arg(flag.action(ArgAction::SetTrue).help(help))?;
@@ -58,22 +59,22 @@ pub(crate) fn draw_file<H: AllocGlobal + Files + Threads, R: Read + Drop, W: Wri
     matches: &ArgMatches<'_>,
     stdin: R,
     out: &mut Counted<W>,
-    err: &mut Counted<E>,
+    err: &mut Voice<E>,
 ) -> u8 {
-    let (program, input) = match read_job(rt, matches, stdin, err) {
-        Ok(parts) => parts,
+    let job = match read_job(rt, matches, stdin, err) {
+        Ok(job) => job,
         Err(status) => return status,
     };
-    let picture = match drawn(rt, rt.alloc(), matches, &program, &input) {
+    let picture = match drawn(rt, rt.alloc(), matches, &job.program, &job.input) {
         Ok(picture) => picture,
-        Err(refusal) => return say_refused(rt.alloc(), refusal, &program, &input, err),
+        Err(refusal) => return say_refused(rt.alloc(), refusal, &job, err),
     };
     if !send(out, &picture.text) {
         return say_plainly(Refusal::Output, err);
     }
     match picture.run {
         None => 0,
-        Some((outcome, chunk)) => say_outcome(rt, outcome, &program, &input, chunk, err),
+        Some((outcome, chunk)) => say_outcome(rt, outcome, &job, Some(chunk), err),
     }
 }
 

@@ -1,13 +1,16 @@
 // Runs jobs, and says in words what went wrong and where.
 #![tactic(auto)]
 
+mod choosing;
 mod command_line;
 mod drawing;
+mod placing;
 mod reading;
 mod running;
 mod saying;
 mod sizing;
 mod stalling;
+mod voice;
 mod watching;
 
 use command_line::command;
@@ -18,14 +21,17 @@ use sizing::size_file;
 use snesl_data::{Counted, Refusal};
 use std::alloc::AllocError;
 use std::env;
-use std::io::{self, ErrorKind, Read, Write};
+use std::io::{self, ErrorKind, IsTerminal, Read, Write};
 use std::process::ExitCode;
 use std::rt::{Clock, Env, Files};
 use std::thread::Threads;
+use voice::Voice;
 
 fn main(rt: HostRuntime) -> ExitCode {
     let mut out = Counted::new(rt.stdout());
-    let mut err = Counted::new(rt.stderr());
+    let on_terminal = rt.stderr().is_terminal();
+    let in_colours = on_terminal && shows_colours(&rt);
+    let mut err = Voice::new(rt.stderr(), on_terminal, in_colours);
     let status = match words_of(&rt) {
         Ok(words) => obeyed(&rt, &words, rt.stdin(), &mut out, &mut err),
         Err(error) if error.kind() == ErrorKind::InvalidData => {
@@ -40,6 +46,14 @@ fn main(rt: HostRuntime) -> ExitCode {
     ExitCode::from(status)
 }
 
+// Whether the environment lets a terminal show colours.
+fn shows_colours<R: Env + AllocGlobal>(rt: &R) -> bool {
+    match env::var(rt, "NO_COLOR") {
+        Ok(text) => text.is_empty(),
+        Err(_) => true,
+    }
+}
+
 // The words of the command line. The error is that one is no text, or that memory was refused to them.
 fn words_of<R: Env + AllocGlobal>(rt: &R) -> io::Result<Vec<String>> {
     Ok(env::args(rt)?.collect(rt.alloc())?)
@@ -51,7 +65,7 @@ fn obeyed<
     R: Read + Drop,
     W: Write,
     E: Write,
->(rt: &H, words: &[String], stdin: R, out: &mut Counted<W>, err: &mut Counted<E>) -> u8 {
+>(rt: &H, words: &[String], stdin: R, out: &mut Counted<W>, err: &mut Voice<E>) -> u8 {
     let command = match command(rt.alloc()) {
         Ok(command) => command,
         Err(AllocError) => return say_plainly(Refusal::NoMemory, err),

@@ -1,6 +1,7 @@
 // Reading a job.
 
 use crate::saying::{say, say_plainly, unopened_message};
+use crate::voice::Voice;
 use clap::ArgMatches;
 use snesl_data::{Counted, Refusal};
 use snesl_run::split_job;
@@ -9,35 +10,58 @@ use std::fs;
 use std::io::{Read, Write};
 use std::rt::Files;
 
-// The program and the input text of the job in the file that the words name, or on standard input. The error is the exit
-// status, after what went wrong was said.
-pub(crate) fn read_job<H: AllocGlobal + Files, R: Read + Drop, E: Write>(
-    rt: &H,
-    matches: &ArgMatches<'_>,
-    stdin: R,
-    err: &mut Counted<E>,
-) -> Result<(Vec<u8>, Vec<u8>), u8> {
-    let Some(path) = matches.get_str("file") else {
-        return parts_of(rt.alloc(), stdin, err);
-    };
-    match fs::open(rt, path) {
-        Ok(file) => parts_of(rt.alloc(), file, err),
-        Err(_) => Err(say(
-            unopened_message(rt.alloc(), path),
-            Refusal::Read.status(),
-            err,
-        )),
+// A program and its input text, and the file that has both, where they came from one.
+#[derive(Drop)]
+pub(crate) struct Job<'a> {
+    pub(crate) program: Vec<u8>,
+    pub(crate) input: Vec<u8>,
+    pub(crate) file: Option<&'a str>,
+}
+
+impl<'a> Job<'a> {
+    // A job of which nothing is read.
+    pub(crate) fn none(alloc: Global) -> Job<'a> {
+        Job {
+            program: Vec::new(alloc),
+            input: Vec::new(alloc),
+            file: None,
+        }
     }
 }
 
-// The program and the input text of the job that a reader gives.
-fn parts_of<R: Read + Drop, E: Write>(
+// The job in the file that the words name, or on standard input. The error is the exit status, after what went wrong was said.
+pub(crate) fn read_job<'a, H: AllocGlobal + Files, R: Read + Drop, E: Write>(
+    rt: &H,
+    matches: &ArgMatches<'a>,
+    stdin: R,
+    err: &mut Voice<E>,
+) -> Result<Job<'a>, u8> {
+    match matches.get_str("file") {
+        None | Some("-") => job_of(rt.alloc(), stdin, None, err),
+        Some(path) => match fs::open(rt, path) {
+            Ok(file) => job_of(rt.alloc(), file, Some(path), err),
+            Err(_) => Err(say(
+                unopened_message(rt.alloc(), path),
+                Refusal::Read.status(),
+                err,
+            )),
+        },
+    }
+}
+
+// The job that a reader gives.
+fn job_of<'a, R: Read + Drop, E: Write>(
     alloc: Global,
     reader: R,
-    err: &mut Counted<E>,
-) -> Result<(Vec<u8>, Vec<u8>), u8> {
+    file: Option<&'a str>,
+    err: &mut Voice<E>,
+) -> Result<Job<'a>, u8> {
     match split_job(alloc, &mut Counted::new(reader)) {
-        Ok(parts) => Ok(parts),
+        Ok((program, input)) => Ok(Job {
+            program,
+            input,
+            file,
+        }),
         Err(error) => Err(say_plainly(Refusal::from(error), err)),
     }
 }

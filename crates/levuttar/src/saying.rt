@@ -1,10 +1,13 @@
 // What is said on standard error.
 
+use crate::placing::{say_place_in_program, say_place_of_refusal};
+use crate::reading::Job;
+use crate::voice::Voice;
 use clap::Error;
 use clap::error::ErrorKind;
 use snesl_console::send;
-use snesl_data::{Counted, Refusal};
-use snesl_look::{clash_message, refusal_message, refusal_sentence};
+use snesl_data::{Counted, Fault, Refusal};
+use snesl_look::{clash_message, fault_message, refusal_message, refusal_sentence};
 use snesl_syntax::parse;
 use snesl_types::clash_at;
 use std::alloc::{AllocError, Global};
@@ -14,11 +17,11 @@ use std::io::Write;
 pub(crate) fn say<E: Write>(
     message: Result<Vec<u8>, AllocError>,
     status: u8,
-    err: &mut Counted<E>,
+    err: &mut Voice<E>,
 ) -> u8 {
     match message {
         Ok(message) => {
-            let _ = send(err, &message);
+            let _ = err.say(&message);
             status
         }
         Err(AllocError) => say_plainly(Refusal::NoMemory, err),
@@ -26,38 +29,48 @@ pub(crate) fn say<E: Write>(
 }
 
 // Says a refusal by its sentence alone, for which no memory is taken, and gives its exit status.
-pub(crate) fn say_plainly<E: Write>(refusal: Refusal, err: &mut Counted<E>) -> u8 {
+pub(crate) fn say_plainly<E: Write>(refusal: Refusal, err: &mut Voice<E>) -> u8 {
     let sentence = refusal_sentence(refusal);
-    let _ = send(err, b"error: ") && send(err, sentence.as_bytes()) && send(err, b"\n");
+    let _ = err.say(b"error: ") && err.say(sentence.as_bytes()) && err.say(b"\n");
     refusal.status()
 }
 
 // What is said of a refusal of a job: of types that do not fit, which they are, where that is found.
-fn job_message(
-    alloc: Global,
-    refusal: Refusal,
-    program: &[u8],
-    input: &[u8],
-) -> Result<Vec<u8>, AllocError> {
+fn job_message(alloc: Global, refusal: Refusal, job: &Job<'_>) -> Result<Vec<u8>, AllocError> {
     if let Refusal::Mismatch(at) = refusal
-        && let Ok(parsed) = parse(alloc, program)
+        && let Ok(parsed) = parse(alloc, &job.program)
         && let Ok(Some(clash)) = clash_at(alloc, &parsed, at)
     {
-        return clash_message(alloc, at, program, &clash);
+        return clash_message(alloc, at, &job.program, &clash);
     }
-    refusal_message(alloc, refusal, program, input)
+    refusal_message(alloc, refusal, &job.program, &job.input)
 }
 
 // Says why a job is refused, and gives the exit status.
 pub(crate) fn say_refused<E: Write>(
     alloc: Global,
     refusal: Refusal,
-    program: &[u8],
-    input: &[u8],
-    err: &mut Counted<E>,
+    job: &Job<'_>,
+    err: &mut Voice<E>,
 ) -> u8 {
-    let message = job_message(alloc, refusal, program, input);
+    let message = job_message(alloc, refusal, job);
+    if say_place_of_refusal(alloc, refusal, job, err).is_err() {
+        return say_plainly(Refusal::NoMemory, err);
+    }
     say(message, refusal.status(), err)
+}
+
+// Says in which fault a program ends, and gives the exit status.
+pub(crate) fn say_fault<E: Write>(
+    alloc: Global,
+    fault: Fault,
+    job: &Job<'_>,
+    err: &mut Voice<E>,
+) -> u8 {
+    if say_place_in_program(alloc, job, fault.at, err).is_err() {
+        return say_plainly(Refusal::NoMemory, err);
+    }
+    say(fault_message(alloc, fault, &job.program), 2, err)
 }
 
 // What is said of a file that cannot be opened.
@@ -73,14 +86,14 @@ pub(crate) fn say_words<W: Write, E: Write>(
     alloc: Global,
     error: &Error,
     out: &mut Counted<W>,
-    err: &mut Counted<E>,
+    err: &mut Voice<E>,
 ) -> u8 {
     let text = match format!(in alloc; "{error}") {
         Ok(text) => text,
         Err(_) => return say_plainly(Refusal::NoMemory, err),
     };
     if error.use_stderr() {
-        let _ = send(err, text.as_bytes());
+        let _ = err.say(text.as_bytes());
         match error.kind() {
             ErrorKind::OutOfMemory => Refusal::NoMemory.status(),
             _ => Refusal::BadConfig.status(),

@@ -1,32 +1,34 @@
 // How much the edges of a program must hold: `levuttar size`, and what `levuttar run` tells of a stall.
 
 use crate::command_line::{config_of, file_word};
-use crate::reading::read_job;
-use crate::saying::{say, say_plainly, say_refused};
+use crate::reading::{Job, read_job};
+use crate::saying::{say, say_fault, say_plainly, say_refused};
+use crate::voice::Voice;
 use clap::{Arg, ArgMatches, Command};
 use snesl_console::send;
 use snesl_data::{Counted, Refusal};
-use snesl_look::{Enough, fault_message, stalled_message};
+use snesl_look::{Enough, stalled_message};
 use snesl_size::{Size, least_capacity, size_table};
 use std::alloc::{AllocError, Global};
 use std::io::{Read, Write};
 use std::rt::Files;
 use std::thread::Threads;
 
+const SIZES: &str = "A job is a program, a line `---`, and its input text. It is driven in one
+thread, at capacities up to 65536.
+
+Example: levuttar size examples/primes.snesl";
+
 // The subcommand `size`.
 pub(crate) fn size_command<'a>(alloc: Global) -> Result<Command<'a>, AllocError> {
     Command::new(alloc, "size")
-        .about("Tells the least capacity at which a job ends, and how great its network is")
-        .after_help(
-            "A job is a program, a line `---`, and its input text. It is driven in one thread.",
-        )
+        .about("Tells the least capacity at which a job ends, and the size of its network")
+        .after_help(SIZES)
         .arg(
             Arg::new(alloc, "chunk")
                 .long("chunk")
                 .value_name("STEPS")
-                .help(
-                    "How many steps a node makes before the next has its turn, 1 to 1024 [without it: 16]",
-                ),
+                .help("How many steps a visit of a node has, 1 to 1024"),
         )?
         .arg(file_word(alloc))
 }
@@ -38,18 +40,18 @@ pub(crate) fn size_file<H: AllocGlobal + Files + Threads, R: Read + Drop, W: Wri
     matches: &ArgMatches<'_>,
     stdin: R,
     out: &mut Counted<W>,
-    err: &mut Counted<E>,
+    err: &mut Voice<E>,
 ) -> u8 {
     let alloc = rt.alloc();
     let chunk = match config_of(alloc, matches) {
         Ok(config) => config.chunk,
-        Err(refusal) => return say_refused(alloc, refusal, b"", b"", err),
+        Err(refusal) => return say_refused(alloc, refusal, &Job::none(alloc), err),
     };
-    let (program, input) = match read_job(rt, matches, stdin, err) {
-        Ok(parts) => parts,
+    let job = match read_job(rt, matches, stdin, err) {
+        Ok(job) => job,
         Err(status) => return status,
     };
-    match least_capacity(rt, alloc, &program, &input, chunk) {
+    match least_capacity(rt, alloc, &job.program, &job.input, chunk) {
         Ok(
             Size::Ends {
                 least,
@@ -57,13 +59,13 @@ pub(crate) fn size_file<H: AllocGlobal + Files + Threads, R: Read + Drop, W: Wri
                 rested,
             },
         ) => print_table(size_table(alloc, least, full, &rested), out, err),
-        Ok(Size::Faults(fault)) => say(fault_message(alloc, fault, &program), 2, err),
+        Ok(Size::Faults(fault)) => say_fault(alloc, fault, &job, err),
         Ok(Size::NeverEnds) => say(
-            stalled_message(alloc, &program, None, Enough::Nothing),
+            stalled_message(alloc, &job.program, None, Enough::Nothing),
             3,
             err,
         ),
-        Err(refusal) => say_refused(alloc, refusal, &program, &input, err),
+        Err(refusal) => say_refused(alloc, refusal, &job, err),
     }
 }
 
@@ -71,7 +73,7 @@ pub(crate) fn size_file<H: AllocGlobal + Files + Threads, R: Read + Drop, W: Wri
 fn print_table<W: Write, E: Write>(
     table: Result<Vec<u8>, AllocError>,
     out: &mut Counted<W>,
-    err: &mut Counted<E>,
+    err: &mut Voice<E>,
 ) -> u8 {
     match table {
         Ok(table) if send(out, &table) => 0,

@@ -18,6 +18,8 @@ const BETWEEN_LOOKS: u64 = 64;
 #[derive(Drop)]
 pub(crate) struct Watch<R> {
     rt: R,
+    // Whether standard error is a terminal, where the line can be written anew.
+    on_terminal: bool,
     turns: AtomicU64,
     second: AtomicU64,
     lines: AtomicU64,
@@ -28,9 +30,7 @@ pub(crate) fn watch_word<'a>(alloc: Global) -> Arg<'a> {
     Arg::new(alloc, "watch")
         .long("watch")
         .action(ArgAction::SetTrue)
-        .help(
-            "Writes to standard error, each second, how many turns the threads have made [drives of threads]",
-        )
+        .help("Says each second how many turns the threads\nhave made")
 }
 
 // Whether it is asked for.
@@ -40,28 +40,33 @@ pub(crate) fn is_watched(matches: &ArgMatches<'_>) -> bool {
 
 impl<R: Clock + Eprint> Watch<R> {
     // A gate that has seen no turn. It writes nothing in the second in which it is made.
-    fn new(rt: R) -> Watch<R> {
+    fn new(rt: R, on_terminal: bool) -> Watch<R> {
         let second = second_of(&rt);
         Watch {
             rt,
+            on_terminal,
             turns: AtomicU64::new(0),
             second: AtomicU64::new(second),
             lines: AtomicU64::new(0),
         }
     }
 
-    // Writes the line anew where another second has begun.
+    // Writes the line, on a terminal anew, where another second has begun.
     fn look(&self, turns: u64) {
         let second = second_of(&self.rt);
         if self.second.swap(second, Ordering::SeqCst) != second {
             self.lines.fetch_add(1, Ordering::SeqCst);
-            let _ = eprint!(self.rt; "\rturns: {turns}");
+            let _ = if self.on_terminal {
+                eprint!(self.rt; "\rturns: {turns}")
+            } else {
+                eprintln!(self.rt; "turns: {turns}")
+            };
         }
     }
 
-    // Ends the line, where one was written.
+    // Ends the line, where one was written and is not ended.
     fn end(&self) {
-        if self.lines.load(Ordering::SeqCst) > 0 {
+        if self.on_terminal && self.lines.load(Ordering::SeqCst) > 0 {
             let _ = eprintln!(self.rt);
         }
     }
@@ -94,12 +99,13 @@ pub(crate) fn run_watched<
     program: &[u8],
     input: &[u8],
     config: &Config,
+    on_terminal: bool,
     out: &mut Counted<W>,
 ) -> Result<Report, RunError> {
     let Ok(own) = rt.clone() else {
         return Err(RunError::from(Refusal::NoMemory));
     };
-    let Ok(gate) = Arc::new(alloc, Watch::new(own)) else {
+    let Ok(gate) = Arc::new(alloc, Watch::new(own, on_terminal)) else {
         return Err(RunError::from(Refusal::NoMemory));
     };
     let Ok(watch) = Arc::try_clone(&gate) else {
