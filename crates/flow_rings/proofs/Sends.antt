@@ -5,7 +5,7 @@ use Rattle.std.proofs.Crossing as crossing
 use Rattle.std.proofs.alloc.Global.TheSendSync as heap
 use Rattle.rtrb.proofs.end.End.TheSendSync as end
 use Rattle.snesl_data.proofs.datum.Datum.TheLaws.TheKnot as datum_knot
-use Rattle.flow_rings.proofs.flat.Flat.TheSendSync as flat
+use Rattle.flow_messages.proofs.flat.Flat.TheSendSync as flat
 use Rattle.snesl_data.specs.contracts.datum.Datum as datum
 use Rattle.flow_rings.specs.contracts.ring.WriterRing as writer_ring
 use Rattle.flow_rings.specs.contracts.ring.ReaderRing as reader_ring
