@@ -130,7 +130,7 @@ fn two_threads_drive_a_network(rt: HostRuntime) -> Result<(), Fail> {
 fn driven_by_some(
     rt: &impl Threads,
     alloc: Global,
-    graph: Graph<StreamNode>,
+    graph: Graph,
     left: usize,
 ) -> Result<Outcome, DriveError>
     requires { AreOpened node_behaviour (states_of graph) }

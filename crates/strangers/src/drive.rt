@@ -163,5 +163,5 @@ pub fn stalled_at(outcome: &Outcome) -> Option<usize> {
 
 /// Whether the start of a thread is allowed by what always says yes.
 pub fn may_start(worker: usize) -> bool {
-    AlwaysStart.may_start(worker)
+    AlwaysStart::new().may_start(worker)
 }
