@@ -17,6 +17,7 @@ pub use Rattle.flow_drives.specs.Dealings
 pub use Rattle.flow_drives.specs.Pumped
 pub use Rattle.flow_drives.specs.Origins
 pub use Rattle.flow_drives.specs.Texts
+pub use Rattle.flow_drives.specs.Starts
 -- of the nodes
 pub use Rattle.flow_nodes.specs.StreamNodes
 -- of networks and their runs
@@ -48,7 +49,6 @@ pub use Rattle.flow_shares.specs.Lending
 pub use Rattle.flow_shares.specs.Looks
 pub use Rattle.flow_shares.specs.Pumps
 pub use Rattle.flow_shares.specs.Shares
-pub use Rattle.flow_shares.specs.Starts
 pub use Rattle.flow_shares.specs.declared.error.WorkError
 pub use Rattle.flow_meetings.specs.Joints
 pub use Rattle.flow_meetings.specs.EndTheorems

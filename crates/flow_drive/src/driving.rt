@@ -5,8 +5,9 @@ ghost use Rattle.flow_networks.specs.Networks.{AreOpened};
 ghost use Rattle.flow_nodes.specs.StreamNodes.{node_behaviour};
 ghost use Rattle.flow_drives.specs.Configs.{IsLawful, StartsThreads, IsInSteps};
 ghost use Rattle.flow_drives.specs.Driven.{HasNetworkOf, EndsRunOf};
-ghost use Rattle.flow_drives.specs.Epochs.{TookRounds, TookEpochs, AskedBy};
+ghost use Rattle.flow_drives.specs.Epochs.{TookRounds, TookEpochs};
 ghost use Rattle.flow_drives.specs.Resteds.{rested_capacity, rested_rounds, rested_epochs, rested_share, rested_shares, moves_of, IsOverRings};
+ghost use Rattle.flow_drives.specs.Starts.{AskedBy};
 ghost use Rattle.flow_drives.specs.declared.config.Drive.TheVariants.{Rings};
 ghost use Rattle.flow_drives.specs.declared.driver.DriveError.TheVariants.{BadConfig, NoThread, Short};
 

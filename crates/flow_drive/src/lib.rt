@@ -5,23 +5,22 @@
 //! them in threads.
 //!
 //! The room flow_drives has the same for nodes of any type. Here the node is known, so no type has a parameter for it,
-//! and that nodes may go to other threads is proved here and not by a caller.
+//! and that nodes may go to other threads is proved here and not by a caller of [`drive`].
 #![tactic(auto)]
 
 mod dealing;
 mod driving;
-mod epochs;
 mod pumping;
 mod shares;
 mod theorems;
 
 pub use dealing::{deal, deal_rings};
 pub use driving::{drive, drive_with};
-pub use epochs::{epoch, epoch_with};
 pub use flow_base::Transducer;
 pub use flow_boxes::Boxes;
 pub use flow_drives::{
-    Config, Drive, DriveError, MAX_CHUNK, MAX_IDLE_TURNS, MAX_SHARE, MAX_THREADS, runs_rest_alike,
+    Config, Drive, DriveError, MAX_CHUNK, MAX_IDLE_TURNS, MAX_SHARE, MAX_THREADS, epoch,
+    epoch_with, runs_rest_alike,
 };
 pub use flow_history::History;
 pub use flow_lanes::Rings;
