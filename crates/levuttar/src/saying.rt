@@ -5,9 +5,10 @@ use crate::reading::Job;
 use crate::voice::Voice;
 use clap::Error;
 use clap::error::ErrorKind;
+use snesl_advice::{lexical_message, mismatch_message, name_message, syntax_message};
 use snesl_console::send;
 use snesl_data::{Counted, Fault, Refusal};
-use snesl_look::{clash_message, fault_message, refusal_message, refusal_sentence};
+use snesl_look::{fault_message, refusal_message, refusal_sentence};
 use snesl_syntax::parse;
 use snesl_types::clash_at;
 use std::alloc::{AllocError, Global};
@@ -35,15 +36,23 @@ pub(crate) fn say_plainly<E: Write>(refusal: Refusal, err: &mut Voice<E>) -> u8 
     refusal.status()
 }
 
-// What is said of a refusal of a job: of types that do not fit, which they are, where that is found.
+// What is said of a refusal of a job: of a program that is none what could stand there, of a name whether it is unbound or bound
+// twice, and of types that do not fit which they are, where that is found.
 fn job_message(alloc: Global, refusal: Refusal, job: &Job<'_>) -> Result<Vec<u8>, AllocError> {
-    if let Refusal::Mismatch(at) = refusal
-        && let Ok(parsed) = parse(alloc, &job.program)
-        && let Ok(Some(clash)) = clash_at(alloc, &parsed, at)
-    {
-        return clash_message(alloc, at, &job.program, &clash);
+    match refusal {
+        Refusal::Lex(at) => lexical_message(alloc, &job.program, at),
+        Refusal::Syntax(at) => syntax_message(alloc, &job.program, at),
+        Refusal::Name(at) => name_message(alloc, &job.program, at),
+        Refusal::Mismatch(at) => {
+            if let Ok(parsed) = parse(alloc, &job.program)
+                && let Ok(Some(clash)) = clash_at(alloc, &parsed, at)
+            {
+                return mismatch_message(alloc, &job.program, at, &clash);
+            }
+            refusal_message(alloc, refusal, &job.program, &job.input)
+        }
+        _ => refusal_message(alloc, refusal, &job.program, &job.input),
     }
-    refusal_message(alloc, refusal, &job.program, &job.input)
 }
 
 // Says why a job is refused, and gives the exit status.

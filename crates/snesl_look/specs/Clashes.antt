@@ -1,11 +1,7 @@
 -- What is printed for types that do not fit.
-use Rattle.std.specs.Prelude.{ℕ, ◌++◌, List, [], ◌∷◌, None, codes}
-use Rattle.snesl_data.specs.declared.refusal.Refusal.TheVariants.{Mismatch}
+use Rattle.std.specs.Prelude.{ℕ, ◌++◌, ◌==◌, List, [], ◌∷◌, codes, if◌then◌else◌, length}
 use Rattle.snesl_data.specs.Types.{Ty, int, bool, pair, vec, seq}
 use Rattle.snesl_types.specs.Clashes.{Clash, operands, operand, arguments, parameters, branches, items, condition, source, body}
-use Rattle.snesl_look.specs.Messages.{placed_message, note_part, hint_part}
-use Rattle.snesl_look.specs.Places.{line_of}
-use Rattle.snesl_look.specs.Words.{refusal_hint, refusal_sentence}
 
 -- a type as programs write it
 abbrev pub type_text : Ty → List ℕ
@@ -51,8 +47,24 @@ note_of (condition t) = phrase_of_type (codes "condition") t
 note_of (source t) = codes "this goes over a value of the type " ++ quoted_type t ++ codes ", which is no sequence"
 note_of (body t wanted) = phrase_of_type (codes "body") t ++ codes ", and the result was declared as " ++ quoted_type wanted
 
--- what is said of a mismatch: before its hint the types that stand there
-abbrev pub clash_message : (at : ℕ) → (program : List ℕ) → Clash → List ℕ
-clash_message at program clash =
-    placed_message (refusal_sentence (Mismatch at)) program at [] None None
-    ++ note_part (line_of program at) (note_of clash) ++ hint_part (line_of program at) (refusal_hint (Mismatch at))
+-- of an `if` whose condition is of this type, what is wrong
+abbrev pub branches_sentence : Ty → List ℕ
+branches_sentence bool = codes "the two branches of an `if` are of one type"
+branches_sentence _ = codes "the condition of an `if` is a truth value"
+
+-- of so many arguments for so many parameters, what is wrong
+abbrev pub parameters_sentence : (found wanted : ℕ) → List ℕ
+parameters_sentence found wanted =
+    if found == wanted then codes "an argument is of another type than its parameter" else codes "the function takes another number of arguments"
+
+-- what is wrong, in a sentence
+abbrev pub clash_sentence : Clash → List ℕ
+clash_sentence (operands t u) = codes "the operator does not take values of these types"
+clash_sentence (operand t) = codes "the operator does not take a value of this type"
+clash_sentence (arguments ts) = codes "the built-in function does not take these arguments"
+clash_sentence (parameters ts wanted) = parameters_sentence (length ts) (length wanted)
+clash_sentence (branches t u v) = branches_sentence t
+clash_sentence (items ts) = codes "the items of a sequence are of one type"
+clash_sentence (condition t) = codes "a condition is a truth value"
+clash_sentence (source t) = codes "a binder goes over a sequence"
+clash_sentence (body t wanted) = codes "the body is of another type than the function declares"

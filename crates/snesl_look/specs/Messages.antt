@@ -1,5 +1,5 @@
 -- What is printed for a refusal and for a fault.
-use Rattle.std.specs.Prelude.{◌≡◌, ℕ, ◌-◌, ◌++◌, List, [], Option, Some, None, codes, decimal, drop, if◌then◌else◌, length, map, nat_le, take}
+use Rattle.std.specs.Prelude.{◌≡◌, ℕ, ◌-◌, ◌++◌, List, [], ◌∷◌, Option, Some, None, codes, decimal, drop, if◌then◌else◌, length, map, nat_le, take}
 use Rattle.snesl_data.specs.declared.fault.Fault.{Fault}
 use Rattle.snesl_data.specs.declared.refusal.Refusal.{Refusal}
 use Rattle.snesl_data.specs.declared.refusal.Refusal.TheVariants.{Lex, Syntax, Name, Mismatch, Streamed, BadInput}
@@ -61,6 +61,11 @@ function_part number (Some name) =
 abbrev pub note_part : ℕ → List ℕ → List ℕ
 note_part number note = remark number (codes " = note: ") note (codes "\n")
 
+-- notes, each in a line
+abbrev pub notes_part : ℕ → List (List ℕ) → List ℕ
+notes_part number [] = []
+notes_part number (note ∷ notes) = note_part number note ++ notes_part number notes
+
 -- ` = hint: `, and the hint
 abbrev pub hint_part : ℕ → Option (List ℕ) → List ℕ
 hint_part number None = []
@@ -77,6 +82,19 @@ placed_message sentence text offset of_text name hint =
     let column = column_of text offset in
     sentence_part sentence ++ heading_part line column of_text ++ place_part (line_text text offset) line column
     ++ function_part line name ++ hint_part line hint
+
+-- a hint where there is one
+abbrev pub hint_where_some : List ℕ → Option (List ℕ)
+hint_where_some [] = None
+hint_where_some (byte ∷ bytes) = Some (byte ∷ bytes)
+
+-- a message with a place in a program, some notes, and a hint, if that is not empty
+abbrev pub noted_message : (sentence program : List ℕ) → (offset : ℕ) → (notes : List (List ℕ)) → (hint : List ℕ) → List ℕ
+noted_message sentence program offset notes hint =
+    let line = line_of program offset in
+    let column = column_of program offset in
+    sentence_part sentence ++ heading_part line column [] ++ place_part (line_text program offset) line column
+    ++ notes_part line notes ++ hint_part line (hint_where_some hint)
 
 -- what is said of a refusal, where no other name is meant
 abbrev pub refusal_message : Refusal → (program input : List ℕ) → List ℕ

@@ -55,7 +55,7 @@ fault_sentence Shape = codes "a stream ended early, or an item of another kind c
 
 -- what may help there
 abbrev pub fault_hint : FaultKind → Option (List ℕ)
-fault_hint Divide = Some (codes "a condition leaves elements out, as in `{100 / x : x in s | not x == 0}`")
+fault_hint Divide = Some (codes "a condition leaves elements out, as in `{100 / x : x in s | not (x == 0)}`")
 fault_hint Overflow = Some (codes "a program that begins with `dialect 2;` has integers of 128 bits")
 fault_hint Length = Some (codes "its binders go side by side; for all pairs write one comprehension in another")
 fault_hint Part = Some (codes "they have a `false` for each element, and a `true` behind each part, the last too")

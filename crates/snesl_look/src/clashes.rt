@@ -3,34 +3,45 @@
 ghost use Rattle.std.specs.Prelude.{◌≡◌, ◌++◌, ◌∷◌, [], IfOk, OnOk, map};
 ghost use Rattle.snesl_data.specs.Types.{ty_of};
 ghost use Rattle.snesl_types.specs.Clashes.{clash_of, body, branches, parameters, source};
-ghost use Rattle.snesl_look.specs.Clashes.{clash_message, note_of, listed, phrase_of_type, of_types, others, quoted_type, type_text};
+ghost use Rattle.snesl_look.specs.Clashes.{clash_sentence, note_of, listed, phrase_of_type, of_types, others, quoted_type, type_text};
 
-use crate::messages::placed_with_note;
-use crate::words::{refusal_hint, refusal_sentence};
-use snesl_data::{Refusal, Ty};
+use snesl_data::Ty;
 use snesl_types::Clash;
 use std::alloc::{AllocError, Global};
 
-/// What is said of types that do not fit: the sentence, place and hint of `Mismatch`, and before the hint the types that stand
-/// there. The offset counts bytes of the program from 0.
-///
-/// # Errors
-///
-/// `AllocError` where memory is refused.
-pub fn clash_message(
-    alloc: Global,
-    at: usize,
-    program: &[u8],
-    clash: &Clash,
-) -> Result<Vec<u8>, AllocError>
-    ensures { IfOk result (λ message. message.items
-        ≡ clash_message at program.now (clash_of clash.now)) }
+/// What is wrong where types do not fit, in a sentence.
+pub fn clash_sentence(clash: &Clash) -> &'static str
+    ensures { result.now ≡ clash_sentence (clash_of clash.now) }
+{
+    match clash {
+        Clash::Operands(_, _) => "the operator does not take values of these types",
+        Clash::Operand(_) => "the operator does not take a value of this type",
+        Clash::Arguments(_) => "the built-in function does not take these arguments",
+        Clash::Parameters { found, wanted } => {
+            if found.len() == wanted.len() {
+                "an argument is of another type than its parameter"
+            } else {
+                "the function takes another number of arguments"
+            }
+        }
+        Clash::Branches { condition, .. } => match condition {
+            Ty::Bool => "the two branches of an `if` are of one type",
+            _ => "the condition of an `if` is a truth value",
+        },
+        Clash::Items(_) => "the items of a sequence are of one type",
+        Clash::Condition(_) => "a condition is a truth value",
+        Clash::Source(_) => "a binder goes over a sequence",
+        Clash::Body { .. } => "the body is of another type than the function declares",
+    }
+}
+
+/// The types that stand where types do not fit, in words. The error is that memory was refused.
+pub fn clash_note(alloc: Global, clash: &Clash) -> Result<Vec<u8>, AllocError>
+    ensures { IfOk result (λ note. note.items ≡ note_of (clash_of clash.now)) }
 {
     let mut note = Vec::new(alloc);
     append_note(&mut note, clash)?;
-    let refusal = Refusal::Mismatch(at);
-    let sentence = refusal_sentence(refusal);
-    placed_with_note(alloc, sentence, program, at, &note, refusal_hint(refusal))
+    Ok(note)
 }
 
 // The types that stand there.

@@ -10,9 +10,9 @@ pub mod places;
 pub mod stalls;
 pub mod words;
 
-pub use clashes::clash_message;
+pub use clashes::{clash_note, clash_sentence};
 pub use functions::function_at;
-pub use messages::{fault_message, refusal_message, stalled_message};
+pub use messages::{fault_message, noted_message, refusal_message, stalled_message};
 pub use names::{distance_is_least, near_name};
 pub use places::{Position, caret_line, line_at, position_of, shown_line};
 pub use stalls::{Enough, STALLED_SENTENCE, stalled_hint};

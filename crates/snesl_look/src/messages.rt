@@ -1,7 +1,7 @@
 // Messages: what went wrong, where, and what may help.
 
-ghost use Rattle.std.specs.Prelude.{◌≡◌, ◌++◌, ◌≤◌, [], None, IfOk, OnOk, decimal, option_map};
-ghost use Rattle.snesl_look.specs.Messages.{IsFaultMessage, IsNameMessage, IsRefusalMessage, caret_part, enough_part, function_part, gutter, heading_part, hint_part, line_part, message, messages_part, near_part, note_part, place_part, placed_message, remark, sentence_part, shown_from, shown_part, stalled_message};
+ghost use Rattle.std.specs.Prelude.{◌≡◌, ◌++◌, ◌≤◌, [], None, IfOk, OnOk, decimal, map, option_map};
+ghost use Rattle.snesl_look.specs.Messages.{IsFaultMessage, IsNameMessage, IsRefusalMessage, caret_part, enough_part, function_part, gutter, heading_part, hint_part, line_part, message, messages_part, near_part, noted_message, notes_part, note_part, place_part, placed_message, remark, sentence_part, shown_from, shown_part, stalled_message};
 ghost use Rattle.snesl_look.specs.Places.{line_of};
 
 use crate::functions::function_at;
@@ -193,32 +193,56 @@ fn placed(
     Ok(message)
 }
 
-// The same with a note before the hint.
-pub(crate) fn placed_with_note(
+/// A message with a place in a program: a sentence, the line with a caret under it, some notes, and a hint, where it is not
+/// empty. The offset counts bytes of the program from 0. The error is that memory was refused.
+pub fn noted_message(
     alloc: Global,
-    sentence: &str,
-    text: &[u8],
+    sentence: &[u8],
+    program: &[u8],
     offset: usize,
-    note: &[u8],
-    hint: Option<&str>,
+    notes: &[Vec<u8>],
+    hint: &[u8],
 ) -> Result<Vec<u8>, AllocError>
     ensures { IfOk result (λ made. made.items
-        ≡ placed_message sentence.now text.now offset [] None None
-        ++ note_part (line_of text.now offset) note.now
-        ++ hint_part (line_of text.now offset) (option_map (λ text. text.now) hint.entry)) }
+        ≡ noted_message sentence.now program.now offset (map (λ note. note.items) notes.now) hint.now) }
 {
-    let line = position_of(text, offset).line;
-    let mut message = placed(alloc, sentence, text, offset, "", None, None)?;
-    append_remark(&mut message, line, b" = note: ", note, b"\n")?;
-    append_hint(&mut message, line, hint)?;
+    let position = position_of(program, offset);
+    let mut message = Vec::new(alloc);
+    append_bytes_of_sentence(&mut message, sentence)?;
+    append_heading(&mut message, position, "")?;
+    append_place(&mut message, alloc, line_at(program, offset), position)?;
+    append_notes(&mut message, position.line, notes)?;
+    if !hint.is_empty() {
+        append_remark(&mut message, position.line, b" = hint: ", hint, b"\n")?;
+    }
     Ok(message)
+}
+
+// Some notes, each in a line.
+fn append_notes(message: &mut Vec<u8>, number: usize, notes: &[Vec<u8>]) -> Result<(), AllocError>
+    ensures { OnOk result (message.new.items
+        ≡ message.old.items ++ notes_part number (map (λ note. note.items) notes.now)) }
+{
+    match notes {
+        [] => Ok(()),
+        [first, rest @ ..] => {
+            append_remark(message, number, b" = note: ", first, b"\n")?;
+            append_notes(message, number, rest)
+        }
+    }
 }
 
 fn append_sentence(message: &mut Vec<u8>, sentence: &str) -> Result<(), AllocError>
     ensures { OnOk result (message.new.items ≡ message.old.items ++ sentence_part sentence.now) }
 {
+    append_bytes_of_sentence(message, sentence.as_bytes())
+}
+
+fn append_bytes_of_sentence(message: &mut Vec<u8>, sentence: &[u8]) -> Result<(), AllocError>
+    ensures { OnOk result (message.new.items ≡ message.old.items ++ sentence_part sentence.now) }
+{
     message.extend_from_slice(b"error: ")?;
-    message.extend_from_slice(sentence.as_bytes())?;
+    message.extend_from_slice(sentence)?;
     message.extend_from_slice(b"\n")
 }
 

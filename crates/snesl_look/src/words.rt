@@ -91,7 +91,7 @@ pub fn fault_hint(kind: FaultKind) -> Option<&'static str>
 {
     match kind {
         FaultKind::Divide => Some(
-            "a condition leaves elements out, as in `{100 / x : x in s | not x == 0}`",
+            "a condition leaves elements out, as in `{100 / x : x in s | not (x == 0)}`",
         ),
         FaultKind::Overflow => Some(
             "a program that begins with `dialect 2;` has integers of 128 bits",

@@ -1,0 +1,20 @@
+//! What a person is told of a program that is refused: what stands where it goes wrong, what could stand there, which bracket is
+//! open, what an operator takes, and how this language writes what others write otherwise.
+#![tactic(auto)]
+
+pub mod brackets;
+pub mod followers;
+pub mod habits;
+pub mod lexemes;
+pub mod mismatches;
+pub mod names;
+pub mod syntax;
+mod tokens;
+
+pub use brackets::open_bracket;
+pub use followers::{Follower, followers, takes_next};
+pub use habits::habit_of_name;
+pub use lexemes::lexical_message;
+pub use mismatches::mismatch_message;
+pub use names::name_message;
+pub use syntax::syntax_message;
