@@ -88,12 +88,12 @@ abbrev pub hint_where_some : List ℕ → Option (List ℕ)
 hint_where_some [] = None
 hint_where_some (byte ∷ bytes) = Some (byte ∷ bytes)
 
--- a message with a place in a program, some notes, and a hint, if that is not empty
-abbrev pub noted_message : (sentence program : List ℕ) → (offset : ℕ) → (notes : List (List ℕ)) → (hint : List ℕ) → List ℕ
-noted_message sentence program offset notes hint =
-    let line = line_of program offset in
-    let column = column_of program offset in
-    sentence_part sentence ++ heading_part line column [] ++ place_part (line_text program offset) line column
+-- a message with a place in a text, some notes, and a hint, if that is not empty
+abbrev pub noted_message : (sentence text : List ℕ) → (offset : ℕ) → (of_text : List ℕ) → (notes : List (List ℕ)) → (hint : List ℕ) → List ℕ
+noted_message sentence text offset of_text notes hint =
+    let line = line_of text offset in
+    let column = column_of text offset in
+    sentence_part sentence ++ heading_part line column of_text ++ place_part (line_text text offset) line column
     ++ notes_part line notes ++ hint_part line (hint_where_some hint)
 
 -- what is said of a refusal, where no other name is meant

@@ -193,24 +193,27 @@ fn placed(
     Ok(message)
 }
 
-/// A message with a place in a program: a sentence, the line with a caret under it, some notes, and a hint, where it is not
-/// empty. The offset counts bytes of the program from 0. The error is that memory was refused.
+/// A message with a place in a text: a sentence, the line with a caret under it, some notes, and a hint, where it is not empty.
+/// The offset counts bytes of the text from 0; behind the column it says of which text it is. The error is that memory was
+/// refused.
 pub fn noted_message(
     alloc: Global,
     sentence: &[u8],
-    program: &[u8],
+    text: &[u8],
     offset: usize,
+    of_text: &str,
     notes: &[Vec<u8>],
     hint: &[u8],
 ) -> Result<Vec<u8>, AllocError>
     ensures { IfOk result (λ made. made.items
-        ≡ noted_message sentence.now program.now offset (map (λ note. note.items) notes.now) hint.now) }
+        ≡ noted_message sentence.now text.now offset of_text.now
+        (map (λ note. note.items) notes.now) hint.now) }
 {
-    let position = position_of(program, offset);
+    let position = position_of(text, offset);
     let mut message = Vec::new(alloc);
     append_bytes_of_sentence(&mut message, sentence)?;
-    append_heading(&mut message, position, "")?;
-    append_place(&mut message, alloc, line_at(program, offset), position)?;
+    append_heading(&mut message, position, of_text)?;
+    append_place(&mut message, alloc, line_at(text, offset), position)?;
     append_notes(&mut message, position.line, notes)?;
     if !hint.is_empty() {
         append_remark(&mut message, position.line, b" = hint: ", hint, b"\n")?;

@@ -2,8 +2,8 @@
 
 use snesl_data::{Fault, FaultKind, Refusal, Ty};
 use snesl_look::{
-    Enough, Position, caret_line, clash_message, fault_message, function_at, line_at, near_name,
-    position_of, refusal_message, shown_line, stalled_message,
+    Enough, Position, caret_line, clash_note, clash_sentence, fault_message, function_at, line_at,
+    near_name, noted_message, position_of, refusal_message, shown_line, stalled_message,
 };
 use snesl_types::Clash;
 use std::alloc::{AllocError, Global};
@@ -111,19 +111,34 @@ fn a_place_is_in_a_function(rt: HostRuntime) {
 
 // What is said of operands that do not fit.
 fn operands_message(alloc: Global) -> Result<Vec<u8>, AllocError> {
-    clash_message(alloc, 2, b"x + true", &Clash::Operands(Ty::Int, Ty::Bool))
+    let clash = Clash::Operands(Ty::Int, Ty::Bool);
+    let sentence = clash_sentence(&clash).as_bytes();
+    let notes = [
+        clash_note(alloc, &clash)?,
+        Vec::from_slice(alloc, b"a further note")?,
+    ];
+    noted_message(
+        alloc,
+        sentence,
+        b"x + true",
+        2,
+        " of a text",
+        &notes,
+        b"a hint",
+    )
 }
 
 #[test]
 fn a_mismatch_tells_the_types_of_its_operands(rt: HostRuntime) -> Result<(), Fail> {
     let message = operands_message(rt.alloc())?;
-    let want = b"error: a value of another type, or another number of values, is needed here
- --> line 1, column 3
+    let want = b"error: the operator does not take values of these types
+ --> line 1, column 3 of a text
   |
 1 | x + true
   |   ^
   = note: the operands are of the types `int`, `bool`
-  = hint: operators take single values; for each element of a sequence `s` write `{x + 1 : x in s}`
+  = note: a further note
+  = hint: a hint
 ";
     assert_eq!(rt; message.as_slice(), want.as_slice());
     Ok(())
