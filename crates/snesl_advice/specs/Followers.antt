@@ -3,8 +3,8 @@ use Rattle.std.specs.Prelude.{ℕ, ◌++◌, ◌⊎◌, List, Ok, Err, codes, le
 use Rattle.snesl_data.specs.declared.refusal.Refusal.TheVariants.{Syntax}
 use Rattle.snesl_tree.specs.Tree.{ProgramTree}
 use Rattle.snesl_syntax.specs.Parse.{Parses}
-use Rattle.snesl_advice.specs.declared.followers.Follower.{Follower}
-use Rattle.snesl_advice.specs.declared.followers.Follower.TheVariants as next
+use Rattle.snesl_advice.specs.declared.following.Follower.{Follower}
+use Rattle.snesl_advice.specs.declared.following.Follower.TheVariants as next
 
 -- the text is a program, or begins one: all its tokens begin a program within the limits
 abbrev pub BeginsOne : List ℕ → Type 0

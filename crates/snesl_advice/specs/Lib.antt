@@ -1,2 +1,3 @@
-pub mod Followers
 pub mod Brackets
+pub mod Followers
+pub mod Told

@@ -3,6 +3,9 @@
 
 ghost use Rattle.std.specs.Prelude.{◌≤◌, length};
 
+use crate::tokens::begins_word;
+use snesl_data::word_len;
+
 const UNEQUAL: &str = "that two values differ is written `not (a == b)`";
 
 const COMMENT: &str = "comments are no part of the language: take this out";
@@ -28,14 +31,17 @@ const AND: &str = "both of two truth values are written `a and b`";
 
 const OR: &str = "one of two truth values is written `a or b`";
 
-const FRACTION: &str = "there are no fractions: integers and truth values alone";
+const FRACTION: &str = "there are no fractions; the parts of a pair `p` are `fst(p)` and `snd(p)`";
+
+const INDEX: &str = "an index is counted from 0, so it is never negative";
 
 const RANGE: &str = "the integers from 0 to n - 1 are written `iota(n)`";
 
 const OPERAND: &str = "as an operand it stands in parentheses, as `1 + (if b then 1 else 2)`";
 
-// What stands before the place, what stands at it, and what may help. The first row that fits is told.
-const SIGNS: [(&str, &str, &str); 53] = [
+// What stands before the place, what stands at it, and what may help. The first row that fits is told. What ends in a blank is a
+// whole word.
+const SIGNS: [(&str, &str, &str); 62] = [
     ("!", "=", UNEQUAL),
     ("/", "=", UNEQUAL),
     ("<", ">", UNEQUAL),
@@ -117,6 +123,19 @@ const SIGNS: [(&str, &str, &str); 53] = [
         "",
         "a value is not returned: the last expression is it",
     ),
+    ("var ", "", NOTHING_IS_ASSIGNED),
+    ("const ", "", NOTHING_IS_ASSIGNED),
+    ("val ", "", NOTHING_IS_ASSIGNED),
+    ("def ", "", DECLARED),
+    ("fn ", "", DECLARED),
+    ("fun ", "", DECLARED),
+    ("func ", "", DECLARED),
+    (
+        "dialect ",
+        "",
+        "a dialect is named by `dialect 2;`, and there is no other to name",
+    ),
+    ("! ", "-", INDEX),
 ];
 
 // Names that others use, and what may help.
@@ -206,7 +225,7 @@ const NAMES: [(&str, &str); 40] = [
     ("list", "a sequence is written `{1,2,3}`"),
     (
         "reverse",
-        "with `let v = tab(s) in let n = length(seq(v)) in` write `{v ! (n - 1 - i) : i in iota(n)}`",
+        "write `let v = tab(s) in let n = length(seq(v)) in {v ! (n - 1 - i) : i in iota(n)}`",
     ),
     (
         "print",
@@ -225,13 +244,23 @@ pub(crate) fn habit_at(program: &[u8], at: usize) -> Option<&'static str>
     requires { at ≤ length program.now }
 {
     for (before, here, advice) in SIGNS {
-        if program[..at].ends_with(before.as_bytes())
+        if stands_before(program, at, before.as_bytes())
             && program[at..].starts_with(here.as_bytes())
         {
             return Some(advice);
         }
     }
     None
+}
+
+// Whether this stands before the place, as a whole word, where a word and a blank are meant.
+fn stands_before(program: &[u8], at: usize, before: &[u8]) -> bool
+    requires { at ≤ length program.now }
+{
+    if !program[..at].ends_with(before) {
+        return false;
+    }
+    word_len(before) == 0 || begins_word(program, at.saturating_sub(before.len()))
 }
 
 /// What may help where a name is not bound that others use, if something does.

@@ -3,18 +3,23 @@
 #![tactic(auto)]
 
 pub mod brackets;
-pub mod followers;
+pub mod following;
 pub mod habits;
+pub mod inputs;
 pub mod lexemes;
 pub mod mismatches;
 pub mod names;
+pub mod streams;
 pub mod syntax;
+mod telling;
 mod tokens;
 
 pub use brackets::open_bracket;
-pub use followers::{Follower, followers, takes_next};
+pub use following::{Follower, followers, takes_next};
 pub use habits::habit_of_name;
+pub use inputs::input_message;
 pub use lexemes::lexical_message;
 pub use mismatches::mismatch_message;
 pub use names::name_message;
+pub use streams::streamed_message;
 pub use syntax::syntax_message;

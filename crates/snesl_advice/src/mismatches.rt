@@ -1,10 +1,12 @@
 // What is said of types that do not fit.
 
-ghost use Rattle.std.specs.Prelude.{◌≤◌, length};
+ghost use Rattle.std.specs.Prelude.{IfOk};
+ghost use Rattle.snesl_advice.specs.Told.{IsToldAt};
 
+use crate::telling::tell;
 use crate::tokens::{quoted, token_at};
 use snesl_data::Ty;
-use snesl_look::{clash_note, clash_sentence, noted_message};
+use snesl_look::{clash_note, clash_sentence};
 use snesl_types::Clash;
 use std::alloc::{AllocError, Global};
 
@@ -69,23 +71,18 @@ pub fn mismatch_message(
     program: &[u8],
     at: usize,
     clash: &Clash,
-) -> Result<Vec<u8>, AllocError> {
-    let at = at.min(program.len());
-    let found = token_at(program, at);
+) -> Result<Vec<u8>, AllocError>
+    ensures { IfOk result (λ message. IsToldAt program.now at message.items) }
+{
+    let found = token_at(program, at.min(program.len()));
     let mut notes = Vec::new(alloc);
     notes.push(clash_note(alloc, clash)?)?;
     if let Some(takes) = taken_by(clash, found) {
         notes.push(quoted(alloc, b"", found, takes.as_bytes())?)?;
     }
-    let sentence = clash_sentence(clash);
-    noted_message(
-        alloc,
-        sentence.as_bytes(),
-        program,
-        at,
-        &notes,
-        remedy(clash, found).as_bytes(),
-    )
+    let sentence = clash_sentence(clash).as_bytes();
+    let hint = remedy(clash, found).as_bytes();
+    tell(alloc, program, at, sentence, &notes, hint)
 }
 
 // What the operator or built-in function takes.
@@ -109,6 +106,8 @@ fn remedy(clash: &Clash, found: &[u8]) -> &'static str {
         Clash::Operands(left, right) => remedy_of_operands(left, right, found),
         Clash::Operand(Ty::Seq(_)) if found == b"not".as_slice() =>
             "for each element of a sequence `b` write `{not x : x in b}`",
+        Clash::Operand(Ty::Int) if found == b"not".as_slice() =>
+            "that an integer is 0 is written `x == 0`",
         Clash::Operand(Ty::Seq(_)) => "for each element of a sequence `s` write `{-x : x in s}`",
         Clash::Arguments(types) => remedy_of_arguments(types, found),
         Clash::Condition(Ty::Seq(_)) => "`reduce_or(b)` tells whether one of a sequence is true",

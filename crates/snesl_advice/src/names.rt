@@ -1,25 +1,29 @@
 // What is said of names that are not bound, or bound twice.
 
-ghost use Rattle.std.specs.Prelude.{◌≤◌, length};
+ghost use Rattle.std.specs.Prelude.{◌≤◌, IfOk, length};
+ghost use Rattle.snesl_advice.specs.Told.{IsToldAt};
 
 use crate::habits::habit_of_name;
+use crate::telling::tell;
 use crate::tokens::{
     BUILT_INS, after_blanks, is_among, length_without_blanks, quoted, stands_after, stands_in,
 };
 use snesl_data::word_len;
-use snesl_look::{function_at, near_name, noted_message};
+use snesl_look::{function_at, near_name};
 use std::alloc::{AllocError, Global};
 
 /// What is said of a name that is not bound, or that is bound twice: which of the two it is, and what may help. The offset
 /// counts bytes of the program from 0. The error is that memory was refused.
-pub fn name_message(alloc: Global, program: &[u8], at: usize) -> Result<Vec<u8>, AllocError> {
-    let at = at.min(program.len());
-    let rest = &program[at..];
+pub fn name_message(alloc: Global, program: &[u8], at: usize) -> Result<Vec<u8>, AllocError>
+    ensures { IfOk result (λ message. IsToldAt program.now at message.items) }
+{
+    let within = at.min(program.len());
+    let rest = &program[within..];
     let name = &rest[..word_len(rest)];
     let next = after_blanks(&rest[name.len()..]);
-    if is_binding(program, at, next) {
+    if is_binding(program, within, next) {
         let sentence = quoted(alloc, b"", name, b" is bound a second time here")?;
-        return noted_message(alloc, &sentence, program, at, &[], b"");
+        return tell(alloc, program, at, &sentence, &[], b"");
     }
     let (sentence, hint) = if next.starts_with(b"(") {
         let sentence = quoted(alloc, b"there is no function ", name, b" here")?;
@@ -28,7 +32,7 @@ pub fn name_message(alloc: Global, program: &[u8], at: usize) -> Result<Vec<u8>,
         let sentence = quoted(alloc, b"there is no value ", name, b" here")?;
         (sentence, hint_of_value(alloc, program, at, name)?)
     };
-    noted_message(alloc, &sentence, program, at, &[], &hint)
+    tell(alloc, program, at, &sentence, &[], &hint)
 }
 
 // Whether the name at the offset is bound there: after `input` or `function`, as a parameter or by a binder.

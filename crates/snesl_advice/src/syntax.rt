@@ -1,26 +1,27 @@
 // What is said of a program that is no program.
 
-ghost use Rattle.std.specs.Prelude.{◌≤◌, length};
+ghost use Rattle.std.specs.Prelude.{◌≡◌, ◌≤◌, IfOk, length};
+ghost use Rattle.snesl_advice.specs.Told.{IsToldAt, shown_place};
 
 use crate::brackets::open_bracket;
-use crate::followers::{Follower, followers};
+use crate::following::{Follower, followers};
 use crate::habits::habit_at;
+use crate::telling::tell;
 use crate::tokens::{
-    BUILT_INS, KEYWORDS, after_blanks, is_among, length_without_blanks, quoted, token_at,
+    BUILT_INS, KEYWORDS, after_blanks, is_among, last_word, length_without_blanks, quoted, token_at,
 };
 use snesl_data::word_len;
-use snesl_look::{noted_message, position_of};
+use snesl_look::position_of;
 use std::alloc::{AllocError, Global};
 
 /// What is said of a program that a token ends, or that ends too early: what stands there; what could stand there; which bracket
 /// is open, and since where; and what may help. The error is that memory was refused.
-pub fn syntax_message(alloc: Global, program: &[u8], at: usize) -> Result<Vec<u8>, AllocError> {
+pub fn syntax_message(alloc: Global, program: &[u8], at: usize) -> Result<Vec<u8>, AllocError>
+    ensures { IfOk result (λ message.
+        IsToldAt program.now (shown_place program.now at) message.items) }
+{
+    let place = shown_place(program, at);
     let at = at.min(program.len());
-    let place = if at == program.len() {
-        length_without_blanks(program)
-    } else {
-        at
-    };
     let following = followers(alloc, program, at)?;
     let open = open_bracket(alloc, program, at)?;
     let found = token_at(program, at);
@@ -33,7 +34,18 @@ pub fn syntax_message(alloc: Global, program: &[u8], at: usize) -> Result<Vec<u8
     }
     let sentence = sentence_of(alloc, program, found, open)?;
     let hint = hint_of(alloc, program, at, found, &following, open)?;
-    noted_message(alloc, &sentence, program, place, &notes, &hint)
+    tell(alloc, program, place, &sentence, &notes, &hint)
+}
+
+// Where it is shown: at the end of a program, before the blanks there.
+fn shown_place(program: &[u8], at: usize) -> usize
+    ensures { result ≡ shown_place program.now at }
+{
+    if program.len() <= at {
+        length_without_blanks(program)
+    } else {
+        at
+    }
 }
 
 // What went wrong.
@@ -138,7 +150,7 @@ fn hint_of(
     let advice = if following.contains(&Follower::Operator) {
         hint_after_value(program, at, found, following, open)
     } else {
-        hint_elsewhere(found, following)
+        hint_elsewhere(&program[..at], found, following)
     };
     Vec::from_slice(alloc, advice.as_bytes())
 }
@@ -174,6 +186,8 @@ fn hint_after_value(
         _ if following.contains(&Follower::In) => "a name is bound by `let x = 1 in x + 1`",
         _ if following.contains(&Follower::Then) || following.contains(&Follower::Else) =>
             "a choice is written `if b then x else y`",
+        _ if word_len(found) > 0 && following.contains(&Follower::Comma) =>
+            "values are parted by `,`, as in `{1,2,3}`",
         _ if word_len(found) > 0 =>
             "two values do not stand side by side: arguments stand in parentheses, as in `f(x)`",
         _ => "",
@@ -181,8 +195,13 @@ fn hint_after_value(
 }
 
 // What may help where none does.
-fn hint_elsewhere(found: &[u8], following: &[Follower]) -> &'static str {
+fn hint_elsewhere(before: &[u8], found: &[u8], following: &[Follower]) -> &'static str {
+    let last = last_word(&before[..length_without_blanks(before)]);
     match found {
+        _ if is_among(last, BUILT_INS) =>
+            "a built-in function is called, as in `iota(3)`, and its word is no name",
+        b"=" | b")" | b"," if following.contains(&Follower::Colon) =>
+            "a function is declared by `function f(x : int) : int = x * x;`",
         b")" if following.contains(&Follower::Name) && !following.contains(&Follower::Value) =>
             "a function has one parameter at least",
         b"(" if following.contains(&Follower::Equals) =>

@@ -1,6 +1,7 @@
 // The words and signs of a program.
 
 ghost use Rattle.std.specs.Prelude.{◌≡◌, ◌++◌, ◌≤◌, IfOk, codes, length};
+ghost use Rattle.snesl_advice.specs.Told.{length_without_blanks};
 
 use snesl_data::{is_blank, word_len};
 use std::alloc::{AllocError, Global};
@@ -39,9 +40,10 @@ pub(crate) fn after_blanks(text: &[u8]) -> &[u8] {
 
 // The length of what stands before the blanks at the end.
 pub(crate) fn length_without_blanks(text: &[u8]) -> usize
-    ensures { result ≤ length text.now }
+    ensures is { result ≡ length_without_blanks text.now (length text.now) }
+    ensures within { result ≤ length text.now }
 {
-    let mut end = text.len();
+    let mut end = 0;
     for place in 0..text.len() {
         if !is_blank(text[place]) {
             end = place + 1;
@@ -121,8 +123,35 @@ pub(crate) fn stands_in(program: &[u8], word: &[u8]) -> bool {
     false
 }
 
+// Whether a program begins by naming its dialect.
+pub(crate) fn names_dialect(program: &[u8]) -> bool {
+    let front = after_blanks(program);
+    &front[..word_len(front)] == b"dialect".as_slice()
+}
+
+// Whether a text stands in another.
+pub(crate) fn has_text(text: &[u8], part: &[u8]) -> bool {
+    for place in 0..text.len() {
+        if text[place..].starts_with(part) {
+            return true;
+        }
+    }
+    false
+}
+
+// The last word of a text, and what stands after it.
+pub(crate) fn last_word(text: &[u8]) -> &[u8] {
+    let mut start = text.len();
+    for place in 0..text.len() {
+        if begins_word(text, place) {
+            start = place;
+        }
+    }
+    &text[start.min(text.len())..]
+}
+
 // Whether a word begins at a place.
-fn begins_word(program: &[u8], place: usize) -> bool
+pub(crate) fn begins_word(program: &[u8], place: usize) -> bool
     requires { place ≤ length program.now }
 {
     word_len(&program[place..]) > 0 && (place == 0 || word_len(&program[place - 1..]) == 0)
