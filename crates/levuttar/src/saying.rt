@@ -5,7 +5,10 @@ use crate::reading::Job;
 use crate::voice::Voice;
 use clap::Error;
 use clap::error::ErrorKind;
-use snesl_advice::{lexical_message, mismatch_message, name_message, syntax_message};
+use snesl_advice::{
+    input_message, lexical_message, mismatch_message, name_message, streamed_message,
+    syntax_message,
+};
 use snesl_console::send;
 use snesl_data::{Counted, Fault, Refusal};
 use snesl_look::{fault_message, refusal_message, refusal_sentence};
@@ -37,7 +40,7 @@ pub(crate) fn say_plainly<E: Write>(refusal: Refusal, err: &mut Voice<E>) -> u8 
 }
 
 // What is said of a refusal of a job: of a program that is none what could stand there, of a name whether it is unbound or bound
-// twice, and of types that do not fit which they are, where that is found.
+// twice, of types that do not fit which they are, where that is found, and of an input text which input is declared there.
 fn job_message(alloc: Global, refusal: Refusal, job: &Job<'_>) -> Result<Vec<u8>, AllocError> {
     match refusal {
         Refusal::Lex(at) => lexical_message(alloc, &job.program, at),
@@ -51,6 +54,8 @@ fn job_message(alloc: Global, refusal: Refusal, job: &Job<'_>) -> Result<Vec<u8>
             }
             refusal_message(alloc, refusal, &job.program, &job.input)
         }
+        Refusal::Streamed(at) => streamed_message(alloc, &job.program, at),
+        Refusal::BadInput(at) => input_message(alloc, &job.program, &job.input, at),
         _ => refusal_message(alloc, refusal, &job.program, &job.input),
     }
 }

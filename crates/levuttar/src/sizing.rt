@@ -22,7 +22,7 @@ Example: levuttar size examples/primes.snesl";
 // The subcommand `size`.
 pub(crate) fn size_command<'a>(alloc: Global) -> Result<Command<'a>, AllocError> {
     Command::new(alloc, "size")
-        .about("Tells the least capacity at which a job ends, and the size of its network")
+        .about("Tells the least capacity at which a job ends, and its network's size")
         .after_help(SIZES)
         .arg(
             Arg::new(alloc, "chunk")
