@@ -58,7 +58,7 @@ fn reason_of(name: &str, matches: &ArgMatches<'_>) -> &'static str {
 pub(crate) fn explain<E: Write>(
     alloc: Global,
     matches: &ArgMatches<'_>,
-    err: &mut Voice<E>,
+    err: &mut Voice<'_, E>,
 ) -> Result<(), AllocError> {
     if matches.get_flag("explain") {
         for name in TOLD {
@@ -78,7 +78,7 @@ fn explain_one<E: Write>(
     name: &str,
     value: &str,
     reason: &str,
-    err: &mut Voice<E>,
+    err: &mut Voice<'_, E>,
 ) -> Result<(), AllocError> {
     let mut line = Vec::from_slice(alloc, name.as_bytes())?;
     line.extend_from_slice(b" ")?;

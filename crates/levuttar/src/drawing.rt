@@ -59,7 +59,7 @@ pub(crate) fn draw_file<H: AllocGlobal + Files + Threads, R: Read + Drop, W: Wri
     matches: &ArgMatches<'_>,
     stdin: R,
     out: &mut Counted<W>,
-    err: &mut Voice<E>,
+    err: &mut Voice<'_, E>,
 ) -> u8 {
     let job = match read_job(rt, matches, stdin, err) {
         Ok(job) => job,

@@ -4,6 +4,7 @@
 mod choosing;
 mod command_line;
 mod drawing;
+mod piping;
 mod placing;
 mod reading;
 mod running;
@@ -15,11 +16,13 @@ mod watching;
 
 use command_line::command;
 use drawing::draw_file;
+use piping::Piped;
 use running::run_file;
 use saying::{say_plainly, say_words};
 use sizing::size_file;
 use snesl_data::{Counted, Refusal};
 use std::alloc::AllocError;
+use std::cell::Cell;
 use std::env;
 use std::io::{self, ErrorKind, IsTerminal, Read, Write};
 use std::process::ExitCode;
@@ -28,10 +31,11 @@ use std::thread::Threads;
 use voice::Voice;
 
 fn main(rt: HostRuntime) -> ExitCode {
-    let mut out = Counted::new(rt.stdout());
+    let has_broken = Cell::new(false);
+    let mut out = Counted::new(Piped::new(rt.stdout(), &has_broken));
     let on_terminal = rt.stderr().is_terminal();
     let in_colours = on_terminal && shows_colours(&rt);
-    let mut err = Voice::new(rt.stderr(), on_terminal, in_colours);
+    let mut err = Voice::new(rt.stderr(), &has_broken, on_terminal, in_colours);
     let status = match words_of(&rt) {
         Ok(words) => obeyed(&rt, &words, rt.stdin(), &mut out, &mut err),
         Err(error) if error.kind() == ErrorKind::InvalidData => {
@@ -65,7 +69,7 @@ fn obeyed<
     R: Read + Drop,
     W: Write,
     E: Write,
->(rt: &H, words: &[String], stdin: R, out: &mut Counted<W>, err: &mut Voice<E>) -> u8 {
+>(rt: &H, words: &[String], stdin: R, out: &mut Counted<W>, err: &mut Voice<'_, E>) -> u8 {
     let command = match command(rt.alloc()) {
         Ok(command) => command,
         Err(AllocError) => return say_plainly(Refusal::NoMemory, err),

@@ -12,7 +12,7 @@ pub(crate) fn say_place_of_refusal<E: Write>(
     alloc: Global,
     refusal: Refusal,
     job: &Job<'_>,
-    err: &mut Voice<E>,
+    err: &mut Voice<'_, E>,
 ) -> Result<(), AllocError> {
     match refusal {
         Refusal::BadInput(at) => say_place(alloc, job, place_in_input(job, at), err),
@@ -30,7 +30,7 @@ pub(crate) fn say_place_in_program<E: Write>(
     alloc: Global,
     job: &Job<'_>,
     at: usize,
-    err: &mut Voice<E>,
+    err: &mut Voice<'_, E>,
 ) -> Result<(), AllocError> {
     say_place(alloc, job, position_of(&job.program, at), err)
 }
@@ -50,7 +50,7 @@ fn say_place<E: Write>(
     alloc: Global,
     job: &Job<'_>,
     position: Position,
-    err: &mut Voice<E>,
+    err: &mut Voice<'_, E>,
 ) -> Result<(), AllocError> {
     if let Some(file) = job.file {
         let Position { line, column } = position;

@@ -34,7 +34,7 @@ pub(crate) fn read_job<'a, H: AllocGlobal + Files, R: Read + Drop, E: Write>(
     rt: &H,
     matches: &ArgMatches<'a>,
     stdin: R,
-    err: &mut Voice<E>,
+    err: &mut Voice<'_, E>,
 ) -> Result<Job<'a>, u8> {
     match matches.get_str("file") {
         None | Some("-") => job_of(rt.alloc(), stdin, None, err),
@@ -54,7 +54,7 @@ fn job_of<'a, R: Read + Drop, E: Write>(
     alloc: Global,
     reader: R,
     file: Option<&'a str>,
-    err: &mut Voice<E>,
+    err: &mut Voice<'_, E>,
 ) -> Result<Job<'a>, u8> {
     match split_job(alloc, &mut Counted::new(reader)) {
         Ok((program, input)) => Ok(Job {

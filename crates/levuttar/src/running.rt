@@ -23,7 +23,7 @@ pub(crate) fn run_file<
     R: Read + Drop,
     W: Write,
     E: Write,
->(rt: &H, matches: &ArgMatches<'_>, stdin: R, out: &mut Counted<W>, err: &mut Voice<E>) -> u8 {
+>(rt: &H, matches: &ArgMatches<'_>, stdin: R, out: &mut Counted<W>, err: &mut Voice<'_, E>) -> u8 {
     let config = match config_of(rt.alloc(), matches) {
         Ok(config) => config,
         Err(refusal) => return say_refused(rt.alloc(), refusal, &Job::none(rt.alloc()), err),
@@ -54,7 +54,7 @@ fn ended_by_growth<
     job: &Job<'_>,
     mut config: Config,
     out: &mut Counted<W>,
-    err: &mut Voice<E>,
+    err: &mut Voice<'_, E>,
 ) -> (Result<Outcome, Refusal>, Option<usize>) {
     let on_terminal = err.on_terminal();
     let mut outcome = ended_under(rt, matches, job, &config, on_terminal, out);
@@ -119,7 +119,7 @@ pub(crate) fn say_outcome<H: AllocGlobal + Threads, E: Write>(
     outcome: Outcome,
     job: &Job<'_>,
     chunk: Option<usize>,
-    err: &mut Voice<E>,
+    err: &mut Voice<'_, E>,
 ) -> u8 {
     match outcome {
         Outcome::Value => 0,

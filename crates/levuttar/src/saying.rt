@@ -21,7 +21,7 @@ use std::io::Write;
 pub(crate) fn say<E: Write>(
     message: Result<Vec<u8>, AllocError>,
     status: u8,
-    err: &mut Voice<E>,
+    err: &mut Voice<'_, E>,
 ) -> u8 {
     match message {
         Ok(message) => {
@@ -33,7 +33,7 @@ pub(crate) fn say<E: Write>(
 }
 
 // Says a refusal by its sentence alone, for which no memory is taken, and gives its exit status.
-pub(crate) fn say_plainly<E: Write>(refusal: Refusal, err: &mut Voice<E>) -> u8 {
+pub(crate) fn say_plainly<E: Write>(refusal: Refusal, err: &mut Voice<'_, E>) -> u8 {
     let sentence = refusal_sentence(refusal);
     let _ = err.say(b"error: ") && err.say(sentence.as_bytes()) && err.say(b"\n");
     refusal.status()
@@ -65,7 +65,7 @@ pub(crate) fn say_refused<E: Write>(
     alloc: Global,
     refusal: Refusal,
     job: &Job<'_>,
-    err: &mut Voice<E>,
+    err: &mut Voice<'_, E>,
 ) -> u8 {
     let message = job_message(alloc, refusal, job);
     if say_place_of_refusal(alloc, refusal, job, err).is_err() {
@@ -79,7 +79,7 @@ pub(crate) fn say_fault<E: Write>(
     alloc: Global,
     fault: Fault,
     job: &Job<'_>,
-    err: &mut Voice<E>,
+    err: &mut Voice<'_, E>,
 ) -> u8 {
     if say_place_in_program(alloc, job, fault.at, err).is_err() {
         return say_plainly(Refusal::NoMemory, err);
@@ -100,7 +100,7 @@ pub(crate) fn say_words<W: Write, E: Write>(
     alloc: Global,
     error: &Error,
     out: &mut Counted<W>,
-    err: &mut Voice<E>,
+    err: &mut Voice<'_, E>,
 ) -> u8 {
     let text = match format!(in alloc; "{error}") {
         Ok(text) => text,

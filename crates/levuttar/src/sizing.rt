@@ -40,7 +40,7 @@ pub(crate) fn size_file<H: AllocGlobal + Files + Threads, R: Read + Drop, W: Wri
     matches: &ArgMatches<'_>,
     stdin: R,
     out: &mut Counted<W>,
-    err: &mut Voice<E>,
+    err: &mut Voice<'_, E>,
 ) -> u8 {
     let alloc = rt.alloc();
     let chunk = match config_of(alloc, matches) {
@@ -73,7 +73,7 @@ pub(crate) fn size_file<H: AllocGlobal + Files + Threads, R: Read + Drop, W: Wri
 fn print_table<W: Write, E: Write>(
     table: Result<Vec<u8>, AllocError>,
     out: &mut Counted<W>,
-    err: &mut Voice<E>,
+    err: &mut Voice<'_, E>,
 ) -> u8 {
     match table {
         Ok(table) if send(out, &table) => 0,

@@ -18,7 +18,12 @@ const SEARCHES: &[u8] = b"the program has stalled; looking how many messages are
 const NOTHING: &[u8] = b"\r\x1b[K";
 
 // Says that a run has stalled, and that it is made again with greater edges.
-pub(crate) fn say_again<E: Write>(alloc: Global, held: usize, holds: usize, err: &mut Voice<E>) {
+pub(crate) fn say_again<E: Write>(
+    alloc: Global,
+    held: usize,
+    holds: usize,
+    err: &mut Voice<'_, E>,
+) {
     let note = format!(in alloc;
         "note: stalled with {held} messages an edge, and runs again with {holds}\n"
     );
@@ -35,7 +40,7 @@ pub(crate) fn say_stall<E: Write>(
     job: &Job<'_>,
     chunk: Option<usize>,
     edge: usize,
-    err: &mut Voice<E>,
+    err: &mut Voice<'_, E>,
 ) -> u8 {
     let full = form_of_edge(alloc, &job.program, &job.input, edge);
     let enough = match chunk {
@@ -56,7 +61,7 @@ fn searched<E: Write>(
     alloc: Global,
     job: &Job<'_>,
     chunk: usize,
-    err: &mut Voice<E>,
+    err: &mut Voice<'_, E>,
 ) -> Enough {
     let on_terminal = err.on_terminal();
     if on_terminal {

@@ -2,6 +2,7 @@
 
 use snesl_console::send;
 use snesl_data::Counted;
+use std::cell::Cell;
 use std::io::Write;
 
 // The word with which a message of what went wrong begins, and how a terminal is told to show it in red, and then as before.
@@ -13,18 +14,26 @@ const AS_BEFORE: &[u8] = b"\x1b[0m";
 
 // Standard error, and how it is written.
 #[derive(Drop)]
-pub(crate) struct Voice<E> {
+pub(crate) struct Voice<'a, E> {
     err: Counted<E>,
+    // Whether nobody reads standard output any more: then nothing is said.
+    has_broken: &'a Cell<bool>,
     // Whether it is a terminal.
     on_terminal: bool,
     // Whether it shows colours.
     in_colours: bool,
 }
 
-impl<E: Write> Voice<E> {
-    pub(crate) fn new(err: E, on_terminal: bool, in_colours: bool) -> Voice<E> {
+impl<'a, E: Write> Voice<'a, E> {
+    pub(crate) fn new(
+        err: E,
+        has_broken: &'a Cell<bool>,
+        on_terminal: bool,
+        in_colours: bool,
+    ) -> Voice<'a, E> {
         Voice {
             err: Counted::new(err),
+            has_broken,
             on_terminal,
             in_colours,
         }
@@ -37,6 +46,9 @@ impl<E: Write> Voice<E> {
 
     // Writes a text, and tells whether that was done.
     pub(crate) fn say(&mut self, text: &[u8]) -> bool {
+        if self.has_broken.get() {
+            return false;
+        }
         match text.strip_prefix(ERROR) {
             Some(rest) if self.in_colours => send(&mut self.err, RED)
                 && send(&mut self.err, ERROR)
