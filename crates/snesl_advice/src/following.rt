@@ -116,7 +116,7 @@ pub fn takes_next(alloc: Global, program: &[u8], at: usize, word: &str) -> Resul
     }
 }
 
-/// What may stand next in the program at the offset: each of these does, and none other of them. The error is that memory was
+/// What may stand next in the program at the offset: each of these does, of all in their order. The error is that memory was
 /// refused.
 pub fn followers(alloc: Global, program: &[u8], at: usize) -> Result<Vec<Follower>, AllocError>
     requires { at ≤ length program.now }
