@@ -1,3 +1,3 @@
 pub mod Bare
-pub mod Items
+pub mod BlocksOfKind
 pub mod Taking

@@ -1,5 +1,5 @@
 use Rattle.std.proofs.Common.{refl}
-use Rattle.flow_tests.proofs.Items.{no_items, more_fit, more_last, more_items}
+use Rattle.flow_tests.proofs.BlocksOfKind.{no_items, more_fit, more_last, more_items}
 use Rattle.flow_tests.proofs.parts.one_thread.block.Goals as goal
 
 pub loop-number-init : goal.loop-number-init

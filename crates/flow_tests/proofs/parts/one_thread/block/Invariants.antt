@@ -1,4 +1,4 @@
-use Rattle.flow_tests.proofs.Items.{HasItems}
+use Rattle.flow_tests.proofs.BlocksOfKind.{HasItems}
 use Rattle.flow_tests.proofs.parts.one_thread.block.Given as goal
 
 abbrev pub invariant-loop-number : goal.invariant-loop-number

@@ -7,9 +7,9 @@ use Rattle.flow_messages.specs.declared.message.Kind.{Kind}
 use Rattle.flow_messages.specs.declared.message.Msg.{Msg}
 use Rattle.flow_messages.specs.Signals.{signals, signal_of, is_stop, ended, orderly}
 use Rattle.flow_messages.proofs.Signals.{ended-snoc, orderly-snoc}
-use Rattle.flow_rings.specs.declared.flat.Flat.{Flat}
+use Rattle.flow_messages.specs.declared.flat.Flat.{Flat}
 use Rattle.flow_messages.specs.Kinds.{fits}
-use Rattle.flow_rings.specs.Flats.{message_of, messages_of}
+use Rattle.flow_messages.specs.Flats.{message_of, messages_of}
 
 -- items of the kind, and none of them an end
 pub record HasItems (kind : Kind) (xs : List Flat) : Type 0 where
