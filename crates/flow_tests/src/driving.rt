@@ -5,8 +5,8 @@ ghost use Rattle.flow_networks.specs.Networks.{AreOpened};
 ghost use Rattle.flow_nodes.specs.StreamNodes.{node_behaviour};
 
 use crate::sketches::{
-    PRINTS_BELOW_FIVE, SCAN_OF_QUOTIENTS, SUM_OF_FIVE, SUM_OF_UNLIKE, WAITS_FOR_ITS_LENGTH,
-    graph_of,
+    ONE_UNIT, PRINTS_BELOW_FIVE, SCAN_OF_QUOTIENTS, SUM_OF_FIVE, SUM_OF_UNLIKE,
+    WAITS_FOR_ITS_LENGTH, graph_of,
 };
 use flow_base::{Printing, Transducer};
 use flow_drives::{Config, Drive, DriveError, NoGate, Outcome, Rested, deal, deal_rings, drive};
@@ -343,13 +343,13 @@ fn ends_alike_each_way(rt: HostRuntime) -> Result<(), Fail> {
     Ok(())
 }
 
-// How the sum of the numbers below five comes out.
+// How a graph of one unit comes out. (By rounds its reader is idle for as many turns as are configured.)
 fn outcome_under(
     rt: &impl Threads,
     alloc: Global,
     config: &Config,
 ) -> Result<Result<Outcome, DriveError>, Fail> {
-    match driven_under(rt, alloc, graph_of(alloc, SUM_OF_FIVE)?, config) {
+    match driven_under(rt, alloc, graph_of(alloc, ONE_UNIT)?, config) {
         Ok(told) => Ok(Ok(told.outcome)),
         Err(error) => Ok(Err(error)),
     }

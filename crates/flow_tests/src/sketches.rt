@@ -92,6 +92,13 @@ edge 3.0 4.1
 edge 4.0 5.0
 ";
 
+/// One unit.
+pub const ONE_UNIT: &str = r"
+node 0 source units 1
+node 0 sink unit
+edge 0.0 1.0
+";
+
 /// More units than a pump has turns.
 pub const MANY_UNITS: &str = r"
 node 0 source units 66000
@@ -135,10 +142,10 @@ edge 13.0 14.1
 edge 14.0 15.0
 ";
 
-/// The text of the sums of the numbers below 60, each up to the one before.
+/// The text of the sums of the numbers below 30, each up to the one before.
 pub const SCAN_OF_NUMBERS: &str = r"
 node 0 source units 1
-node 0 const 60
+node 0 const 30
 node 0 iota
 node 0 fork bool 2
 node 0 scan_add one
