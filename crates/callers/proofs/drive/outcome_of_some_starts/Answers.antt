@@ -1,6 +1,6 @@
 use Rattle.std.proofs.Common.{subst}
-use Rattle.flow_drives.specs.Resteds.{rested_rounds, rested_epochs}
-use Rattle.flow_drives.specs.Starts.{AskedBy}
+use Rattle.flow_drive.specs.Resteds.{rested_rounds, rested_epochs}
+use Rattle.flow_drive.specs.Starts.{AskedBy}
 use Rattle.callers.proofs.drive.outcome_of_some_starts.Goals as goal
 
 pub returns-in-Ok-clause-asked : goal.returns-in-Ok-clause-asked
