@@ -35,7 +35,8 @@ module _ {X : Type 0} {t : Ghosts X} {u : EndsGhosts Rings} (network : SharedNet
     -- the count stays at the greatest `u64`
     pub count_is : count ≡ u64_saturate (length backs)
 
--- The statement on their number is the contract of a function in src/theorems.rt: there are at most twice as many as messages that are sent in the whole traffic of the network
+-- The statement on their number is the contract of a function in src/theorems.rt: there are at most twice as many as messages that
+-- are sent in the whole traffic of the network
 abbrev pub EpochsAreFew : {X : Type 0} → Ghosts X → EndsGhosts Rings → Type 0
 EpochsAreFew {X} t u =
     (network : SharedNetwork t) (shares : List (Share X Rings t u)) (backs : List (List (Share X Rings t u))) (whole : WholeTraffic t.behaviour.process (net_of network.nodes network.edges))

@@ -125,8 +125,9 @@ fn start_all<
 /// Runs each share in a thread of its own, all of them at once, and gives them back in order.
 ///
 /// All threads are started before any is joined, and one share gets a thread too. `start` is asked for each thread once, in
-/// the order of the shares and before it is started; after a refusal it is asked no more. Refused as `NoThread` where it says no or a thread could not be started, and as `NoMemory` where memory was refused for
-/// a list, or the gate has as many owners as it may. The shares are then let go.
+/// the order of the shares and before it is started; after a refusal it is asked no more. Refused as `NoThread` where it
+/// says no or a thread could not be started, and as `NoMemory` where memory was refused for a list, or the gate has as many
+/// owners as it may. The shares are then let go.
 ///
 /// A thread that was started is joined whatever else fails. No contract can say so: a test sees it. Nor can one say that
 /// each pump gets this `chunk`, these `idle_turns` and this gate: only a reader of the code sees it.
