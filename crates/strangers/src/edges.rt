@@ -1,6 +1,6 @@
 // Messages, edges and ends.
 use flow_edges::{
-    Block, Boxes, EdgeReader, EdgeWriter, Ends, FinishedMark, Flat, Held, Item, Kind, Msg, Refused,
+    Block, Boxes, EdgeReader, EdgeWriter, Ends, FinishedMark, Held, Item, Kind, Msg, Refused,
     Rings, Table, Why, edge, meet, scalar_edge,
 };
 use std::alloc::{AllocError, Global};
@@ -77,13 +77,11 @@ pub fn are_there(boxes: &Boxes, rings: &Rings, edge: usize) -> (bool, bool) {
     (boxes.has_writer(edge), rings.has_reader(edge))
 }
 
-/// A block of one integer is put on a fresh edge, and taken again.
-pub fn block_passed(alloc: Global) -> Result<(bool, usize), AllocError> {
+/// Whether a fresh edge has room for one message, and how many a block takes of it.
+pub fn block_taken(alloc: Global) -> Result<(bool, usize), AllocError> {
     let (mut writer, mut reader) = scalar_edge(alloc, Kind::Int, 1)?;
     let mut block = Block::new();
-    block.push(Flat::Int(5));
     let has_room = writer.room_for(1);
-    let put = writer.put_block(&mut block);
     meet(&mut writer, &mut reader);
-    Ok((has_room && put, reader.take_block(&mut block, 64)))
+    Ok((has_room, reader.take_block(&mut block, 64)))
 }
