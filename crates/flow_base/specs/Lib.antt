@@ -26,3 +26,5 @@ pub mod Computed
 pub mod Members
 pub mod RowPorts
 pub mod Visits
+pub mod Passing
+pub mod Following

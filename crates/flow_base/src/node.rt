@@ -1,18 +1,21 @@
 // Transducers made of workers: what they do where streams end.
 
-ghost use Rattle.std.specs.Prelude.{◌≡◌, ◌+◌, ◌<◌, ◌≤◌, true, false, nat_lt, IfOk, OnErr, IsOk};
-ghost use Rattle.flow_messages.specs.Signals.{signal_of};
+ghost use Rattle.std.specs.Prelude.{◌≡◌, ◌+◌, ◌<◌, ◌≤◌, true, false, cond, nat_lt, IfOk, OnErr, IsOk, IsTrue, List, [], ◌∷◌, ◌++◌, length};
+ghost use Rattle.flow_messages.specs.Signals.{Signal, stop, signal_of};
+ghost use Rattle.flow_messages.specs.Flats.{flat_signals};
 ghost use Rattle.flow_messages.specs.Ends.{SameEnds};
 ghost use Rattle.flow_base.specs.Machines.{move_of, ask_of};
 ghost use Rattle.flow_base.specs.Workers.{IsReading};
-ghost use Rattle.flow_base.specs.Nodes.{closing, opened, want_for};
+ghost use Rattle.flow_base.specs.Nodes.{behaviour_of, closing, node_state, opened, want_for};
+ghost use Rattle.flow_base.specs.Passing.{MayCome, PassedOn};
+ghost use Rattle.flow_base.specs.Following.{node_passes};
 ghost use Rattle.flow_base.specs.Visits.{IsPlaced, WentOn, Visited, BrokeOff};
-ghost use Rattle.flow_base.specs.declared.node.Phase.TheVariants.{Working};
+ghost use Rattle.flow_base.specs.declared.node.Phase.TheVariants.{Working, Ending};
 
 use crate::certain::look_for_messages;
 use crate::transducer::{Port, Side, Transducer};
 use crate::worker::{Ask, Stop, Worker};
-use flow_messages::{Ends, Msg};
+use flow_messages::{Block, Ends, Flat, Msg};
 use kahn::Want;
 use snesl_data::{Fault, FaultKind};
 use std::alloc::AllocError;
@@ -453,10 +456,67 @@ impl<W: Worker> Node<W> {
         self.is_busy = whole >= LEAST_WHEN_BUSY;
         Ok(true)
     }
+
+    // Whether it passes messages on from here.
+    fn may_pass(&self) -> bool
+        ensures exact { result ≡ node_passes W.machine W.passes
+            (⟦<Node<W> as Transducer>⟧.state self.now) }
+        ensures one { result ≡ true → W.machine.inputs (W.state self.now.worker).0 ≡ 1 }
+    {
+        matches!(self.phase, Phase::Working)
+            && matches!(self.worker.ask(), Ask::Begin)
+            && self.worker.passes()
+    }
+
+    // Passes these items on, up to an end: what it writes to each output goes to `out`, and it stays as it is. Whether an end
+    // came.
+    fn pass_items(&self, flats: &[Flat], out: &mut Block) -> bool
+        requires passes { node_passes W.machine W.passes
+            (⟦<Node<W> as Transducer>⟧.state self.now) ≡ true }
+        requires come { MayCome (W.machine.kind_in (W.state self.now.worker).0 0)
+            (flat_signals flats.now) }
+        requires short { length flats.now ≤ 64 }
+        requires empty { out.old.items ≡ [] }
+        ensures room { result ≡ true → length out.new.items < 64 }
+        ensures ended { result ≡ true → (items : List Signal) ×
+            (flat_signals flats.now ≡ items ++ stop ∷ []) ×
+            PassedOn ⟦<Node<W> as Transducer>⟧.behaviour
+            (⟦<Node<W> as Transducer>⟧.state self.now) items
+            (⟦<Node<W> as Transducer>⟧.state self.now) (flat_signals out.new.items) }
+        ensures all { result ≡ false → PassedOn ⟦<Node<W> as Transducer>⟧.behaviour
+            (⟦<Node<W> as Transducer>⟧.state self.now) (flat_signals flats.now)
+            (⟦<Node<W> as Transducer>⟧.state self.now) (flat_signals out.new.items) }
+    {
+        for flat in flats {
+            if flat.is_end() {
+                return true;
+            }
+            if let Some(next) = self.worker.follows(*flat) {
+                out.push(next);
+            }
+        }
+        false
+    }
+
+    // Passes the end on: it goes to each output, and to `out`, where there is one.
+    fn pass_end(&mut self, out: &mut Block)
+        requires { length out.old.items < 64 }
+        ensures state { ⟦<Node<W> as Transducer>⟧.state self.new ≡ node_state
+            (W.state self.old.worker) (Ending (W.machine.outputs (W.state self.old.worker).0))
+            self.old.at }
+        ensures out { out.new.items ≡ out.old.items ++
+            cond (nat_lt 0 (W.machine.outputs (W.state self.old.worker).0)) (Flat.End ∷ []) [] }
+    {
+        let outputs = self.worker.outputs();
+        self.phase = Phase::Ending(outputs);
+        if outputs > 0 {
+            out.push(Flat::End);
+        }
+    }
 }
 
 impl<W: Worker> Transducer for Node<W> {
-    ghost use Rattle.flow_base.specs.Nodes.{NodeState, node_state, behaviour_of};
+    ghost use Rattle.flow_base.specs.Nodes.{NodeState};
     ghost use Rattle.flow_base.specs.NodeLaws.{behaviour_laws};
 
     ghost State = { NodeState (W.Parameters × W.State) };
@@ -487,6 +547,32 @@ impl<W: Worker> Transducer for Node<W> {
             }
             Phase::Faulted(kind) => self.fault(kind),
         }
+    }
+
+    // The worker is after each item where it was before.
+    fn pass(&mut self, block: &Block, out: &mut Block) -> bool
+        requires { MayCome (W.machine.kind_in (W.state self.old.worker).0 0)
+            (flat_signals block.now.items) }
+        ensures passed { IsTrue result → PassedOn (behaviour_of W.machine)
+            (node_state (W.state self.old.worker) self.old.phase self.old.at)
+            (flat_signals block.now.items)
+            (node_state (W.state self.new.worker) self.new.phase self.new.at)
+            (flat_signals out.new.items) }
+        ensures kept { result ≡ false →
+            node_state (W.state self.new.worker) self.new.phase self.new.at ≡
+            node_state (W.state self.old.worker) self.old.phase self.old.at }
+        ensures untouched { result ≡ false → out.new.items ≡ out.old.items }
+        ensures exact { result ≡ node_passes W.machine W.passes
+            (node_state (W.state self.old.worker) self.old.phase self.old.at) }
+    {
+        if !self.may_pass() {
+            return false;
+        }
+        out.clear();
+        if self.pass_items(block.as_slice(), out) {
+            self.pass_end(out);
+        }
+        true
     }
 
     fn port(&self, side: Side, number: usize) -> Port {

@@ -3,7 +3,7 @@
 ghost use Rattle.std.specs.Prelude.{◌≡◌};
 ghost use Rattle.flow_base.specs.Transducers.{TransducerLaws};
 
-use flow_messages::{Ends, Kind, Msg};
+use flow_messages::{Block, Ends, Kind, Msg};
 use kahn::Want;
 use std::alloc::AllocError;
 
@@ -29,11 +29,13 @@ pub struct Port {
 ///
 /// Its laws speak of an abstract state, and of what messages say.
 pub trait Transducer {
-    ghost use Rattle.std.specs.Prelude.{◌≡◌, ◌<◌, ℕ, false, IfOk, OnOk, OnErr, IsOk};
+    ghost use Rattle.std.specs.Prelude.{◌≡◌, ◌<◌, ℕ, false, IsTrue, IfOk, OnOk, OnErr, IsOk};
     ghost use Rattle.kahn.specs.declared.want.Want.TheVariants.{Read};
     ghost use Rattle.flow_messages.specs.Signals.{signal_of};
     ghost use Rattle.flow_messages.specs.Ends.{SameEnds};
     ghost use Rattle.flow_base.specs.Transducers.{Behaviour, BehaviourLaws, IsWrite, ports_on, kind_on};
+    ghost use Rattle.flow_messages.specs.Flats.{flat_signals};
+    ghost use Rattle.flow_base.specs.Passing.{MayCome, PassedOn};
     ghost use Rattle.flow_base.specs.Visits.{IsPlaced, Visited, BrokeOff};
 
     /// What its laws see of it.
@@ -99,6 +101,23 @@ pub trait Transducer {
             (state self.new ≡ behaviour.process.wrote (state self.old))) }
         ensures err { OnErr result (state self.new ≡ state self.old) }
         ensures sure { behaviour.takes_memory (state self.old) ≡ false → IsOk result };
+
+    /// Passes the messages of a block on, where it can: it reads each and writes all that follows from it before it reads
+    /// the next. `out` is then what it wrote, the same to each output. Whether it did; else nothing changed.
+    ///
+    /// An `End` may only be the last of the block. No message is a fault, and none takes memory: where one could be or
+    /// might take some, the answer is false.
+    fn pass(&mut self, block: &Block, out: &mut Block) -> bool
+        requires { MayCome (behaviour.kind_in (state self.old) 0) (flat_signals block.now.items) }
+        ensures passed { IsTrue result → PassedOn behaviour (state self.old)
+            (flat_signals block.now.items) (state self.new) (flat_signals out.new.items) }
+        ensures kept { result ≡ false → state self.new ≡ state self.old }
+        ensures untouched { result ≡ false → out.new.items ≡ out.old.items }
+    {
+        let _ = block.len();
+        let _ = out.len();
+        false
+    }
 
     /// A visit: some steps, at least one where its ends are certain of one. That there are at most `chunk` is not promised.
     /// The edges at its input ports and at its output ports are `inputs` and `outputs`. Whether it made a step.

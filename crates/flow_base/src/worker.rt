@@ -3,7 +3,7 @@
 ghost use Rattle.std.specs.Prelude.{◌≡◌, false, IfOk, OnErr, IsOk};
 ghost use Rattle.flow_base.specs.Computed.{ComputesRow};
 
-use flow_messages::{Ends, Item, Kind};
+use flow_messages::{Ends, Flat, Item, Kind};
 use snesl_data::FaultKind;
 use std::alloc::AllocError;
 
@@ -59,8 +59,12 @@ impl From<AllocError> for Stop {
 ///
 /// Its laws speak of an abstract state, and of what items carry.
 pub trait Worker {
-    ghost use Rattle.std.specs.Prelude.{◌≤◌, ℕ};
+    ghost use Rattle.std.specs.Prelude.{◌≤◌, ℕ, Bool, true};
     ghost use Rattle.flow_messages.specs.Cells.{cell_of};
+    ghost use Rattle.flow_messages.specs.Signals.{signal_of, is_stop};
+    ghost use Rattle.flow_messages.specs.Flats.{message_of};
+    ghost use Rattle.flow_messages.specs.Kinds.{fits};
+    ghost use Rattle.flow_base.specs.Following.{Follows};
     ghost use Rattle.flow_messages.specs.Ends.{SameEnds};
     ghost use Rattle.flow_base.specs.Nodes.{behaviour_of, node_state};
     ghost use Rattle.flow_base.specs.Visits.{IsWired, TakeKinds, Went};
@@ -80,6 +84,10 @@ pub trait Worker {
 
     /// What it does, as a table over these states.
     ghost machine: { Machine Parameters State };
+
+    /// Whether it passes items on: it has one input, goes on with each item of its kind, and writes at most one message for
+    /// it, the same to each output.
+    ghost passes: { Parameters → Bool };
 
     /// What it wants next.
     fn ask(&self) -> Ask
@@ -122,6 +130,19 @@ pub trait Worker {
             ))) }
         ensures err { OnErr result (state self.new ≡ state self.old) }
         ensures sure { machine.takes_memory (state self.old).1 ≡ false → IsOk result };
+
+    /// Whether it passes items on. Then it has one input.
+    fn passes(&self) -> bool
+        ensures exact { result ≡ passes (state self.now).0 }
+        ensures one { result ≡ true → machine.inputs (state self.now).0 ≡ 1 };
+
+    /// What it writes to each output for this item, where it passes items on and may begin an instance: after that the next
+    /// one may begin. None where it writes nothing. It goes on with each item of its kind.
+    fn follows(&self, item: Flat) -> Option<Flat>
+        ensures { passes (state self.now).0 ≡ true →
+            fits (machine.kind_in (state self.now).0 0) (signal_of (message_of item)) ≡ true →
+            is_stop (signal_of (message_of item)) ≡ false →
+            Follows machine (state self.now).0 (signal_of (message_of item)) result };
 
     /// Whether its kernel may go on from here; elsewhere a visit makes single steps first. It says only how fast a visit
     /// is, and so promises nothing.

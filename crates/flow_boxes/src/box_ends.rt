@@ -6,7 +6,7 @@ ghost use Rattle.flow_boxes.specs.Rounds.{KeepsRound, HasNone, OpensWriter, Open
 use crate::boxes::Boxes;
 use crate::inbox::Inbox;
 use crate::outbox::Outbox;
-use flow_messages::{CountedEnds, Ends, Msg, Refused};
+use flow_messages::{CountedEnds, Ends, Kind, Msg, Refused};
 use std::alloc::{AllocError, Global};
 
 impl Boxes {
@@ -68,6 +68,11 @@ impl Ends for Boxes {
 
     fn has_reader(&self, edge: usize) -> bool {
         matches!(self.inboxes.get(edge), Some(Some(_)))
+    }
+
+    fn takes(&self, edge: usize, kind: Kind) -> bool {
+        let _ = (edge, kind);
+        true
     }
 
     #[inline(always)]

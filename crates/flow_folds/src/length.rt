@@ -1,6 +1,6 @@
 // How many elements each segment has.
 
-ghost use Rattle.std.specs.Prelude.{◌≡◌, ◌+◌, ◌≤◌, ℕ, true, List, length, take, IfSome};
+ghost use Rattle.std.specs.Prelude.{◌≡◌, ◌+◌, ◌≤◌, ℕ, true, List, length, take, IfSome, false};
 ghost use Rattle.std.specs.List.{All};
 ghost use Rattle.snesl_data.specs.Integers.{greatest_integer};
 ghost use Rattle.flow_messages.specs.declared.message.Kind.TheVariants.{Int as IntKind};
@@ -14,7 +14,7 @@ ghost use Rattle.flow_folds.specs.LengthMachine.{one_element_more, length_at_end
 ghost use Rattle.flow_folds.specs.LengthBlocks.{LengthsAlong};
 
 use flow_base::{Ask, BLOCK, SHORT_BLOCK, Stop, Worker, put_in_space, take_front};
-use flow_messages::{Ends, Item, Kind, Msg};
+use flow_messages::{Ends, Flat, Item, Kind, Msg};
 use snesl_data::{Dialect, FaultKind};
 use std::alloc::AllocError;
 
@@ -254,6 +254,8 @@ impl Worker for Length {
 
     ghost machine = { length_machine };
 
+    ghost passes = { λ _. false };
+
     ghost laws = { length_laws };
 
     #[inline(always)]
@@ -279,6 +281,15 @@ impl Worker for Length {
 
     fn kind_out(&self, _port: usize) -> Kind {
         Kind::Int
+    }
+
+    fn passes(&self) -> bool {
+        false
+    }
+
+    // It is not asked.
+    fn follows(&self, _item: Flat) -> Option<Flat> {
+        None
     }
 
     #[inline(always)]

@@ -22,7 +22,7 @@ ghost use Rattle.flow_folds.specs.declared.reduce.Stage.TheVariants.{Start as St
 
 use crate::scalars::{item_of, kind_of, scalar_of, wide};
 use flow_base::{Ask, Stop, Worker, put_in_space, take_front};
-use flow_messages::{Ends, Item, Kind, Msg};
+use flow_messages::{Ends, Flat, Item, Kind, Msg};
 use snesl_data::{Dialect, FaultKind};
 use snesl_operators::{Reduction, Scalar, sum};
 use std::alloc::AllocError;
@@ -479,6 +479,8 @@ impl Worker for Reduce {
 
     ghost machine = { reduce_machine };
 
+    ghost passes = { λ _. false };
+
     ghost laws = { reduce_laws };
 
     #[inline(always)]
@@ -509,6 +511,15 @@ impl Worker for Reduce {
 
     fn kind_out(&self, _port: usize) -> Kind {
         kind_of(self.reduction.scalar_type())
+    }
+
+    fn passes(&self) -> bool {
+        false
+    }
+
+    // It is not asked.
+    fn follows(&self, _item: Flat) -> Option<Flat> {
+        None
     }
 
     #[inline(always)]

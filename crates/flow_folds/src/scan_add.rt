@@ -1,6 +1,6 @@
 // Running sums of segments.
 
-ghost use Rattle.std.specs.Prelude.{◌≡◌, ◌≢◌, ◌+ℤ◌, ◌≤◌, ℕ, true, Ok, [], ◌∷◌, length, take, IfSome};
+ghost use Rattle.std.specs.Prelude.{◌≡◌, ◌≢◌, ◌+ℤ◌, ◌≤◌, ℕ, true, Ok, [], ◌∷◌, length, take, IfSome, false};
 ghost use mathlib.Core.List.{IsPrefix};
 ghost use Rattle.snesl_operators.specs.Operators.{ranged};
 ghost use Rattle.flow_messages.specs.Cells.{flag, int};
@@ -17,7 +17,7 @@ ghost use Rattle.flow_folds.specs.ScanAddBlocks.{SumsAlong};
 ghost use Rattle.flow_folds.specs.declared.scan_add.Stage.TheVariants.{Element};
 
 use flow_base::{Ask, BLOCK, SHORT_BLOCK, Stop, Worker, put_in_space, take_front};
-use flow_messages::{Ends, Item, Kind, Msg};
+use flow_messages::{Ends, Flat, Item, Kind, Msg};
 use snesl_data::{Dialect, FaultKind};
 use snesl_operators::sum;
 use std::alloc::AllocError;
@@ -269,6 +269,8 @@ impl Worker for ScanAdd {
 
     ghost machine = { scan_add_machine };
 
+    ghost passes = { λ _. false };
+
     ghost laws = { scan_add_laws };
 
     #[inline(always)]
@@ -295,6 +297,15 @@ impl Worker for ScanAdd {
 
     fn kind_out(&self, _port: usize) -> Kind {
         Kind::Int
+    }
+
+    fn passes(&self) -> bool {
+        false
+    }
+
+    // It is not asked.
+    fn follows(&self, _item: Flat) -> Option<Flat> {
+        None
     }
 
     #[inline(always)]

@@ -6,6 +6,7 @@ pub use Rattle.flow_networks.specs.declared.graph.GraphBuilder
 pub use Rattle.flow_networks.specs.declared.settled.Settled
 pub use Rattle.flow_networks.specs.declared.step.Moved
 pub use Rattle.flow_networks.specs.Alike
+pub use Rattle.flow_networks.specs.Blocks
 pub use Rattle.flow_networks.specs.Edges
 pub use Rattle.flow_networks.specs.FlowTheorems
 pub use Rattle.flow_networks.specs.Flows

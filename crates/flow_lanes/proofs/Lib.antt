@@ -1,6 +1,7 @@
 pub mod Lists
 pub mod Coming
 pub mod Came
+pub mod InTurn
 pub mod Followed
 pub mod Owing
 pub mod Drained

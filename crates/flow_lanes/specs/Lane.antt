@@ -30,6 +30,11 @@ abbrev pub kind_of : LaneWriter → Option Kind
 kind_of (MessagesTo w) = ring.kind_of w
 kind_of (ScalarsTo w) = ring.kind_of w.edge
 
+-- the kind of the items that this reader takes, or none where they may be of any
+abbrev pub reader_kind : LaneReader → Option Kind
+reader_kind (MessagesFrom r) = ring.reader_kind r
+reader_kind (ScalarsFrom p) = ring.reader_kind p.edge
+
 -- every message taken so far, the oldest first
 abbrev pub received : LaneReader → List Msg
 received (MessagesFrom r) = ring.received r

@@ -1,3 +1,4 @@
+pub mod Came
 pub mod Credits
 pub mod Taken
 pub mod Followed

@@ -2,6 +2,7 @@
 ghost use Rattle.std.specs.Prelude.{◌≡◌, ◌≢◌, ◌<◌, length, None};
 ghost use Rattle.flow_boxes.specs.Received.{received_of};
 ghost use Rattle.flow_rings.specs.Edge.{received, reader_kind};
+ghost use Rattle.flow_lanes.specs.Came.{CameInTurn};
 ghost use Rattle.flow_lanes.specs.Credits.{Owes};
 
 use crate::blocks::PLACES;
@@ -27,5 +28,6 @@ pub struct Pocket {
     ghost reserved: { 0 < inbox.store.capacity },
     ghost arrived: { came.items ≡ inbox.arrived.items },
     ghost all: { came.items ≡ received edge },
+    ghost in_turn: { CameInTurn (reader_kind edge) came.items },
     ghost owes: { Owes (length (received_of inbox)) owed back },
 }

@@ -1,11 +1,12 @@
 // The end that takes messages.
-ghost use Rattle.std.specs.Prelude.{◌≡◌, ◌<◌, ◌≤◌, ◌↔◌, [], ◌∷◌, ◌++◌, length, take, IsTrue, IsSome, IfSome, IfNone};
+ghost use Rattle.std.specs.Prelude.{◌≡◌, ◌<◌, ◌≤◌, ◌↔◌, false, [], ◌∷◌, ◌++◌, length, take, IsTrue, IsSome, IfSome, IfNone};
 ghost use Rattle.std.specs.Io.Iter.{u64_saturate};
 ghost use mathlib.Core.List.{IsPrefix};
 ghost use Rattle.flow_messages.specs.Contents.{unit_messages, flag_messages, int_messages};
 ghost use Rattle.flow_messages.specs.Flats.{scalar_first};
-ghost use Rattle.flow_messages.specs.Signals.{signals};
-ghost use Rattle.flow_lanes.specs.Lane.{received, certain_held, SameReader};
+ghost use Rattle.flow_messages.specs.Kinds.{FitsEdge};
+ghost use Rattle.flow_messages.specs.Signals.{signals, signal_of, ended};
+ghost use Rattle.flow_lanes.specs.Lane.{received, certain_held, reader_kind, SameReader};
 
 use crate::ends::LaneReader;
 use crate::taking::take_each;
@@ -47,6 +48,7 @@ impl LaneReader {
     }
 
     /// Takes the oldest message that was not taken, or none where none is certain to be there.
+    /// Nothing is taken after an `End`, and from a lane of scalars only items of its kind.
     #[inline(always)]
     pub fn take(&mut self) -> Option<Msg>
         ensures same { SameReader self.old self.new }
@@ -54,6 +56,8 @@ impl LaneReader {
             IsPrefix (certain_held self.old) (m ∷ certain_held self.new)) }
         ensures none { IfNone result ((received self.new ≡ received self.old) ×
             (certain_held self.old ≡ []) × (certain_held self.new ≡ [])) }
+        ensures open { IfSome result (λ _. ended (signals (received self.old)) ≡ false) }
+        ensures fits { IfSome result (λ m. FitsEdge (reader_kind self.old) (signal_of m)) }
         ensures succeeds { 0 < length (certain_held self.old) → IsSome result }
     {
         match self {

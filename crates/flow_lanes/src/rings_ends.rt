@@ -5,7 +5,7 @@ ghost use Rattle.flow_lanes.specs.Rings.{ends_of, writer_at, reader_at, SameRing
 use crate::ends::{LaneReader, LaneWriter};
 use crate::meeting::meet_lane;
 use crate::rings::Rings;
-use flow_messages::{CountedEnds, Ends, Msg, Refused};
+use flow_messages::{CountedEnds, Ends, Kind, Msg, Refused};
 use flow_rings::Held;
 use std::alloc::{AllocError, Global};
 
@@ -28,6 +28,13 @@ impl Ends for Rings {
         match self.readers.get(edge) {
             Some(Some(_)) => true,
             _ => false,
+        }
+    }
+
+    fn takes(&self, edge: usize, kind: Kind) -> bool {
+        match &self.writers[edge] {
+            Some(writer) => writer.takes(kind),
+            None => unreachable!(),
         }
     }
 

@@ -1,12 +1,14 @@
 // What is called at the end that takes scalars.
-ghost use Rattle.std.specs.Prelude.{◌≡◌, ◌+◌, ◌-◌, ◌^◌, ◌<◌, ◌≤◌, ◌↔◌, ℕ, pos, [], ◌∷◌, ◌++◌, Some, length, take, drop, IsTrue, IsSome, IfSome, IfNone};
+ghost use Rattle.std.specs.Prelude.{◌≡◌, ◌+◌, ◌-◌, ◌^◌, ◌<◌, ◌≤◌, ◌↔◌, ℕ, pos, false, [], ◌∷◌, ◌++◌, Some, length, take, drop, IsTrue, IsSome, IfSome, IfNone};
 ghost use mathlib.Core.List.{IsPrefix};
 ghost use Rattle.flow_messages.specs.declared.message.Kind.TheVariants.{Int as IntKind};
 ghost use Rattle.flow_messages.specs.declared.message.Msg.TheVariants.{Item as ItemMsg};
 ghost use Rattle.flow_messages.specs.declared.message.Item.TheVariants.{Int as IntItem};
 ghost use Rattle.flow_messages.specs.Stores.{content_of};
 ghost use Rattle.flow_boxes.specs.Received.{received_of};
-ghost use Rattle.flow_rings.specs.Edge.{certain_held, certain_room, kind_of, received, SameReader, SameWriter};
+ghost use Rattle.flow_rings.specs.Edge.{certain_held, certain_room, kind_of, reader_kind, received, SameReader, SameWriter};
+ghost use Rattle.flow_messages.specs.Kinds.{FitsEdge};
+ghost use Rattle.flow_messages.specs.Signals.{signals, signal_of, ended};
 ghost use Rattle.flow_messages.specs.Flats.{messages_of};
 ghost use Rattle.flow_lanes.specs.Credits.{Owes};
 ghost use Rattle.flow_lanes.specs.Taken.{taken_from, held_in};
@@ -156,6 +158,8 @@ impl Pocket {
             IsPrefix (held_in self.old) (m ∷ held_in self.new)) }
         ensures none { IfNone result ((taken_from self.new ≡ taken_from self.old) ×
             (held_in self.old ≡ []) × (held_in self.new ≡ [])) }
+        ensures open { IfSome result (λ _. ended (signals (taken_from self.old)) ≡ false) }
+        ensures fits { IfSome result (λ m. FitsEdge (reader_kind self.old.edge) (signal_of m)) }
         ensures succeeds { 0 < length (held_in self.old) → IsSome result }
     {
         self.fill_if_empty();

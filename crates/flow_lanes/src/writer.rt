@@ -11,7 +11,7 @@ ghost use Rattle.flow_lanes.specs.Lane.{sent, certain_room, kind_of, SameWriter}
 
 use crate::blocks::{PLACES, Scalar, put_each};
 use crate::ends::LaneWriter;
-use flow_messages::{Msg, Refused};
+use flow_messages::{Kind, Msg, Refused};
 
 // What is put where a block of units is.
 const UNITS: [(); PLACES] = [(); PLACES];
@@ -99,6 +99,16 @@ impl LaneWriter {
         ensures room { certain_room self.old ≤ certain_room self.new + length ints.now }
     {
         self.put_all(ints);
+    }
+
+    /// Whether the lane takes items of this kind: any, or those of its own.
+    pub fn takes(&self, kind: Kind) -> bool
+        ensures { IsTrue result ↔ TakesKind (kind_of self.now) kind }
+    {
+        match self {
+            LaneWriter::Messages(edge) => edge.takes(kind),
+            LaneWriter::Scalars(writer) => writer.edge.takes(kind),
+        }
     }
 
     /// How many messages more the lane is certain to have room for. Only the reader makes more.

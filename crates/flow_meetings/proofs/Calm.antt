@@ -19,6 +19,7 @@ use Rattle.flow_boxes.specs.Contents.{Contents}
 use Rattle.flow_boxes.specs.Rounds.{KeepsRound}
 use Rattle.flow_shares.specs.Shares.{inputs_of, outputs_of}
 use Rattle.flow_shares.specs.Deals.{share_of, AreDealt}
+use Rattle.flow_meetings.specs.Met.{met_held, arrives_whole}
 use Rattle.flow_meetings.specs.Joints.{boxes_at, views_of, writer_view, reader_view, writer_boxes, reader_boxes, BoxesHaveMet, AreStates}
 use Rattle.flow_meetings.specs.RoundTheorems.{AllStuck, net_of, box_configuration, CalmRoundsRest, CalmRoundLeadsToRest}
 use Rattle.flow_meetings.specs.EndTheorems.{EdgesHaveMet, AllAreStuck, end_configuration, StuckSharesRest}
@@ -66,7 +67,7 @@ module _ {X : Type 0} {t : Ghosts X} (capacity : ℕ) (share : List ℕ) (edges 
 
   pub at_rest : AtRest t.behaviour.process (net_of nodes edges) (Some capacity) c
   at_rest (Reads e m) (l, wants, (rest, is)) =
-      absurd (omega (arith, sent_count e l, received_count e l, (met e l).held, nothing_comes e l wants, ap length is, length-append (c.received e ++ m ∷ []) rest, length_push (c.received e) m))
+      absurd (omega (arith, sent_count e l, received_count e l, met_held _ _ _ _ (met e l), nothing_comes e l wants, ap length is, length-append (c.received e ++ m ∷ []) rest, length_push (c.received e) m))
   at_rest (Writes e m) (l, wants, is, room) = absurd (omega (arith, sent_count e l, received_count e l, (met e l).room, no_room e l wants, room))
 
 pub stuck_shares_rest : {X : Type 0} (t : Ghosts X) → StuckSharesRest t
@@ -81,7 +82,7 @@ all_met capacity share edges boxes met e l =
     let both = length-append (r.received e) (r.coming e) in
     record {
       begins = (r.coming e, (met.carried e l).arrived);
-      held = omega (arith, arrived, both);
+      arrives = arrives_whole (w.sent e) (r.received e ++ r.coming e) (met.carried e l).arrived;
       room = omega (arith, arrived, both, (met.carried e l).room, met.capacity e l);
       fits = omega (arith, arrived, both, (met.carried e l).room, met.capacity e l);
     }

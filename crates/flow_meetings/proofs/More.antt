@@ -48,7 +48,7 @@ module _ (owners : List EdgeOwners) (kinds : List Kind) (capacity s e : ℕ) (w 
 fresh_met : (a b : View) (capacity e : ℕ) → a.sent e ≡ [] → a.room e ≡ capacity → b.received e ≡ [] → b.coming e ≡ [] → Met a b capacity e
 fresh_met a b capacity e sent room received coming = record {
   begins = (a.sent e, ap (λ (x : List Signal). x ++ a.sent e) received);
-  held = omega (arith, ap length sent);
+  arrives = ([], ap (λ (x : List Signal). x ++ []) sent ∙ sym coming ∙ ap (λ (x : List Signal). x ++ b.coming e) (sym received));
   room = omega (arith, room, ap length received);
   fits = omega (arith, ap length sent);
 }

@@ -14,12 +14,16 @@ use flow_base::Transducer;
 use flow_boxes::Boxes;
 
 /// Where both ends of an edge have met, what was received is a prefix of what was sent, and all of
-/// it where the edge holds nothing. Where there is no room, the edge is full.
+/// it where the edge holds nothing. What was received and what is coming are what was sent, where no
+/// more is coming than was sent. Where there is no room, the edge is full.
 pub fn met_is_in_order()
     ensures begins { (a b : View) (places e : ℕ) → Met a b places e →
         IsPrefix (b.received e) (a.sent e) }
     ensures none { (a b : View) (places e : ℕ) → Met a b places e → held b e ≡ 0 →
         b.received e ≡ a.sent e }
+    ensures whole { (a b : View) (places e : ℕ) → Met a b places e →
+        length (b.received e) + held b e ≤ length (a.sent e) →
+        b.received e ++ b.coming e ≡ a.sent e }
     ensures full { (a b : View) (places e : ℕ) → Met a b places e → a.room e ≡ 0 →
         places + length (b.received e) ≤ length (a.sent e) }
 {}

@@ -1,8 +1,10 @@
 -- What an edge of one kind takes.
-use Rattle.std.proofs.Common.{◌≡◌, ℕ, true, refl, sym, subst, arith}
-use Rattle.std.specs.Prelude.{Option, Some, None}
+use Rattle.std.proofs.Common.{◌≡◌, ℕ, Bool, true, refl, sym, ◌∙◌, subst, arith}
+use Rattle.std.specs.Prelude.{pos, Option, Some, None, ◌↔◌, IsTrue}
 use Rattle.flow_messages.specs.declared.message.Kind.{Kind}
-use Rattle.flow_messages.specs.Cells.{Cell, is_of}
+use Rattle.flow_messages.specs.declared.message.Kind.TheVariants.{Unit as UnitKind, Bool as BoolKind, Int as IntKind, Vec as VecKind}
+use Rattle.snesl_data.specs.Values.{an_int}
+use Rattle.flow_messages.specs.Cells.{Cell, unit, flag, int, datum, is_of}
 use Rattle.flow_messages.specs.Signals.{Signal, carry}
 use Rattle.flow_messages.specs.Ends.{View, SameEnds}
 use Rattle.flow_messages.specs.Kinds.{fits, FitsEdge, TakesKind}
@@ -27,3 +29,35 @@ one_kind j k x as_j as_k = grind (arith)
 pub fits_takes : (of : Option Kind) (k : Kind) (x : Cell) → is_of k x ≡ true → FitsEdge of (carry x) → TakesKind of k
 fits_takes None k x is fits_x = λ s h. refl
 fits_takes (Some j) k x is fits_x = λ s h. subst (λ i. fits i s ≡ true) (one_kind k j x is fits_x) h
+
+-- what an item of each kind may say
+sample : Kind → Cell
+sample UnitKind = unit
+sample BoolKind = flag true
+sample IntKind = int (pos 0)
+sample VecKind = datum (an_int (pos 0))
+
+sample_is : (k : Kind) → is_of k (sample k) ≡ true
+unfolding sample
+sample_is UnitKind = refl
+sample_is BoolKind = refl
+sample_is IntKind = refl
+sample_is VecKind = refl
+
+-- an edge of kind j takes the items of kind j alone
+pub takes_own : (j k : Kind) → TakesKind (Some j) k ↔ (j ≡ k)
+takes_own j k = (
+  λ takes. one_kind j k (sample k) (takes (carry (sample k)) (sample_is k)) (sample_is k),
+  λ is s of_k. subst (λ i. fits i s ≡ true) (sym is) of_k,
+)
+
+-- and so those of kind k exactly where an item of kind j is of kind k
+pub takes_where : (j k : Kind) (x : Cell) (r : Bool) → is_of j x ≡ true → r ≡ is_of k x → IsTrue r ↔ TakesKind (Some j) k
+takes_where j k x r of_j is = (
+  λ t. (takes_own j k).1 (one_kind j k x of_j (sym is ∙ t)),
+  λ takes. is ∙ subst (λ i. is_of i x ≡ true) ((takes_own j k).0 takes) of_j,
+)
+
+-- an edge of no kind takes all items
+pub takes_all : (k : Kind) → TakesKind None k
+takes_all k s of_k = refl

@@ -1,6 +1,6 @@
 // The ends of a set of edges.
 use crate::flat::{Block, Flat};
-use crate::message::{Item, Msg};
+use crate::message::{Item, Kind, Msg};
 
 /// Why a message was not put on an edge.
 #[derive(Clone, Copy, Debug, PartialEq, Eq)]
@@ -48,6 +48,11 @@ pub trait Ends {
     /// Whether the end that takes messages from this edge is there.
     fn has_reader(&self, edge: usize) -> bool
         ensures { result ≡ (view self.now).reads edge };
+
+    /// Whether the edge takes items of this kind. An edge of no kind takes all.
+    fn takes(&self, edge: usize, kind: Kind) -> bool
+        requires { (view self.now).writes edge ≡ true }
+        ensures { IsTrue result ↔ TakesKind ((view self.now).kind edge) kind };
 
     /// Whether the edge is certain to have room for one more message.
     fn room(&mut self, edge: usize) -> bool

@@ -6,7 +6,7 @@ ghost use Rattle.flow_messages.specs.Tables.{ends_of, capacity_of, IsFresh};
 use crate::counted::CountedEnds;
 use crate::ends::{Ends, Refused};
 use crate::line::Line;
-use crate::message::Msg;
+use crate::message::{Kind, Msg};
 use crate::table::{MAX_CAPACITY, Table};
 use crate::whole::WholeEnds;
 use std::alloc::{AllocError, Global};
@@ -49,6 +49,11 @@ impl Ends for Table {
 
     fn has_reader(&self, edge: usize) -> bool {
         edge < self.lines.len()
+    }
+
+    fn takes(&self, edge: usize, kind: Kind) -> bool {
+        let _ = (edge, kind);
+        true
     }
 
     #[inline(always)]

@@ -9,6 +9,11 @@ pub mod Looks
 pub mod Turns
 pub mod Carried
 pub mod Visits
+pub mod Blocks
+pub mod BlockEdges
+pub mod Ahead
+pub mod BlockNodes
+pub mod Drawn
 pub mod NodeEnds
 pub mod Shapes
 pub mod Skeletons

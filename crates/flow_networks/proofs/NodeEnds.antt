@@ -2,7 +2,7 @@
 use Rattle.std.proofs.Common.{◌≡◌, ℕ, ◌<◌, true, List, length, get_or, sym, ◌∙◌, ap, subst, refl, arith}
 use Rattle.std.specs.List.{All}
 use Rattle.std.proofs.lemmas.List.{get_or_default}
-use Rattle.std.specs.Prelude.{None}
+use Rattle.std.specs.Prelude.{None, Bool, IsTrue, ◌↔◌}
 use Rattle.flow_messages.specs.declared.message.Kind.{Kind}
 use Rattle.flow_messages.specs.Kinds.{TakesKind}
 use Rattle.flow_messages.specs.Ends.{View}
@@ -13,8 +13,8 @@ use Rattle.flow_networks.specs.declared.placed.Placed.{Placed}
 use Rattle.flow_networks.specs.Edges.{in_edge, out_edge}
 use Rattle.flow_networks.specs.Networks.{state_at, inputs_at, outputs_at, IsJoined, HasEnds, EdgesTake}
 use Rattle.flow_networks.specs.Visits.{HasAllEnds}
-use Rattle.flow_networks.specs.Places.{states_in, AreSeated}
-use Rattle.flow_networks.proofs.Seats.{inputs_here, outputs_here, input_here, output_here}
+use Rattle.flow_networks.specs.Places.{placed_state, states_in, AreSeated}
+use Rattle.flow_networks.proofs.Seats.{state_here, inputs_here, outputs_here, input_here, output_here}
 
 -- where all ends are there, those of each node are
 pub all_node_ends : {S : Type 0} (b : Behaviour S) (states : List S) (edges : List Edge) (view : View) → IsJoined b states edges → HasAllEnds (length edges) view → (k : ℕ) → HasEnds b states edges k view
@@ -37,6 +37,16 @@ module _ {X : Type 0} {t : Ghosts X} (nodes : List (Placed X t)) (k : ℕ) (x : 
   ends_writes ends q d l =
       let port : q < outputs_at t.behaviour (states_in nodes) k = omega (arith, l, outputs_here nodes k x inside is) in
       ap view.writes (get_or_default x.outputs.items q d 0 l ∙ output_here nodes k x inside is edges joined seated q port) ∙ ends.writes q port
+
+  -- the edge at an output
+  pub edge_there : (q e : ℕ) → q < length x.outputs.items → e ≡ get_or x.outputs.items q e → e ≡ out_edge edges k q
+  edge_there q e l at = at ∙ get_or_default x.outputs.items q e 0 l ∙ output_here nodes k x inside is edges joined seated q (omega (arith, l, outputs_here nodes k x inside is))
+
+  -- it takes what the node may put
+  pub takes_there : (q e : ℕ) (kind : Kind) (r : Bool) → q < length x.outputs.items → e ≡ get_or x.outputs.items q e → kind ≡ t.behaviour.kind_out (placed_state x) q → IsTrue r ↔ TakesKind (view.kind e) kind → IsTrue r ↔ TakesKind (view.kind (out_edge edges k q)) (t.behaviour.kind_out (state_at t.behaviour (states_in nodes) k) q)
+  takes_there q e kind r l at is_kind takes =
+      let same = is_kind ∙ ap (λ s. t.behaviour.kind_out s q) (state_here nodes k x inside is) in
+      subst (λ f. IsTrue r ↔ TakesKind (view.kind f) (t.behaviour.kind_out (state_at t.behaviour (states_in nodes) k) q)) (edge_there q e l at) (subst (λ j. IsTrue r ↔ TakesKind (view.kind e) j) same takes)
 
 -- an edge of no kind takes all items
 pub any_kind : (v : View) (e : ℕ) (k : Kind) → ((e : ℕ) → v.kind e ≡ None) → TakesKind (v.kind e) k

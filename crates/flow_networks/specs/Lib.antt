@@ -11,6 +11,7 @@ pub mod Steps
 pub mod Shapes
 pub mod Turns
 pub mod Visits
+pub mod Blocks
 pub mod Over
 pub mod MaximalRuns
 pub mod Alike

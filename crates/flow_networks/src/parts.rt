@@ -2,7 +2,7 @@
 ghost use Rattle.std.specs.Prelude.{◌≡◌, ◌<◌, ◌↔◌, true, length, IsTrue};
 ghost use Rattle.std.specs.List.{All};
 ghost use Rattle.flow_networks.specs.Edges.{edge_at};
-ghost use Rattle.flow_networks.specs.Networks.{state_at, HasEnds};
+ghost use Rattle.flow_networks.specs.Networks.{state_at, HasEnds, EdgesTake};
 ghost use Rattle.flow_networks.specs.Graphs.{states_of, edges_of};
 
 use crate::edge::Edge;
@@ -49,6 +49,34 @@ impl<T: Transducer> Graph<T> {
     {
         let placed = &self.nodes[node];
         has_readers(ends, &placed.inputs) && has_writers(ends, &placed.outputs)
+    }
+
+    /// Whether the node may step over these ends: those of all its edges are there, and the edge at each output takes
+    /// items of the port's kind.
+    pub fn may_step<E: Ends>(&self, ends: &E, node: usize) -> bool
+        requires { node < length (states_of self.now) }
+        ensures { IsTrue result ↔ (HasEnds T.behaviour (states_of self.now) (edges_of self.now)
+            node (E.view ends.now) ×
+            EdgesTake T.behaviour (states_of self.now) (edges_of self.now) node (E.view ends.now)) }
+    {
+        self.has_ends(ends, node) && self.edges_take(ends, node)
+    }
+
+    // Whether the edge at each output of the node takes items of the port's kind.
+    fn edges_take<E: Ends>(&self, ends: &E, node: usize) -> bool
+        requires inside { node < length (states_of self.now) }
+        requires ends { HasEnds T.behaviour (states_of self.now) (edges_of self.now) node
+            (E.view ends.now) }
+        ensures { IsTrue result ↔
+            EdgesTake T.behaviour (states_of self.now) (edges_of self.now) node (E.view ends.now) }
+    {
+        let placed = &self.nodes[node];
+        for port in 0..placed.outputs.len() {
+            if !ends.takes(placed.outputs[port], placed.node.kind_out(port)) {
+                return false;
+            }
+        }
+        true
     }
 }
 

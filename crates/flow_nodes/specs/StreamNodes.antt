@@ -1,8 +1,13 @@
 -- A transducer of any kind: its states, and what it does.
-use Rattle.std.specs.Prelude.{ℕ, List, Option, Some, None}
+use Rattle.std.specs.Prelude.{ℕ, Bool, true, false, List, Option, Some, None}
 use Rattle.flow_base.specs.Transducers.{Behaviour, BehaviourLaws}
 use Rattle.flow_base.specs.Members.{Member, NodeOf, member_of, members_behaviour, members_laws}
 use Rattle.flow_base.specs.RowPorts.{RowsOnPorts}
+use Rattle.flow_base.specs.Following.{node_passes}
+use Rattle.flow_scalar.specs.ConstMachine.{const_machine}
+use Rattle.flow_scalar.specs.SinkMachine.{sink_machine}
+use Rattle.flow_scalar.specs.UnitsOfMachine.{units_of_machine}
+use Rattle.flow_scalar.specs.ForkMachine.{fork_machine, is_scalar_kind}
 use Rattle.flow_scalar.specs.laws.Source.{source_node}
 use Rattle.flow_inputs.specs.TextSources.{text_source_state}
 use Rattle.flow_scalar.specs.laws.Const.{const_laws, const_node}
@@ -149,3 +154,15 @@ text_of_kind _ s = None
 
 abbrev pub text_in : (t : NodeKind) × (member t).State → Option (List ℕ)
 text_in s = text_of_kind s.0 s.1
+
+-- Whether a transducer passes messages on: a constant, a sink, units for flags, and a fork of scalars do, where an instance
+-- may begin.
+abbrev pub passes_of_kind : (t : NodeKind) → (member t).State → Bool
+passes_of_kind a_const s = node_passes const_machine (λ _. true) s
+passes_of_kind a_sink s = node_passes sink_machine (λ _. true) s
+passes_of_kind a_units_of s = node_passes units_of_machine (λ _. true) s
+passes_of_kind a_fork s = node_passes fork_machine (λ p. is_scalar_kind p.kind) s
+passes_of_kind _ s = false
+
+abbrev pub passes_in : (t : NodeKind) × (member t).State → Bool
+passes_in s = passes_of_kind s.0 s.1

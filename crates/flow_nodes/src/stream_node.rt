@@ -1,19 +1,20 @@
 // Any transducer of streams.
 
-ghost use Rattle.std.specs.Prelude.{◌≡◌};
-ghost use Rattle.flow_nodes.specs.StreamNodes.{node_behaviour, state_of};
+ghost use Rattle.std.specs.Prelude.{◌≡◌, false, IsTrue};
+ghost use Rattle.flow_base.specs.Passing.{MayCome, PassedOn};
+ghost use Rattle.flow_messages.specs.Flats.{flat_signals};
+ghost use Rattle.flow_nodes.specs.StreamNodes.{node_behaviour, passes_in, state_of};
 
-use flow_base::{Node, Port, Printing, Side, Transducer};
+use flow_base::{Port, Printing, Side, Transducer};
 use flow_inputs::TextSource;
-use flow_messages::{Ends, Msg};
+use flow_messages::{Block, Ends, Msg};
 use flow_scalar::{
     Binary, Const, Fork, Iota, Length, Reduce, ScanAdd, Sink, Source, Unary, UnitsOf,
 };
 use flow_segment::{
-    AppendFlags, ConcatFlags, Dist, FlagOfBool, Interleave, InterleaveGroups, Pack, PackGroups,
-    PartFlags, SameFlags, TheCheck,
+    AppendFlags, ConcatFlags, Dist, FlagOfBool, Index, Interleave, InterleaveGroups, Pack,
+    PackGroups, PartFlags, Print, SameFlags, Seq, Tab, TheCheck,
 };
-use flow_values::{Index, Print, Seq, Tab};
 use kahn::Want;
 use std::alloc::AllocError;
 
@@ -22,31 +23,31 @@ use std::alloc::AllocError;
 pub enum StreamNode {
     Source(Source),
     TextSource(TextSource),
-    Const(Node<Const>),
-    Unary(Node<Unary>),
-    Binary(Node<Binary>),
-    Fork(Node<Fork>),
-    Sink(Node<Sink>),
-    Iota(Node<Iota>),
-    UnitsOf(Node<UnitsOf>),
-    ScanAdd(Node<ScanAdd>),
-    Reduce(Node<Reduce>),
-    Length(Node<Length>),
-    FlagOfBool(Node<FlagOfBool>),
-    TheCheck(Node<TheCheck>),
-    SameFlags(Node<SameFlags>),
-    ConcatFlags(Node<ConcatFlags>),
-    PartFlags(Node<PartFlags>),
-    AppendFlags(Node<AppendFlags>),
-    Dist(Node<Dist>),
-    Pack(Node<Pack>),
-    PackGroups(Node<PackGroups>),
-    Interleave(Node<Interleave>),
-    InterleaveGroups(Node<InterleaveGroups>),
+    Const(Const),
+    Unary(Unary),
+    Binary(Binary),
+    Fork(Fork),
+    Sink(Sink),
+    Iota(Iota),
+    UnitsOf(UnitsOf),
+    ScanAdd(ScanAdd),
+    Reduce(Reduce),
+    Length(Length),
+    FlagOfBool(FlagOfBool),
+    TheCheck(TheCheck),
+    SameFlags(SameFlags),
+    ConcatFlags(ConcatFlags),
+    PartFlags(PartFlags),
+    AppendFlags(AppendFlags),
+    Dist(Dist),
+    Pack(Pack),
+    PackGroups(PackGroups),
+    Interleave(Interleave),
+    InterleaveGroups(InterleaveGroups),
     Print(Print),
-    Tab(Node<Tab>),
-    Seq(Node<Seq>),
-    Index(Node<Index>),
+    Tab(Tab),
+    Seq(Seq),
+    Index(Index),
 }
 
 // What the node gives, whatever its kind is.
@@ -112,6 +113,25 @@ impl Transducer for StreamNode {
 
     fn emit(&mut self) -> Result<Msg, AllocError> {
         with_node!(self, node => node.emit())
+    }
+
+    // The others would answer the same.
+    fn pass(&mut self, block: &Block, out: &mut Block) -> bool
+        requires { MayCome (node_behaviour.kind_in (state_of self.old) 0)
+            (flat_signals block.now.items) }
+        ensures passed { IsTrue result → PassedOn node_behaviour (state_of self.old)
+            (flat_signals block.now.items) (state_of self.new) (flat_signals out.new.items) }
+        ensures kept { result ≡ false → state_of self.new ≡ state_of self.old }
+        ensures untouched { result ≡ false → out.new.items ≡ out.old.items }
+        ensures exact { result ≡ passes_in (state_of self.old) }
+    {
+        match self {
+            StreamNode::Const(node) => node.pass(block, out),
+            StreamNode::Sink(node) => node.pass(block, out),
+            StreamNode::UnitsOf(node) => node.pass(block, out),
+            StreamNode::Fork(node) => node.pass(block, out),
+            _ => false,
+        }
     }
 
     #[inline(always)]

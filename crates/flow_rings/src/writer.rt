@@ -6,10 +6,10 @@ ghost use Rattle.flow_messages.specs.Signals.{signals, signal_of, ended, orderly
 ghost use Rattle.flow_messages.specs.declared.ends.Why.TheVariants.{Full, Closed};
 ghost use Rattle.flow_rings.specs.Edge.{sent, certain_room, kind_of, SameWriter, Finishes};
 ghost use Rattle.flow_messages.specs.Flats.{message_of, messages_of};
-ghost use Rattle.flow_messages.specs.Kinds.{FitsEdge};
+ghost use Rattle.flow_messages.specs.Kinds.{FitsEdge, TakesKind};
 
-use crate::ring::{EdgeWriter, FinishedMark};
-use flow_messages::{Block, Flat, Msg, Refused, Why};
+use crate::ring::{EdgeWriter, FinishedMark, WriterRing};
+use flow_messages::{Block, Flat, Item, Kind, Msg, Refused, Why};
 use rtrb::PushError;
 
 // Whether the last of these is the end of the stream.
@@ -62,6 +62,18 @@ impl EdgeWriter {
                 message,
                 why: Why::Full,
             }),
+        }
+    }
+
+    /// Whether the edge takes items of this kind: any, or those of its own.
+    pub fn takes(&self, kind: Kind) -> bool
+        ensures { IsTrue result ↔ TakesKind (kind_of self.now) kind }
+    {
+        match &self.ring {
+            WriterRing::Messages(_) => true,
+            WriterRing::Units(_) => kind.fits(&Item::Unit),
+            WriterRing::Flags(_) => kind.fits(&Item::Bool(false)),
+            WriterRing::Ints(_) => kind.fits(&Item::Int(0)),
         }
     }
 

@@ -9,3 +9,4 @@ pub mod UnaryBlocks
 pub mod UnitsOfBlocks
 pub mod ValueBlocks
 pub mod ValueTypes
+pub mod Passers

@@ -4,7 +4,7 @@ use Rattle.snesl_data.specs.declared.dialect.Dialect.{Dialect}
 use Rattle.flow_messages.specs.Cells.{Cell, cell_of, is_of}
 use Rattle.flow_messages.specs.declared.message.Item.{Item}
 use Rattle.flow_messages.specs.declared.message.Kind.{Kind}
-use Rattle.flow_messages.specs.declared.message.Kind.TheVariants.{Vec as VecKind, Unit as UnitKind}
+use Rattle.flow_messages.specs.declared.message.Kind.TheVariants.{Vec as VecKind, Unit as UnitKind, Bool as BoolKind, Int as IntKind}
 use Rattle.flow_base.specs.Ranges.{CellInRange}
 use Rattle.flow_base.specs.Machines.{Move, begins, gives, on_kind, Machine}
 use Rattle.flow_scalar.specs.Rows.{ForkRow}
@@ -70,3 +70,10 @@ fork_machine = record {
   in_range = λ dialect _. fork_in_range dialect;
   takes_memory = fork_takes_memory;
 }
+
+-- whether items of the kind are no vectors
+abbrev pub is_scalar_kind : Kind → Bool
+is_scalar_kind UnitKind = true
+is_scalar_kind BoolKind = true
+is_scalar_kind IntKind = true
+is_scalar_kind VecKind = false

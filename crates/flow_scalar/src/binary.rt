@@ -1,6 +1,6 @@
 // Operators on two scalars.
 
-ghost use Rattle.std.specs.Prelude.{◌≡◌, ◌≢◌, ◌*ℤ◌, ℕ, ◌≤◌, length, Ok, IfSome};
+ghost use Rattle.std.specs.Prelude.{◌≡◌, ◌≢◌, ◌*ℤ◌, ℕ, ◌≤◌, length, Ok, IfSome, false};
 ghost use Rattle.flow_base.specs.Machines.{Leads};
 ghost use Rattle.flow_base.specs.Nodes.{behaviour_of, node_state};
 ghost use Rattle.flow_base.specs.Visits.{edge_of, IsWired, TakeKinds, Went};
@@ -17,7 +17,7 @@ ghost use Rattle.flow_scalar.specs.declared.binary.Progress.TheVariants.{Start, 
 use crate::operand::{narrow_of, operand_of};
 use flow_base::{Ask, BLOCK, SHORT_BLOCK, Stop, Worker, put_in_space, take_front};
 use flow_folds::{item_of, kind_of};
-use flow_messages::{Ends, Item, Kind, Msg};
+use flow_messages::{Ends, Flat, Item, Kind, Msg};
 use snesl_data::Dialect;
 use snesl_operators::{BinaryOperator, Scalar, ScalarType};
 use std::alloc::AllocError;
@@ -393,6 +393,8 @@ impl Worker for Binary {
 
     ghost machine = { binary_machine };
 
+    ghost passes = { λ _. false };
+
     ghost laws = { binary_laws };
 
     #[inline(always)]
@@ -418,6 +420,15 @@ impl Worker for Binary {
 
     fn kind_out(&self, _port: usize) -> Kind {
         kind_of(self.operator.result())
+    }
+
+    fn passes(&self) -> bool {
+        false
+    }
+
+    // It is not asked.
+    fn follows(&self, _item: Flat) -> Option<Flat> {
+        None
     }
 
     #[inline(always)]

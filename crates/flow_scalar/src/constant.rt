@@ -6,11 +6,13 @@ ghost use Rattle.flow_messages.specs.declared.message.Kind.TheVariants.{Bool as 
 ghost use Rattle.flow_messages.specs.Ends.{SameEnds};
 ghost use Rattle.flow_messages.specs.Kinds.{TakesKind};
 ghost use Rattle.flow_messages.specs.Signals.{carry, signal_of};
+ghost use Rattle.flow_messages.specs.Flats.{message_of};
+ghost use Rattle.flow_folds.specs.Scalars.{cell_of_scalar};
 ghost use Rattle.flow_scalar.specs.ConstCopies.{WrittenFor};
 
 use flow_base::{Ask, BLOCK, SHORT_BLOCK, Stop, Worker, put_in_space, take_front};
 use flow_folds::{item_of, kind_of};
-use flow_messages::{Ends, Item, Kind, Msg};
+use flow_messages::{Ends, Flat, Item, Kind, Msg};
 use snesl_data::FaultKind;
 use snesl_operators::Scalar;
 use std::alloc::AllocError;
@@ -32,6 +34,16 @@ fn is_unit(message: &Msg) -> bool
     ensures { result ≡ true → signal_of message.now ≡ carry unit }
 {
     matches!(message, Msg::Item(Item::Unit))
+}
+
+// The message that carries the scalar.
+fn flat_of(scalar: Scalar) -> Flat
+    ensures { signal_of (message_of result) ≡ carry (cell_of_scalar scalar) }
+{
+    match scalar {
+        Scalar::Int(number) => Flat::Int(number),
+        Scalar::Bool(truth) => Flat::Bool(truth),
+    }
 }
 
 // Writes the integer once for each unit that is shown, where there is room, from copies of it that are lent. How many steps: two
@@ -121,6 +133,8 @@ impl Worker for Const {
 
     ghost machine = { const_machine };
 
+    ghost passes = { λ _. true };
+
     ghost laws = { const_laws };
 
     #[inline(always)]
@@ -142,6 +156,14 @@ impl Worker for Const {
 
     fn kind_out(&self, _port: usize) -> Kind {
         kind_of(self.scalar.scalar_type())
+    }
+
+    fn passes(&self) -> bool {
+        true
+    }
+
+    fn follows(&self, _item: Flat) -> Option<Flat> {
+        Some(flat_of(self.scalar))
     }
 
     #[inline(always)]

@@ -15,7 +15,7 @@ ghost use Rattle.flow_scalar.specs.ForkMachine.{ForkPorts, ForkState, fork_ports
 
 use crate::copies::block_to_each;
 use flow_base::{Ask, BLOCK, SHORT_BLOCK, Stop, Worker, put_in_space, take_front};
-use flow_messages::{Ends, Item, Kind, Msg};
+use flow_messages::{Ends, Flat, Item, Kind, Msg};
 use snesl_data::FaultKind;
 use std::alloc::{AllocError, Global};
 
@@ -559,7 +559,7 @@ fn item_shown<E: Ends>(ends: &E, edge: usize, kind: Kind) -> Option<Item>
 }
 
 impl Worker for Fork {
-    ghost use Rattle.flow_scalar.specs.ForkMachine.{ForkPorts, fork_ports, ForkState, fork_state, fork_machine};
+    ghost use Rattle.flow_scalar.specs.ForkMachine.{ForkPorts, fork_ports, ForkState, fork_state, fork_machine, is_scalar_kind};
     ghost use Rattle.flow_scalar.specs.laws.Fork.{fork_laws};
 
     ghost Parameters = { ForkPorts };
@@ -569,6 +569,8 @@ impl Worker for Fork {
     ghost state = { λ n. (fork_ports n.kind n.outputs, fork_state n.outputs n.next n.held) };
 
     ghost machine = { fork_machine };
+
+    ghost passes = { λ p. is_scalar_kind p.kind };
 
     ghost laws = { fork_laws };
 
@@ -594,6 +596,14 @@ impl Worker for Fork {
 
     fn kind_out(&self, _port: usize) -> Kind {
         self.kind
+    }
+
+    fn passes(&self) -> bool {
+        !matches!(self.kind, Kind::Vec)
+    }
+
+    fn follows(&self, item: Flat) -> Option<Flat> {
+        Some(item)
     }
 
     #[inline(always)]

@@ -1,6 +1,6 @@
 // The numbers from 0 on that are below a number.
 
-ghost use Rattle.std.specs.Prelude.{◌≡◌, ◌≢◌, ◌+ℤ◌, ◌≤ℤ◌, ℕ, ◌*◌, ◌<◌, ◌≤◌, pos, true, [], ◌∷◌, List, get_or, length, IfSome, MatchOption};
+ghost use Rattle.std.specs.Prelude.{◌≡◌, ◌≢◌, ◌+ℤ◌, ◌≤ℤ◌, ℕ, ◌*◌, ◌<◌, ◌≤◌, pos, true, [], ◌∷◌, List, get_or, length, IfSome, MatchOption, false};
 ghost use Rattle.std.specs.List.{All};
 ghost use mathlib.Core.List.{IsPrefix};
 ghost use Rattle.flow_messages.specs.Cells.{int};
@@ -13,7 +13,7 @@ ghost use Rattle.flow_scalar.specs.IotaMachine.{number_after, iota_kind_out, iot
 ghost use Rattle.flow_scalar.specs.declared.iota.Iota.TheVariants.{Flag};
 
 use flow_base::{Ask, BLOCK, SHORT_BLOCK, Stop, Worker, put_in_space, take_front};
-use flow_messages::{Ends, Item, Kind, Msg};
+use flow_messages::{Ends, Flat, Item, Kind, Msg};
 use snesl_data::FaultKind;
 use std::alloc::AllocError;
 
@@ -282,6 +282,8 @@ impl Worker for Iota {
 
     ghost machine = { iota_machine };
 
+    ghost passes = { λ _. false };
+
     ghost laws = { iota_laws };
 
     #[inline(always)]
@@ -307,6 +309,15 @@ impl Worker for Iota {
 
     fn kind_out(&self, port: usize) -> Kind {
         if port == 0 { Kind::Bool } else { Kind::Int }
+    }
+
+    fn passes(&self) -> bool {
+        false
+    }
+
+    // It is not asked.
+    fn follows(&self, _item: Flat) -> Option<Flat> {
+        None
     }
 
     #[inline(always)]

@@ -6,7 +6,7 @@ ghost use Rattle.flow_messages.specs.Signals.{signal_of};
 ghost use Rattle.flow_scalar.specs.SinkShown.{Shown};
 
 use flow_base::{Ask, Stop, Worker, take_front};
-use flow_messages::{Ends, Item, Kind, Msg};
+use flow_messages::{Ends, Flat, Item, Kind, Msg};
 use snesl_data::FaultKind;
 use std::alloc::AllocError;
 
@@ -67,6 +67,8 @@ impl Worker for Sink {
 
     ghost machine = { sink_machine };
 
+    ghost passes = { λ _. true };
+
     ghost laws = { sink_laws };
 
     #[inline(always)]
@@ -88,6 +90,14 @@ impl Worker for Sink {
 
     fn kind_out(&self, _port: usize) -> Kind {
         self.kind
+    }
+
+    fn passes(&self) -> bool {
+        true
+    }
+
+    fn follows(&self, _item: Flat) -> Option<Flat> {
+        None
     }
 
     #[inline(always)]

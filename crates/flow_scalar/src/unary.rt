@@ -1,6 +1,6 @@
 // Operators on one scalar.
 
-ghost use Rattle.std.specs.Prelude.{◌≡◌, ℕ, ◌≤◌, length, Ok, Some, None, IfSome};
+ghost use Rattle.std.specs.Prelude.{◌≡◌, ℕ, ◌≤◌, length, Ok, Some, None, IfSome, false};
 ghost use Rattle.flow_base.specs.Machines.{Leads};
 ghost use Rattle.flow_base.specs.Nodes.{behaviour_of, node_state};
 ghost use Rattle.flow_base.specs.Visits.{IsWired, TakeKinds, Went};
@@ -16,7 +16,7 @@ ghost use Rattle.flow_scalar.specs.UnaryMachine.{unary_next, unary_machine, unar
 use crate::operand::{narrow_of, operand_of};
 use flow_base::{Ask, BLOCK, SHORT_BLOCK, Stop, Worker, put_in_space, take_front};
 use flow_folds::{item_of, kind_of};
-use flow_messages::{Ends, Item, Kind, Msg};
+use flow_messages::{Ends, Flat, Item, Kind, Msg};
 use snesl_data::Dialect;
 use snesl_operators::{Scalar, ScalarType, UnaryOperator};
 use std::alloc::AllocError;
@@ -205,6 +205,8 @@ impl Worker for Unary {
 
     ghost machine = { unary_machine };
 
+    ghost passes = { λ _. false };
+
     ghost laws = { unary_laws };
 
     #[inline(always)]
@@ -229,6 +231,15 @@ impl Worker for Unary {
 
     fn kind_out(&self, _port: usize) -> Kind {
         kind_of(self.operator.operand())
+    }
+
+    fn passes(&self) -> bool {
+        false
+    }
+
+    // It is not asked.
+    fn follows(&self, _item: Flat) -> Option<Flat> {
+        None
     }
 
     #[inline(always)]

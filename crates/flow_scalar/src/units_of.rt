@@ -1,12 +1,12 @@
 // A Unit for each element that flags stand for.
 
-ghost use Rattle.std.specs.Prelude.{◌≡◌, false, not, IfSome};
+ghost use Rattle.std.specs.Prelude.{◌≡◌, false, not, IfSome, true};
 ghost use Rattle.std.specs.List.{count_by};
 ghost use Rattle.flow_messages.specs.Cells.{flag};
 ghost use Rattle.flow_messages.specs.Signals.{carry, signal_of};
 
 use flow_base::{Ask, Stop, Worker, put_in_space, take_front};
-use flow_messages::{Ends, Item, Kind, Msg};
+use flow_messages::{Ends, Flat, Item, Kind, Msg};
 use snesl_data::FaultKind;
 use std::alloc::AllocError;
 
@@ -66,6 +66,8 @@ impl Worker for UnitsOf {
 
     ghost machine = { units_of_machine };
 
+    ghost passes = { λ _. true };
+
     ghost laws = { units_of_laws };
 
     #[inline(always)]
@@ -87,6 +89,17 @@ impl Worker for UnitsOf {
 
     fn kind_out(&self, _port: usize) -> Kind {
         Kind::Unit
+    }
+
+    fn passes(&self) -> bool {
+        true
+    }
+
+    fn follows(&self, item: Flat) -> Option<Flat> {
+        match item {
+            Flat::Bool(false) => Some(Flat::Unit),
+            _ => None,
+        }
     }
 
     #[inline(always)]

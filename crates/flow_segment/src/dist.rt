@@ -14,7 +14,7 @@ ghost use Rattle.flow_segment.specs.DistMachine.{dist_machine, dist_view};
 
 use crate::fronts::{flag_in_front, scalar_copy, scalar_in_front};
 use flow_base::{Ask, BLOCK, SHORT_BLOCK, Stop, Worker, put_in_space, take_front};
-use flow_messages::{Ends, Item, Kind, Msg};
+use flow_messages::{Ends, Flat, Item, Kind, Msg};
 use snesl_data::FaultKind;
 use std::alloc::{AllocError, Global};
 
@@ -296,6 +296,8 @@ impl Worker for Dist {
 
     ghost machine = { dist_machine };
 
+    ghost passes = { λ _. false };
+
     ghost laws = { dist_laws };
 
     #[inline(always)]
@@ -324,6 +326,15 @@ impl Worker for Dist {
 
     fn kind_out(&self, _port: usize) -> Kind {
         self.kind
+    }
+
+    fn passes(&self) -> bool {
+        false
+    }
+
+    // It is not asked.
+    fn follows(&self, _item: Flat) -> Option<Flat> {
+        None
     }
 
     #[inline(always)]

@@ -1,9 +1,9 @@
 // Two sequences of segments, joined place by place.
 
-ghost use Rattle.std.specs.Prelude.{◌≡◌};
+ghost use Rattle.std.specs.Prelude.{◌≡◌, false};
 
 use flow_base::{Ask, Stop, Worker};
-use flow_messages::{Item, Kind};
+use flow_messages::{Flat, Item, Kind};
 use snesl_data::FaultKind;
 use std::alloc::AllocError;
 use std::mem;
@@ -82,6 +82,8 @@ impl Worker for Interleave {
 
     ghost machine = { interleave_machine };
 
+    ghost passes = { λ _. false };
+
     ghost laws = { interleave_laws };
 
     #[inline(always)]
@@ -113,6 +115,15 @@ impl Worker for Interleave {
 
     fn kind_out(&self, _port: usize) -> Kind {
         self.kind
+    }
+
+    fn passes(&self) -> bool {
+        false
+    }
+
+    // It is not asked.
+    fn follows(&self, _item: Flat) -> Option<Flat> {
+        None
     }
 
     #[inline(always)]

@@ -3,8 +3,8 @@
 //!
 //! The nodes over vectors, [`Tab`], [`Seq`] and [`Index`], and [`Print`] are passed on from flow_values.
 //!
-//! A segment is a list of flags: `false` (F) for each of its elements, then `true` (T). Each transducer here is a
-//! [`Worker`](flow_base::Worker), of which [`Node`](flow_base::Node) makes a transducer.
+//! A segment is a list of flags: `false` (F) for each of its elements, then `true` (T). Each transducer here but
+//! [`Print`] is a [`Node`](flow_base::Node) whose [`Worker`](flow_base::Worker) has the same name in [`workers`].
 #![tactic(auto)]
 
 mod append_flags;
@@ -20,16 +20,11 @@ mod pack_groups;
 mod part_flags;
 mod same_flags;
 mod the_check;
+mod transducers;
+pub mod workers;
 
-pub use append_flags::AppendFlags;
-pub use concat_flags::ConcatFlags;
-pub use dist::Dist;
-pub use flag_of_bool::FlagOfBool;
-pub use flow_values::{Index, Print, Seq, Tab};
-pub use interleave::Interleave;
-pub use interleave_groups::InterleaveGroups;
-pub use pack::Pack;
-pub use pack_groups::PackGroups;
-pub use part_flags::PartFlags;
-pub use same_flags::SameFlags;
-pub use the_check::TheCheck;
+pub use flow_values::Print;
+pub use transducers::{
+    AppendFlags, ConcatFlags, Dist, FlagOfBool, Index, Interleave, InterleaveGroups, Pack,
+    PackGroups, PartFlags, SameFlags, Seq, Tab, TheCheck,
+};

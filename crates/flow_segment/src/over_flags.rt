@@ -14,7 +14,7 @@ ghost use Rattle.flow_segment.specs.FlagTables.{over_flags, stage_view};
 ghost use Rattle.flow_segment.specs.FlagBlocks.{RunsOver};
 
 use flow_base::{Ask, BLOCK, Stop, Worker, put_in_space, take_front};
-use flow_messages::{Ends, Item, Kind, Msg};
+use flow_messages::{Ends, Flat, Item, Kind, Msg};
 use snesl_data::FaultKind;
 use std::alloc::AllocError;
 
@@ -242,6 +242,8 @@ impl<S: Stage> Worker for OverFlags<S> {
 
     ghost machine = { over_flags S.table };
 
+    ghost passes = { λ _. false };
+
     ghost laws = { S.laws };
 
     #[inline(always)]
@@ -267,6 +269,15 @@ impl<S: Stage> Worker for OverFlags<S> {
 
     fn kind_out(&self, _port: usize) -> Kind {
         Kind::Bool
+    }
+
+    fn passes(&self) -> bool {
+        false
+    }
+
+    // It is not asked.
+    fn follows(&self, _item: Flat) -> Option<Flat> {
+        None
     }
 
     #[inline(always)]

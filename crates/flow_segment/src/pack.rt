@@ -1,6 +1,6 @@
 // The items that are to be kept.
 
-ghost use Rattle.std.specs.Prelude.{◌≡◌, ◌≢◌, ◌≤◌, ℕ, length, take};
+ghost use Rattle.std.specs.Prelude.{◌≡◌, ◌≢◌, ◌≤◌, ℕ, length, take, false};
 ghost use Rattle.flow_messages.specs.Ends.{SameEnds};
 ghost use Rattle.flow_messages.specs.Kinds.{TakesKind};
 ghost use Rattle.flow_base.specs.Nodes.{behaviour_of, node_state};
@@ -11,7 +11,7 @@ ghost use Rattle.flow_segment.specs.declared.pack.Pair.TheVariants.{Start as Sta
 
 use crate::fronts::{flag_in_front, scalar_in_front};
 use flow_base::{Ask, BLOCK, SHORT_BLOCK, Stop, Worker, put_in_space, take_front};
-use flow_messages::{Ends, Item, Kind, Msg};
+use flow_messages::{Ends, Flat, Item, Kind, Msg};
 use snesl_data::FaultKind;
 use std::alloc::AllocError;
 use std::mem;
@@ -191,6 +191,8 @@ impl Worker for Pack {
 
     ghost machine = { pack_machine };
 
+    ghost passes = { λ _. false };
+
     ghost laws = { pack_laws };
 
     #[inline(always)]
@@ -219,6 +221,15 @@ impl Worker for Pack {
 
     fn kind_out(&self, _port: usize) -> Kind {
         self.kind
+    }
+
+    fn passes(&self) -> bool {
+        false
+    }
+
+    // It is not asked.
+    fn follows(&self, _item: Flat) -> Option<Flat> {
+        None
     }
 
     #[inline(always)]

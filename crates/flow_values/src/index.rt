@@ -1,6 +1,6 @@
 // An element of each vector.
 
-ghost use Rattle.std.specs.Prelude.{◌≡◌, [], true, map, option_map, IfOk};
+ghost use Rattle.std.specs.Prelude.{◌≡◌, [], true, map, option_map, IfOk, false};
 ghost use Rattle.snesl_data.specs.Types.{Ty as ElementType, ty_of};
 ghost use Rattle.snesl_data.specs.Values.{value_of, values_of};
 ghost use Rattle.flow_values.specs.Shapes.{kinds_of};
@@ -11,7 +11,7 @@ use crate::dues::{Due, add_value};
 use crate::shapes::{kind_at, kinds};
 use crate::vectors::vector_in;
 use flow_base::{Ask, Stop, Worker};
-use flow_messages::{Item, Kind};
+use flow_messages::{Flat, Item, Kind};
 use snesl_data::{Datum, FaultKind, Ty};
 use std::alloc::{AllocError, Global};
 use std::collections::VecDeque;
@@ -85,6 +85,8 @@ impl Worker for Index {
 
     ghost machine = { index_machine };
 
+    ghost passes = { λ _. false };
+
     ghost laws = { index_laws };
 
     #[inline(always)]
@@ -115,6 +117,15 @@ impl Worker for Index {
 
     fn kind_out(&self, port: usize) -> Kind {
         kind_at(&self.kinds, port)
+    }
+
+    fn passes(&self) -> bool {
+        false
+    }
+
+    // It is not asked.
+    fn follows(&self, _item: Flat) -> Option<Flat> {
+        None
     }
 
     #[inline(always)]

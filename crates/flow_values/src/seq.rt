@@ -1,6 +1,6 @@
 // The elements of vectors, as sequences.
 
-ghost use Rattle.std.specs.Prelude.{◌≡◌, List, [], map, IfOk};
+ghost use Rattle.std.specs.Prelude.{◌≡◌, List, [], map, IfOk, false};
 ghost use Rattle.snesl_data.specs.Types.{Ty as ElementType, ty_of, seq};
 ghost use Rattle.flow_values.specs.Shapes.{kinds_of};
 ghost use Rattle.flow_values.specs.Dues.{DueCell, due_cell};
@@ -9,7 +9,7 @@ use crate::dues::{Due, add_segment};
 use crate::shapes::{add_kinds, kind_at};
 use crate::vectors::vector_in;
 use flow_base::{Ask, Stop, Worker};
-use flow_messages::{Item, Kind};
+use flow_messages::{Flat, Item, Kind};
 use snesl_data::Ty;
 use std::alloc::{AllocError, Global};
 use std::collections::VecDeque;
@@ -63,6 +63,8 @@ impl Worker for Seq {
 
     ghost machine = { seq_machine };
 
+    ghost passes = { λ _. false };
+
     ghost laws = { seq_laws };
 
     #[inline(always)]
@@ -87,6 +89,15 @@ impl Worker for Seq {
 
     fn kind_out(&self, port: usize) -> Kind {
         kind_at(&self.kinds, port)
+    }
+
+    fn passes(&self) -> bool {
+        false
+    }
+
+    // It is not asked.
+    fn follows(&self, _item: Flat) -> Option<Flat> {
+        None
     }
 
     #[inline(always)]

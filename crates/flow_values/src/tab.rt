@@ -1,6 +1,6 @@
 // The elements of sequences, as vectors.
 
-ghost use Rattle.std.specs.Prelude.{◌≡◌, [], map, List, IfOk};
+ghost use Rattle.std.specs.Prelude.{◌≡◌, [], map, List, IfOk, false};
 ghost use Rattle.snesl_data.specs.Types.{Ty as ElementType, ty_of, seq};
 ghost use Rattle.snesl_data.specs.Values.{Value, value_of, a_pair};
 ghost use Rattle.flow_messages.specs.Cells.{cell_of};
@@ -12,7 +12,7 @@ ghost use Rattle.flow_values.specs.TabMachine.{TabState, start, tab_state, stage
 
 use crate::shapes::{add_kinds, is_value, kind_at, part_fits};
 use flow_base::{Ask, Stop, Worker};
-use flow_messages::{Item, Kind};
+use flow_messages::{Flat, Item, Kind};
 use snesl_data::{Datum, FaultKind, Ty};
 use std::alloc::{AllocError, Global};
 use std::collections::VecDeque;
@@ -213,6 +213,8 @@ impl Worker for Tab {
 
     ghost machine = { tab_machine };
 
+    ghost passes = { λ _. false };
+
     ghost laws = { tab_laws };
 
     #[inline(always)]
@@ -239,6 +241,15 @@ impl Worker for Tab {
 
     fn kind_out(&self, _port: usize) -> Kind {
         Kind::Vec
+    }
+
+    fn passes(&self) -> bool {
+        false
+    }
+
+    // It is not asked.
+    fn follows(&self, _item: Flat) -> Option<Flat> {
+        None
     }
 
     #[inline(always)]

@@ -12,7 +12,7 @@ pub returns-then-owner-clause-meets : goal.returns-then-owner-clause-meets
 returns-then-owner-clause-meets g c = grind (arith, elements)
 
 pub returns-then-owner-2-clause-meets : goal.returns-then-owner-2-clause-meets
-returns-then-owner-2-clause-meets g c = grind (arith, common_steps)
+returns-then-owner-2-clause-meets g c = grind (arith, elements)
 
 pub returns-then-owner-2-clause-joined : goal.returns-then-owner-2-clause-joined
 returns-then-owner-2-clause-joined g c = grind (arith, common_steps)
@@ -21,7 +21,7 @@ pub returns-then-owner-2-clause-met : goal.returns-then-owner-2-clause-met
 returns-then-owner-2-clause-met g c = grind (arith, common_steps)
 
 pub returns-else-owner-2-clause-meets : goal.returns-else-owner-2-clause-meets
-returns-else-owner-2-clause-meets g c = grind (arith, common_steps)
+returns-else-owner-2-clause-meets g c = grind (arith, elements)
 
 pub returns-else-owner-2-clause-joined : goal.returns-else-owner-2-clause-joined
 returns-else-owner-2-clause-joined g c = grind (arith, common_steps)
