@@ -7,6 +7,7 @@ pub use Rattle.flow_drives.specs.Limits
 pub use Rattle.flow_drives.specs.Configs
 pub use Rattle.flow_drives.specs.Drives
 pub use Rattle.flow_drives.specs.Epochs
+pub use Rattle.flow_drives.specs.Led
 pub use Rattle.flow_drives.specs.Edges
 pub use Rattle.flow_drives.specs.Apart
 pub use Rattle.flow_drives.specs.Parts
@@ -56,6 +57,8 @@ pub use Rattle.flow_meetings.specs.Deals as ShareDeals
 pub use Rattle.flow_meetings.specs.Open
 pub use Rattle.flow_meetings.specs.SharedNetworks
 pub use Rattle.flow_rounds.specs.Epochs as ShareEpochs
+pub use Rattle.flow_rounds.specs.Few
+pub use Rattle.flow_rounds.specs.Rounds
 pub use Rattle.flow_base.specs.Visits as NodeVisits
 pub use Rattle.flow_boxes.specs.Reserved
 pub use Rattle.flow_networks.specs.FlowTheorems

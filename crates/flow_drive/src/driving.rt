@@ -6,14 +6,18 @@ ghost use Rattle.flow_nodes.specs.StreamNodes.{node_behaviour};
 ghost use Rattle.flow_drives.specs.Configs.{IsLawful, StartsThreads, IsInSteps};
 ghost use Rattle.flow_drives.specs.Driven.{HasNetworkOf, EndsRunOf};
 ghost use Rattle.flow_drives.specs.Epochs.{TookRounds, TookEpochs};
+ghost use Rattle.flow_drives.specs.Led.{LedBy};
 ghost use Rattle.flow_drives.specs.Resteds.{rested_capacity, rested_rounds, rested_epochs, rested_share, rested_shares, moves_of, IsOverRings};
 ghost use Rattle.flow_drives.specs.Starts.{AskedBy};
 ghost use Rattle.flow_drives.specs.declared.config.Drive.TheVariants.{Rings};
 ghost use Rattle.flow_drives.specs.declared.driver.DriveError.TheVariants.{BadConfig, NoThread, Short};
 
 use crate::shares::Rested;
+use flow_boxes::Boxes;
 use flow_drives::{Config, DriveError};
 use flow_graph::Graph;
+use flow_lanes::Rings as RingEnds;
+use flow_messages::Ends;
 use flow_shares::{Gate, Start};
 use std::alloc::Global;
 use std::sync::Arc;
@@ -47,6 +51,8 @@ pub fn drive<G: Gate + Send + Sync + Drop + 'static>(
         TookRounds config.now.drive (rested_rounds rested) (moves_of rested)) }
     ensures epochs { IfOk result (λ rested.
         TookEpochs config.now.drive (rested_epochs rested) (moves_of rested)) }
+    ensures led { IfOk result (λ rested. LedBy ⟦<Boxes as Ends>⟧ ⟦<RingEnds as Ends>⟧
+        config.now.drive graph config.now rested) }
     ensures rings { IfOk result (λ rested. IsOverRings rested ↔ (config.now.drive ≡ Rings)) }
     ensures share { StartsThreads config.now.drive
         → IfOk result (λ rested. rested_share rested ≡ config.now.share.items) }
@@ -78,6 +84,8 @@ pub fn drive_with<G: Gate + Send + Sync + Drop + 'static, S: Start>(
         TookRounds config.now.drive (rested_rounds rested) (moves_of rested)) }
     ensures epochs { IfOk result (λ rested.
         TookEpochs config.now.drive (rested_epochs rested) (moves_of rested)) }
+    ensures led { IfOk result (λ rested. LedBy ⟦<Boxes as Ends>⟧ ⟦<RingEnds as Ends>⟧
+        config.now.drive graph config.now rested) }
     ensures rings { IfOk result (λ rested. IsOverRings rested ↔ (config.now.drive ≡ Rings)) }
     ensures share { StartsThreads config.now.drive
         → IfOk result (λ rested. rested_share rested ≡ config.now.share.items) }

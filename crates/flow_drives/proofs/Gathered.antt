@@ -1,6 +1,6 @@
 -- A graph that was gathered of shares at rest over boxes is sound, and no node can step there: it is where a maximal run
 -- of its network ends.
-use Rattle.std.proofs.Common.{◌≡◌, ℕ, zero, suc, ◌<◌, ◌≤◌, ◌⊎◌, inl, inr, true, List, [], ◌∷◌, length, length-append, map, get_or, refl, sym, ap, subst, arith}
+use Rattle.std.proofs.Common.{◌≡◌, ℕ, zero, suc, ◌<◌, ◌≤◌, ◌⊎◌, inl, inr, true, List, [], ◌∷◌, length, map, get_or, refl, sym, ap, subst, arith}
 use Rattle.std.proofs.Math.Path.{fun_ext}
 use Rattle.std.proofs.lemmas.Bool.{cases_lt}
 use Rattle.std.proofs.lemmas.List.{get_or_past, length-map, get_or-map}
@@ -17,9 +17,10 @@ use Rattle.flow_boxes.specs.Contents.{Contents, contents, view_of}
 use Rattle.flow_boxes.specs.Rounds.{IsLinked}
 use Rattle.flow_meetings.specs.BoxMeetings.{BoxesJoin}
 use Rattle.flow_shares.specs.Deals.{share_of}
-use Rattle.flow_meetings.specs.Joints.{no_contents, boxes_at, views_of, writer_boxes, reader_boxes, end_view, BoxesHaveMet}
+use Rattle.flow_meetings.specs.Joints.{no_contents, boxes_at, views_of, writer_boxes, end_view, BoxesHaveMet}
 use Rattle.flow_meetings.specs.EndTheorems.{EdgesHaveMet}
 use Rattle.flow_meetings.specs.SharedNetworks.{SharedNetwork, moves_by}
+use Rattle.flow_meetings.proofs.Calm.{all_met}
 use Rattle.flow_rounds.specs.Standing.{boxes_seen}
 use Rattle.flow_rounds.proofs.RoundGathers.{HaveComeToRest}
 use Rattle.flow_drives.specs.declared.all_ends.SharedEnds.{SharedEnds}
@@ -68,17 +69,7 @@ module _ (share : List ℕ) (edges : List Edge) (boxes : List Boxes) (most : ℕ
         (subst (λ (b : Contents). IsLinked (writer_boxes share edges (boxes_seen boxes) e) b e) (get_or-map contents boxes (reader e) d no_contents reader_there) (met.linked e l))
 
   boxes_met : EdgesHaveMet share edges (views_of (boxes_seen boxes)) most
-  boxes_met e l =
-      let w = (writer_boxes share edges (boxes_seen boxes) e).ends in
-      let r = (reader_boxes share edges (boxes_seen boxes) e).ends in
-      let arrived = ap length (met.carried e l).arrived in
-      let both = length-append (r.received e) (r.coming e) in
-      record {
-        begins = (r.coming e, (met.carried e l).arrived);
-        held = omega (arith, arrived, both);
-        room = omega (arith, arrived, both, (met.carried e l).room, met.capacity e l);
-        fits = omega (arith, arrived, both, (met.carried e l).room, met.capacity e l);
-      }
+  boxes_met = all_met most share edges (boxes_seen boxes) met
 
   boxes_joined : AreJoined view_of share edges boxes BoxesJoin most
   boxes_joined = record {

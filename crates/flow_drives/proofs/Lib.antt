@@ -8,3 +8,4 @@ pub mod Dealt
 pub mod Apart
 pub mod Noted
 pub mod Found
+pub mod Led

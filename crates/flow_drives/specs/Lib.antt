@@ -2,6 +2,7 @@ pub mod Limits
 pub mod Configs
 pub mod Drives
 pub mod Epochs
+pub mod Led
 pub mod Edges
 pub mod Apart
 pub mod Parts
@@ -48,6 +49,8 @@ pub use Rattle.flow_meetings.specs.Deals as ShareDeals
 pub use Rattle.flow_meetings.specs.Open
 pub use Rattle.flow_meetings.specs.SharedNetworks
 pub use Rattle.flow_rounds.specs.Epochs as ShareEpochs
+pub use Rattle.flow_rounds.specs.Few
+pub use Rattle.flow_rounds.specs.Rounds
 pub use Rattle.flow_base.specs.Visits as NodeVisits
 pub use Rattle.flow_boxes.specs.Reserved
 pub use Rattle.flow_networks.specs.FlowTheorems

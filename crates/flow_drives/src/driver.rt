@@ -7,6 +7,7 @@ ghost use Rattle.flow_drives.specs.Configs.{IsLawful, StartsThreads, IsInSteps};
 ghost use Rattle.flow_drives.specs.Driven.{HasNetworkOf, EndsRunOf};
 ghost use Rattle.flow_drives.specs.Drives.{EndsMaximalRun};
 ghost use Rattle.flow_drives.specs.Epochs.{TookRounds, TookEpochs};
+ghost use Rattle.flow_drives.specs.Led.{LedBy};
 ghost use Rattle.flow_drives.specs.Starts.{AskedBy};
 ghost use Rattle.flow_drives.specs.Refusals.{drive_error_of};
 ghost use Rattle.flow_drives.specs.Resteds.{rested_states, rested_edges, rested_capacity, rested_rounds, rested_epochs, rested_share, rested_shares, moves_of, traffic_of, IsOverRings};
@@ -20,7 +21,9 @@ use crate::parts::{Gathered, Parts};
 use crate::rested::Rested;
 use crate::rounds::drive_rounds;
 use flow_base::Transducer;
-use flow_messages::Table;
+use flow_boxes::Boxes;
+use flow_lanes::Rings as RingEnds;
+use flow_messages::{Ends, Table};
 use flow_networks::{Graph, run_serial};
 use flow_shares::{AlwaysStart, Gate, Start, WorkError};
 use std::alloc::{AllocError, AllocFailed, Global};
@@ -106,6 +109,8 @@ pub fn drive<
         TookRounds config.now.drive (rested_rounds rested) (moves_of rested)) }
     ensures epochs { IfOk result (λ rested.
         TookEpochs config.now.drive (rested_epochs rested) (moves_of rested)) }
+    ensures led { IfOk result (λ rested. LedBy ⟦<Boxes as Ends>⟧ ⟦<RingEnds as Ends>⟧
+        config.now.drive graph config.now rested) }
     ensures rings { IfOk result (λ rested. IsOverRings rested ↔ (config.now.drive ≡ Rings)) }
     ensures share { StartsThreads config.now.drive
         → IfOk result (λ rested. rested_share rested ≡ config.now.share.items) }
@@ -142,6 +147,8 @@ pub fn drive_with<
         TookRounds config.now.drive (rested_rounds rested) (moves_of rested)) }
     ensures epochs { IfOk result (λ rested.
         TookEpochs config.now.drive (rested_epochs rested) (moves_of rested)) }
+    ensures led { IfOk result (λ rested. LedBy ⟦<Boxes as Ends>⟧ ⟦<RingEnds as Ends>⟧
+        config.now.drive graph config.now rested) }
     ensures rings { IfOk result (λ rested. IsOverRings rested ↔ (config.now.drive ≡ Rings)) }
     ensures share { StartsThreads config.now.drive
         → IfOk result (λ rested. rested_share rested ≡ config.now.share.items) }

@@ -11,6 +11,7 @@ ghost use Rattle.flow_shares.specs.Starts.{AskedAtEach};
 ghost use Rattle.flow_shares.specs.declared.error.WorkError.TheVariants.{NoThread};
 ghost use Rattle.flow_rounds.specs.Epochs.{moved_in, AreOfOneGraph};
 ghost use Rattle.flow_drives.specs.Configs.{IsLawful};
+ghost use Rattle.flow_drives.specs.Led.{EpochsLed, LedInEpochs};
 ghost use Rattle.flow_drives.specs.Origins.{IsOriginOf};
 ghost use Rattle.flow_drives.specs.Resteds.{rested_states, rested_edges, rested_capacity, rested_rounds, rested_epochs, rested_share, rested_shares, moves_of, IsOverRings};
 
@@ -23,6 +24,7 @@ use crate::ring_shares::RingShares;
 use flow_base::Transducer;
 use flow_lanes::Rings;
 use flow_meetings::Dealt;
+use flow_messages::Ends;
 use flow_networks::Graph;
 use flow_rounds::run_epochs;
 use flow_shares::{Gate, Start, WorkError};
@@ -55,6 +57,8 @@ pub fn drive_rings<
     ensures rounds { IfOk result (λ rested. rested_rounds rested ≡ 0) }
     ensures least { IfOk result (λ rested. 0 < moves_of rested → 0 < rested_epochs rested) }
     ensures most { IfOk result (λ rested. rested_epochs rested ≤ moves_of rested) }
+    ensures led { IfOk result (λ rested.
+        LedInEpochs ⟦<Rings as Ends>⟧ graph config.now rested) }
     ensures rings { IfOk result (λ rested. IsOverRings rested) }
     ensures share { IfOk result (λ rested. rested_share rested ≡ config.now.share.items) }
     ensures shares { IfOk result (λ rested. rested_shares rested ≡ config.now.threads) }
@@ -95,6 +99,7 @@ fn run_dealt<
     ensures rounds { IfOk result (λ rested. rested_rounds rested ≡ 0) }
     ensures least { IfOk result (λ rested. 0 < moves_of rested → 0 < rested_epochs rested) }
     ensures most { IfOk result (λ rested. rested_epochs rested ≤ moves_of rested) }
+    ensures led { IfOk result (λ rested. EpochsLed network dealt.shares.items rested) }
     ensures rings { IfOk result (λ rested. IsOverRings rested) }
     ensures share { IfOk result (λ rested. rested_share rested ≡ network.share) }
     ensures shares { IfOk result (λ rested. rested_shares rested ≡ length dealt.shares.items) }

@@ -12,6 +12,7 @@ ghost use Rattle.flow_shares.specs.declared.error.WorkError.TheVariants.{NoThrea
 ghost use Rattle.flow_rounds.specs.Standing.{boxes_of, moved_in, StandBetweenRounds};
 ghost use Rattle.flow_drives.specs.Configs.{IsLawful};
 ghost use Rattle.flow_drives.specs.Drives.{EndsMaximalRun};
+ghost use Rattle.flow_drives.specs.Led.{RoundsLed, LedInRounds};
 ghost use Rattle.flow_drives.specs.Origins.{IsOriginOf};
 ghost use Rattle.flow_drives.specs.Resteds.{rested_states, rested_edges, rested_capacity, rested_rounds, rested_epochs, rested_share, rested_shares, moves_of, traffic_of, IsOverRings};
 
@@ -23,6 +24,7 @@ use crate::rested::Rested;
 use flow_base::Transducer;
 use flow_boxes::Boxes;
 use flow_meetings::{Dealt, gather_graph};
+use flow_messages::Ends;
 use flow_networks::Graph;
 use flow_rounds::run_rounds;
 use flow_shares::{Gate, Start, WorkError};
@@ -54,6 +56,8 @@ pub fn drive_rounds<
     ensures least { IfOk result (λ rested. 0 < moves_of rested → 0 < rested_rounds rested) }
     ensures most { IfOk result (λ rested. rested_rounds rested ≤ moves_of rested) }
     ensures epochs { IfOk result (λ rested. rested_epochs rested ≡ 0) }
+    ensures led { IfOk result (λ rested.
+        LedInRounds ⟦<Boxes as Ends>⟧ graph config.now rested) }
     ensures rings { IfOk result (λ rested. IsOverRings rested → ⊥) }
     ensures share { IfOk result (λ rested. rested_share rested ≡ config.now.share.items) }
     ensures shares { IfOk result (λ rested. rested_shares rested ≡ config.now.threads) }
@@ -95,6 +99,7 @@ fn run_dealt<
     ensures least { IfOk result (λ rested. 0 < moves_of rested → 0 < rested_rounds rested) }
     ensures most { IfOk result (λ rested. rested_rounds rested ≤ moves_of rested) }
     ensures epochs { IfOk result (λ rested. rested_epochs rested ≡ 0) }
+    ensures led { IfOk result (λ rested. RoundsLed network dealt.shares.items rested) }
     ensures rings { IfOk result (λ rested. IsOverRings rested → ⊥) }
     ensures share { IfOk result (λ rested. rested_share rested ≡ network.share) }
     ensures shares { IfOk result (λ rested. rested_shares rested ≡ length dealt.shares.items) }

@@ -11,7 +11,7 @@ use Rattle.flow_boxes.specs.declared.boxes.Boxes.{Boxes}
 use Rattle.flow_boxes.specs.Contents.{Contents, contents, view_of}
 use Rattle.flow_boxes.specs.Rounds.{IsLinked, IsCarried}
 use Rattle.flow_meetings.specs.declared.owners.EdgeOwners.{EdgeOwners}
-use Rattle.flow_meetings.specs.Met.{Met}
+use Rattle.flow_meetings.specs.Met.{Met, met_held}
 use Rattle.flow_meetings.specs.BoxMeetings.{BoxesJoin}
 use Rattle.flow_shares.specs.Deals.{share_of}
 use Rattle.flow_meetings.specs.Joints.{no_contents, boxes_at, writer_boxes, reader_boxes, BoxesHaveMet}
@@ -24,7 +24,7 @@ use Rattle.flow_rounds.specs.Standing.{boxes_seen, AreLinked}
 pub are_carried : (w r : Contents) (e : ℕ) → IsLinked w r e → Met w.ends r.ends w.capacity e → IsCarried w r e
 are_carried w r e linked met =
     let came = length-append (r.ends.received e) (r.ends.coming e) in
-    let none : w.leaving e ≡ [] = no_length (w.leaving e) (omega (arith, ap length linked.in_order, length-append (r.ends.received e ++ r.ends.coming e) (w.leaving e), came, met.held)) in
+    let none : w.leaving e ≡ [] = no_length (w.leaving e) (omega (arith, ap length linked.in_order, length-append (r.ends.received e ++ r.ends.coming e) (w.leaving e), came, met_held w.ends r.ends w.capacity e met)) in
     let arrived : r.ends.received e ++ r.ends.coming e ≡ w.ends.sent e =
     sym (append-nil (r.ends.received e ++ r.ends.coming e)) ∙ ap (λ (x : List Signal). (r.ends.received e ++ r.ends.coming e) ++ x) (sym none) ∙ linked.in_order in
     record {

@@ -1,7 +1,7 @@
 -- Blocks of items of one kind.
 use Rattle.std.proofs.Common.{◌≡◌, zero, suc, ◌<◌, true, false, List, [], ◌∷◌, ◌++◌, refl, ap, ◌∙◌, arith}
 use Rattle.std.proofs.lemmas.List.{map-append}
-use Rattle.std.proofs.lemmas.List.Elements.{All-append}
+use Rattle.std.proofs.lemmas.List.Elements.{All-nil, All-cons, All-append, All-map}
 use Rattle.std.specs.List.{All}
 use Rattle.flow_messages.specs.declared.message.Kind.{Kind}
 use Rattle.flow_messages.specs.declared.message.Msg.{Msg}
@@ -9,7 +9,8 @@ use Rattle.flow_messages.specs.Signals.{signals, signal_of, is_stop, ended, orde
 use Rattle.flow_messages.proofs.Signals.{ended-snoc, orderly-snoc}
 use Rattle.flow_messages.specs.declared.flat.Flat.{Flat}
 use Rattle.flow_messages.specs.Kinds.{fits}
-use Rattle.flow_messages.specs.Flats.{message_of, messages_of}
+use Rattle.flow_messages.specs.Flats.{message_of, messages_of, flat_signals}
+use Rattle.flow_base.specs.Passing.{MayCome}
 
 -- items of the kind, and none of them an end
 pub record HasItems (kind : Kind) (xs : List Flat) : Type 0 where
@@ -38,3 +39,12 @@ module _ (kind : Kind) (xs ys : List Flat) (x : Flat) (has : HasItems kind xs) (
 
   pub more_items : is_stop (signal_of (message_of x)) ≡ false → HasItems kind ys
   more_items open_still = record { fit = more_fit; last = more_last; unended = ap (λ (ms : List Msg). ended (signals ms)) longer ∙ ended-snoc (messages_of xs) (message_of x) has.unended ∙ open_still }
+
+said_fit : (k : Kind) (ms : List Msg) → All (λ m. fits k (signal_of m) ≡ true) ms → All (λ s. fits k s ≡ true) (signals ms)
+unfolding signals
+said_fit k [] fit = All-nil (λ s. fits k s ≡ true)
+said_fit k (m ∷ ms) fit = All-cons (λ s. fits k s ≡ true) (signal_of m) (signals ms) (fit 0 m (omega arith)) (said_fit k ms (λ i d low. fit (suc i) d (omega (arith, low))))
+
+-- a block of one kind may come where items of that kind are read
+pub may_come : (k kind : Kind) (xs : List Flat) → k ≡ kind → All (λ x. fits kind (signal_of (message_of x)) ≡ true) xs → orderly (flat_signals xs) ≡ true → MayCome k (flat_signals xs)
+may_come k kind xs is fit last = rw is (record { fit = said_fit kind (messages_of xs) (All-map (λ m. fits kind (signal_of m) ≡ true) message_of xs fit); last = last })

@@ -10,14 +10,15 @@ use crate::words::{
 use flow_base::Node;
 use flow_messages::Kind;
 use flow_nodes::StreamNode;
-use flow_scalar::{
-    Binary, Const, Fork, Iota, Length, Reduce, ScanAdd, Sink, Source, Stream, Unary, UnitsOf,
+use flow_scalar::workers::{
+    Binary, Const, Fork, Iota, Length, Reduce, ScanAdd, Sink, Unary, UnitsOf,
 };
-use flow_segment::{
-    AppendFlags, ConcatFlags, Dist, FlagOfBool, Interleave, InterleaveGroups, Pack, PackGroups,
-    PartFlags, SameFlags, TheCheck,
+use flow_scalar::{Source, Stream};
+use flow_segment::workers::{
+    AppendFlags, ConcatFlags, Dist, FlagOfBool, Index, Interleave, InterleaveGroups, Pack,
+    PackGroups, PartFlags, SameFlags, Seq, Tab, TheCheck,
 };
-use flow_values::{Index, Print, Seq, Tab};
+use flow_values::Print;
 use snesl_data::{Dialect, Ty};
 use snesl_operators::{BinaryOperator, Reduction, Scalar, UnaryOperator};
 use std::alloc::{AllocError, Global};

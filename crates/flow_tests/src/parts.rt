@@ -9,6 +9,7 @@ mod one_thread;
 mod opened;
 mod opening;
 mod pairs;
+mod passing;
 mod shares;
 mod tables;
 mod turns;

@@ -8,6 +8,7 @@ use Rattle.flow_meetings.specs.Open.{AreOwners}
 use Rattle.flow_meetings.specs.SharedNetworks.{AreFed}
 use Rattle.flow_rounds.specs.Epochs.{moved_in}
 use Rattle.flow_drives.specs.Apart.{AreThePlaces}
+use Rattle.flow_drives.proofs.AtRest.{are_the_shares}
 use Rattle.flow_drives.proofs.Apart.{part_of, rest_apart, network_apart, moved_apart}
 use Rattle.flow_drives.proofs.Refused.{nothing_made}
 use Rattle.flow_drives.proofs.joined.run_dealt.Goals as goal
@@ -77,6 +78,13 @@ returns-clause-most g c =
     moved_apart laws refl g.network shares made.graph places known c.args.origin.share.items (edges_in c.args.dealt.skeleton) c.args.origin.capacity origin.share skeleton origin.capacity (λ n. count ≤ n)
     (part_of count (moved_in g.network c.args.dealt.shares.items) _ made.most)
 
+pub returns-clause-led : goal.returns-clause-led
+returns-clause-led g c = record {
+  last = c.in_ok-shares.shares.items;
+  lead = c.in_ok-shares.ensures.epochs;
+  rest = are_the_shares _ _ refl;
+}
+
 pub returns-clause-share : goal.returns-clause-share
 returns-clause-share g c =
     let origin = c.requires.1.1.1.1.1.1.1.1.1.1.0 in
@@ -98,6 +106,7 @@ returns-in_err-shares g c =
       rounds = nothing_made r _ _ h;
       least = nothing_made r _ _ h;
       most = nothing_made r _ _ h;
+      led = nothing_made r _ _ h;
       rings = nothing_made r _ _ h;
       share = nothing_made r _ _ h;
       shares = nothing_made r _ _ h;
@@ -115,6 +124,7 @@ returns-in_err-places g c =
       rounds = nothing_made r _ _ h;
       least = nothing_made r _ _ h;
       most = nothing_made r _ _ h;
+      led = nothing_made r _ _ h;
       rings = nothing_made r _ _ h;
       share = nothing_made r _ _ h;
       shares = nothing_made r _ _ h;

@@ -6,6 +6,7 @@ use Rattle.flow_rounds.proofs.RoundBegins.{dealt_stand, dealt_none}
 use Rattle.flow_drives.specs.Drives.{EndsMaximalRun}
 use Rattle.flow_shares.specs.Starts.{AskedAtEach}
 use Rattle.flow_drives.specs.Resteds.{rested_rounds, rested_states, rested_share, rested_shares, traffic_of}
+use Rattle.flow_drives.proofs.Led.{made_so, led_in_rounds}
 use Rattle.flow_drives.proofs.rounds.drive_rounds.Goals as goal
 
 pub run_dealt-requires : goal.run_dealt-requires
@@ -25,6 +26,14 @@ returns-clause-run g c =
     let made = c.in_ok-origin.ensures in
     subst (λ n. IfOk c.run_dealt.result (λ rested. EndsMaximalRun b n (states_of c.args.graph) (edges_of c.args.graph) (rested_states rested) (traffic_of rested))) made.capacity
     (subst (λ graph. IfOk c.run_dealt.result (λ rested. EndsMaximalRun b c.in_ok-origin.origin.capacity (states_of graph) (edges_of graph) (rested_states rested) (traffic_of rested))) made.graph c.run_dealt.ensures.run)
+
+pub returns-clause-led : goal.returns-clause-led
+returns-clause-led g c =
+    let origin = c.in_ok-origin.origin in
+    let made = c.in_ok-origin.ensures in
+    made_so c.run_dealt.result
+    (λ rested. led_in_rounds c.args.graph origin.graph.value c.args.config.now origin.share.items origin.capacity c.requires.lawful rested made.graph made.share made.capacity c.in_ok-origin.dealt made.dealt)
+    c.run_dealt.ensures.led
 
 pub returns-clause-share : goal.returns-clause-share
 returns-clause-share g c = subst (λ share. IfOk c.run_dealt.result (λ rested. rested_share rested ≡ share)) c.in_ok-origin.ensures.share c.run_dealt.ensures.share

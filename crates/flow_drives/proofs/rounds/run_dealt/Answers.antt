@@ -1,6 +1,7 @@
 use Rattle.std.proofs.Common.{◌<◌, ◌≤◌, length, ◌∙◌, sym, ap, subst, arith, inl, rules}
 use Rattle.std.proofs.lemmas.List.{length-map}
-use Rattle.flow_networks.specs.Graphs.{states_of}
+use Rattle.flow_boxes.specs.Contents.{view_of}
+use Rattle.flow_networks.specs.Graphs.{states_of, edges_of}
 use Rattle.flow_shares.specs.declared.error.WorkError.TheVariants.{NoThread}
 use Rattle.flow_shares.proofs.Refused.{none_refused}
 use Rattle.flow_meetings.specs.Open.{AreOwners}
@@ -8,7 +9,9 @@ use Rattle.flow_meetings.specs.Joints.{views_of}
 use Rattle.flow_meetings.specs.SharedNetworks.{moves_by}
 use Rattle.flow_rounds.proofs.RoundMeets.{seen_is}
 use Rattle.flow_rounds.proofs.RoundGathers.{come_to_rest}
+use Rattle.flow_drives.specs.Edges.{traffic_by}
 use Rattle.flow_drives.proofs.Refused.{nothing_made}
+use Rattle.flow_drives.proofs.Led.{have_states}
 use Rattle.flow_drives.proofs.Gathered.{are_there, run, boxes_moved, sound, rests}
 use Rattle.flow_drives.proofs.rounds.run_dealt.Goals as goal
 
@@ -70,6 +73,21 @@ returns-clause-most g c =
     boxes_moved g.network graph shared c.in_ok-graph.ensures.network rest (ap (λ share. share.items) c.new-shared.ensures.share ∙ origin.share) (c.new-shared.ensures.capacity ∙ origin.capacity) (λ n. count ≤ n)
     (subst (λ v. count ≤ moves_by g.network (views_of v)) (sym (seen_is shares shared.ends.items taken)) (omega (arith, c.in_ok-shares.ensures.most)))
 
+pub returns-clause-led : goal.returns-clause-led
+returns-clause-led g c =
+    let origin = c.requires.1.1.1.1.1.1.1.1.1.1.0 in
+    let graph = c.in_ok-graph.graph in
+    let shared = c.new-shared.result in
+    let shares = c.in_ok-shares.shares.items in
+    let taken = ap (λ ends. ends.items) c.new-shared.ensures.ends ∙ c.in_ok-graph.ensures.ends in
+    let deals = c.in_ok-shares.ensures.rest.stand.deals in
+    record {
+      last = shares;
+      lead = c.in_ok-shares.ensures.rounds;
+      nodes = have_states g.network graph shared c.in_ok-graph.ensures.network (ap (λ share. share.items) c.new-shared.ensures.share ∙ origin.share) (c.new-shared.ensures.capacity ∙ origin.capacity) shares deals (c.in_ok-graph.ensures.states deals);
+      traffic = ap (λ ends. traffic_by view_of shared.share.items (edges_of graph) ends) taken;
+    }
+
 pub returns-clause-share : goal.returns-clause-share
 returns-clause-share g c =
     let origin = c.requires.1.1.1.1.1.1.1.1.1.1.0 in
@@ -94,6 +112,7 @@ returns-in_err-shares g c =
       least = nothing_made r _ _ h;
       most = nothing_made r _ _ h;
       epochs = nothing_made r _ _ h;
+      led = nothing_made r _ _ h;
       rings = nothing_made r _ _ h;
       share = nothing_made r _ _ h;
       shares = nothing_made r _ _ h;
@@ -112,6 +131,7 @@ returns-in_err-graph g c =
       least = nothing_made r _ _ h;
       most = nothing_made r _ _ h;
       epochs = nothing_made r _ _ h;
+      led = nothing_made r _ _ h;
       rings = nothing_made r _ _ h;
       share = nothing_made r _ _ h;
       shares = nothing_made r _ _ h;
