@@ -5,7 +5,7 @@ ghost use Rattle.snesl_evaluation.specs.Scopes.{IsCalled, IsUnknown, weight, wei
 
 use snesl_tree::{Declaration, Function};
 
-// The last function of a name, and the declarations before it.
+/// The last function of a name, and the declarations before it. The declarations stand in order.
 pub fn find_function<'a>(
     name: &[u8],
     text: &[u8],

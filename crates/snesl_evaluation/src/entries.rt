@@ -9,14 +9,14 @@ use snesl_data::Datum;
 use snesl_values::Inputs;
 use std::alloc::{AllocError, Global};
 
-// The name of an input, and its value.
+/// The name of an input, and its value.
 #[derive(Drop)]
 pub struct Entry {
     pub name: Vec<u8>,
     pub datum: Datum,
 }
 
-// All inputs, in the order of declaration.
+/// All inputs, in the order of declaration. The error is that memory was refused.
 pub fn entries_of(alloc: Global, inputs: &Inputs) -> Result<Vec<Entry>, AllocError>
     ensures { IfOk result (λ entries. map entry_of entries.items ≡ environment_of inputs.now) }
 {

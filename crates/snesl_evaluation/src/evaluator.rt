@@ -62,11 +62,12 @@ pub fn evaluate(
     }
 }
 
-// The value of an expression, or its first fault. It only hands each form on to a function of its own,
-// and none is inlined into another: its frame, and theirs, are what evaluation takes of the stack.
+/// The value of an expression where names and calls have these meanings, or why there is none.
+// It only hands each form on to a function of its own, and none is inlined into another: its frame, and theirs, are what
+// evaluation takes of the stack.
 #[cycle(value)]
 #[inline(never)]
-fn value(context: &ProgramContext, expr: &Expr, scope: &Scope) -> Result<Datum, Halt>
+pub fn value(context: &ProgramContext, expr: &Expr, scope: &Scope) -> Result<Datum, Halt>
     ensures { Answers value_of result (eval_in context.now scope.now (tree_of expr.now)) }
 {
     match expr {
@@ -325,10 +326,14 @@ fn each_where(
     Ok(sequence_of(values))
 }
 
-// The values of arguments, or of the items of a literal.
+/// The values of arguments, or of the items of a literal, from left to right.
 #[cycle(value)]
 #[inline(never)]
-fn all_values(context: &ProgramContext, exprs: &[Expr], scope: &Scope) -> Result<Vec<Datum>, Halt>
+pub fn all_values(
+    context: &ProgramContext,
+    exprs: &[Expr],
+    scope: &Scope,
+) -> Result<Vec<Datum>, Halt>
     ensures { Answers (λ values. map value_of values.items) result
         (all_in context.now scope.now (trees_of exprs.now)) }
 {
@@ -340,10 +345,10 @@ fn all_values(context: &ProgramContext, exprs: &[Expr], scope: &Scope) -> Result
     Ok(values)
 }
 
-// The names of a comprehension with the items of their sequences.
+/// The names of a comprehension with the items of their sequences, which may differ in length.
 #[cycle(value)]
 #[inline(never)]
-fn all_columns(
+pub fn all_columns(
     context: &ProgramContext,
     binders: &[Binder],
     scope: &Scope,

@@ -7,7 +7,7 @@ ghost use Rattle.snesl_evaluation.specs.declared.halt.Halt.TheVariants.{NoMemory
 use snesl_data::{Fault, FaultKind};
 use std::alloc::{AllocError, AllocFailed};
 
-// Why there is no value.
+/// Why there is no value: memory was refused, or the expression ends in a fault.
 #[derive(Clone, Copy)]
 pub enum Halt {
     NoMemory,

@@ -12,5 +12,9 @@ mod parts;
 mod scope;
 mod sequences;
 
-pub use evaluator::evaluate;
+pub use calls::find_function;
+pub use entries::{Entry, entries_of};
+pub use evaluator::{all_columns, all_values, evaluate, value};
+pub use halt::Halt;
 pub use laws::derived_forms;
+pub use scope::{Column, ProgramContext, Scope};

@@ -15,8 +15,8 @@ use snesl_data::{Datum, Dialect, FaultKind, copy_datum};
 use snesl_tree::{Declaration, Span, Typing};
 use std::alloc::{AllocError, Global};
 
-// What stays the same in one body: the dialect of the program, the text, in which names are
-// spelled, and the declarations whose functions may be called.
+/// What stays the same in one body: the dialect of the program, the text, in which names are
+/// spelled, and the declarations whose functions may be called.
 #[derive(Clone, Copy)]
 pub struct ProgramContext<'a> {
     pub alloc: Global,
@@ -25,25 +25,25 @@ pub struct ProgramContext<'a> {
     pub functions: &'a [Declaration],
 }
 
-// A name of a comprehension, and the items that it stands for in turn.
+/// A name of a comprehension, and the items that it stands for in turn.
 #[derive(Drop)]
 pub struct Column {
     pub name: Span,
     pub items: Vec<Datum>,
 }
 
-// What names stand for, the innermost first.
+/// What names stand for, the innermost first.
 #[derive(Drop)]
 pub enum Scope<'a> {
     Inputs(&'a [Entry]),
-    // As many values as parameters.
+    /// As many values as parameters.
     Parameters(&'a [Typing], &'a [Datum]),
     Bound {
         name: Span,
         value: &'a Datum,
         outer: &'a Scope<'a>,
     },
-    // Each column's item at this index.
+    /// Each column's item at this index.
     Row {
         columns: &'a [Column],
         index: usize,

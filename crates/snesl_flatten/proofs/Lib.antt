@@ -8,6 +8,8 @@ mod Ends
 mod InputValues
 mod Meanings
 mod Held
+mod Once
+mod Kept
 mod InputStreams
 mod InputSources
 mod SetSources

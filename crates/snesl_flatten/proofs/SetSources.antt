@@ -8,6 +8,7 @@ use Rattle.std.specs.Option.{option_map}
 use Rattle.snesl_values.specs.Inputs.{Declaration}
 use Rattle.snesl_tree.specs.Tree.{ProgramTree}
 use Rattle.snesl_types.specs.Typed.{typed_inputs}
+use Rattle.snesl_types.specs.declared.typed.Typed.{Typed}
 use Rattle.flow_messages.specs.declared.message.Kind.{Kind}
 use Rattle.flow_base.specs.Columns.{Columns}
 use Rattle.flow_scalar.specs.Streams.{Items}
@@ -27,8 +28,7 @@ use Rattle.snesl_translation.specs.Wires.{type_of_wires}
 use Rattle.snesl_translation.specs.Programs.{first_offset, program_plan, unset_cells}
 use Rattle.snesl_flatten.specs.Networks.{NodeState, program_steps}
 use Rattle.snesl_flatten.specs.Sources.{all_kinds, cells_in, kind_in, source_columns, AreFresh, HasSources}
-use Rattle.snesl_flatten.specs.PlanViews.{plan_typed, plan_steps, AreButSources}
-use Rattle.snesl_flatten.specs.declared.plan.Plan.{Plan}
+use Rattle.snesl_flatten.specs.Unset.{unset_steps, AreButSources}
 use Rattle.snesl_flatten.proofs.InputSources.{fresh_at}
 use Rattle.snesl_flatten.proofs.Sources.{source_step, next_source, next_set, steps_enough}
 use Rattle.snesl_flatten.proofs.Ends.{print_stays}
@@ -157,9 +157,9 @@ module _ (text : List ℕ) (program : ProgramTree) (inputs : List Declaration) (
       }
 
 -- Setting a source changes no other node.
-pub others_stay : (plan : Plan) (states : List NodeState) (n k : ℕ) (s : NodeState) → AreButSources plan states → n < length (all_kinds (typed_inputs (plan_typed plan)))
-    → k ≡ get_or (places (plan_steps plan)) (suc n) 0 → AreButSources plan (set states k s)
-others_stay plan states n k s so_far lt place = record {
+pub others_stay : (typed : Typed) (before states : List NodeState) (n k : ℕ) (s : NodeState) → AreButSources typed before states → n < length (all_kinds (typed_inputs typed))
+    → k ≡ get_or (places (unset_steps typed)) (suc n) 0 → AreButSources typed before (set states k s)
+others_stay typed before states n k s so_far lt place = record {
   nodes = length-set states k s ∙ so_far.nodes;
   others = λ j not_source.
       get_or-set_other states k j s node_behaviour.sample (λ same. not_source (n, lt, same ∙ place)) ∙ so_far.others j not_source;

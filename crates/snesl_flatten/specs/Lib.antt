@@ -2,6 +2,7 @@ pub mod Behind
 pub mod Networks
 pub mod PlanViews
 pub mod Sources
+pub mod Unset
 -- what the public clauses cite of the crates below
 pub use Rattle.snesl_values.specs.Inputs
 pub use Rattle.snesl_data.specs.declared.refusal.Refusal

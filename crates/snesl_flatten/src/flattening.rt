@@ -9,7 +9,7 @@ ghost use Rattle.flow_plans.specs.Layouts.{layout, edges_needed, IsNetworkOfPlan
 ghost use Rattle.flow_assembly.specs.Openings.{AllOpen};
 ghost use Rattle.snesl_translation.specs.Programs.{unset_cells};
 ghost use Rattle.snesl_flatten.specs.Networks.{program_steps};
-ghost use Rattle.snesl_flatten.specs.PlanViews.{plan_typed, plan_states, plan_edges, HoldsNetwork};
+ghost use Rattle.snesl_flatten.specs.PlanViews.{plan_typed, plan_states, plan_edges};
 
 use crate::plan::Plan;
 use crate::steps::steps_of_program;
@@ -31,7 +31,6 @@ use std::alloc::Global;
 /// - `NoMemory`: memory was refused.
 pub fn flatten<'a>(alloc: Global, typed: &'a Typed<'a>) -> Result<Plan<'a>, Refusal>
     ensures program { IfOk result (λ plan. plan_typed plan ≡ typed.now) }
-    ensures holds { IfOk result (λ plan. HoldsNetwork plan) }
     ensures network { IfOk result (λ plan. IsNetworkOfPlan node_behaviour
         (program_steps (typed_text typed.now) (typed_tree typed.now)
         (typed_inputs typed.now) unset_cells) (plan_states plan) (plan_edges plan)) }
