@@ -17,7 +17,11 @@ mod drawings;
 #[cfg(test)]
 mod ending;
 #[cfg(test)]
+mod findings;
+#[cfg(test)]
 mod inputs;
+#[cfg(test)]
+mod layouts;
 #[cfg(test)]
 mod least_capacities;
 #[cfg(test)]

@@ -1,0 +1,157 @@
+-- The meaning of a program without inputs, found by computing.
+use Rattle.std.proofs.Common.{◌≡◌, ℕ, zero, suc, ◌+◌, ◌≤◌, leb, true, List, [], ◌∷◌, ◌++◌, length, drop, Option, Some, None, Result, Ok, Err, inl, inr, refl, sym, subst, arith, codes}
+use Rattle.std.proofs.lemmas.Bool.{leb-true}
+use Rattle.snesl_data.specs.declared.dialect.Dialect.{Dialect}
+use Rattle.snesl_data.specs.declared.refusal.Refusal.{Refusal}
+use Rattle.snesl_data.specs.declared.refusal.Refusal.TheVariants as refusals
+use Rattle.snesl_data.specs.Types.{Ty}
+use Rattle.snesl_values.specs.Inputs.{Declaration, InputMeans, spells, lawful}
+use Rattle.snesl_values.specs.InputTokens.{none, next, next_at, next_token, first as first_token}
+use Rattle.snesl_lexer.specs.declared.token.Kind.{Kind}
+use Rattle.snesl_lexer.specs.declared.token.Token.{Token}
+use Rattle.snesl_lexer.specs.declared.lexer.First.{First}
+use Rattle.snesl_lexer.specs.declared.lexer.First.TheVariants.{Blank, Found, Bad}
+use Rattle.snesl_lexer.specs.Lexical.{first, dialect_of, Tokens, none_left, skips, takes, BadAt, bad_here, bad_later, bad_after}
+use Rattle.snesl_tree.specs.Tree.{ProgramTree}
+use Rattle.snesl_grammar.specs.Limits.{greatest_depth, greatest_length}
+use Rattle.snesl_syntax.specs.Answer.{answer}
+use Rattle.snesl_syntax.specs.DialectMachine.{reader}
+use Rattle.snesl_syntax.specs.Parse.{Parses, read, bad_byte}
+use Rattle.snesl_syntax.proofs.Verdicts.{programs_answer}
+use Rattle.snesl_evaluation.specs.Eval.{program_value}
+use Rattle.snesl_types.specs.Programs.{Declared, ProgramTypes, HasTyping}
+use Rattle.snesl_types.specs.Verdicts.{program_verdict}
+use Rattle.snesl_types.proofs.ProgramSound.{has_typing, refused_first}
+use Rattle.snesl_meaning.specs.Meaning.{Meaning, Means, meaning_of, no_program, ill_typed, evaluated, is_refused}
+use Rattle.snesl_worked.specs.Rows.{Row, Hold}
+
+-- Tokens, or the first bad byte.
+
+-- a token before these, or the bad byte after it
+abbrev pub with_token : Token → Option (Result (List Token) ℕ) → Option (Result (List Token) ℕ)
+with_token token (Some (Ok tokens)) = Some (Ok (token ∷ tokens))
+with_token token other = other
+
+-- the reading of bytes by what stands first
+abbrev pub by_first : First → ℕ → (ℕ → Option (Result (List Token) ℕ)) → Option (Result (List Token) ℕ)
+by_first Blank at rest = rest 1
+by_first (Found kind len) at rest = with_token (record { kind = kind; at = at }) (rest len)
+by_first Bad at rest = Some (Err at)
+
+-- the reading of bytes in so many steps at most
+abbrev pub reading : ℕ → Dialect → ℕ → List ℕ → Option (Result (List Token) ℕ)
+reading n dialect at [] = Some (Ok [])
+reading zero dialect at (b ∷ bs) = None
+reading (suc n) dialect at (b ∷ bs) = by_first (first dialect (b ∷ bs)) at (λ len. reading n dialect (at + len) (drop len (b ∷ bs)))
+
+-- bytes that begin at this offset read so
+abbrev ReadsFrom : Dialect → ℕ → List ℕ → Option (Result (List Token) ℕ) → Type 0
+ReadsFrom dialect at bs (Some (Ok tokens)) = Tokens dialect at bs tokens
+ReadsFrom dialect at bs (Some (Err bad)) = BadAt dialect at bs bad
+ReadsFrom dialect at bs None = Unit {0}
+
+after_blank : (dialect : Dialect) (at : ℕ) (bs : List ℕ) → first dialect bs ≡ Blank → (found : Option (Result (List Token) ℕ))
+    → ReadsFrom dialect (at + 1) (drop 1 bs) found → ReadsFrom dialect at bs found
+after_blank dialect at bs e (Some (Ok tokens)) h = skips e h
+after_blank dialect at bs e (Some (Err bad)) h = bad_later e h
+after_blank dialect at bs e None h = tt
+
+reads : (n : ℕ) (dialect : Dialect) (at : ℕ) (bs : List ℕ) → ReadsFrom dialect at bs (reading n dialect at bs)
+reads n dialect at [] = none_left
+reads zero dialect at (b ∷ bs) = tt
+reads (suc n) dialect at (b ∷ bs) =
+    of_first (first dialect (b ∷ bs)) refl (λ len. reads n dialect (at + len) (drop len (b ∷ bs)))
+  where
+    of_token : (kind : Kind) (len : ℕ) → first dialect (b ∷ bs) ≡ Found kind len → (it : Option (Result (List Token) ℕ))
+        → ReadsFrom dialect (at + len) (drop len (b ∷ bs)) it → ReadsFrom dialect at (b ∷ bs) (with_token (record { kind = kind; at = at }) it)
+    of_token kind len e (Some (Ok tokens)) h = takes kind len e h
+    of_token kind len e (Some (Err bad)) h = bad_after kind len e h
+    of_token kind len e None h = tt
+
+    of_first : (it : First) → first dialect (b ∷ bs) ≡ it
+        → ((len : ℕ) → ReadsFrom dialect (at + len) (drop len (b ∷ bs)) (reading n dialect (at + len) (drop len (b ∷ bs))))
+        → ReadsFrom dialect at (b ∷ bs) (by_first it at (λ len. reading n dialect (at + len) (drop len (b ∷ bs))))
+    of_first Blank e rest = after_blank dialect at (b ∷ bs) e (reading n dialect (at + 1) (drop 1 (b ∷ bs))) (rest 1)
+    of_first (Found kind len) e rest = of_token kind len e (reading n dialect (at + len) (drop len (b ∷ bs))) (rest len)
+    of_first Bad e rest = bad_here b bs e
+
+-- Meanings.
+
+-- a program that declares no inputs
+abbrev pub by_inputs : List ℕ → ProgramTree → List Declaration → Option Meaning
+by_inputs text program [] = Some (meaning_of (program_value text program []))
+by_inputs text program (declaration ∷ declarations) = None
+
+abbrev pub by_verdict : List ℕ → ProgramTree → Result (Declared × Ty) Refusal → Option Meaning
+by_verdict text program (Ok found) = by_inputs text program found.0.inputs
+by_verdict text program (Err (refusals.Name at)) = Some (is_refused (refusals.Name at))
+by_verdict text program (Err (refusals.Mismatch at)) = Some (is_refused (refusals.Mismatch at))
+by_verdict text program (Err (refusals.Streamed at)) = Some (is_refused (refusals.Streamed at))
+by_verdict text program (Err refusals.TooBig) = Some (is_refused refusals.TooBig)
+by_verdict text program (Err other) = None
+
+abbrev pub by_answer : List ℕ → Result ProgramTree Refusal → Option Meaning
+by_answer text (Ok program) = by_verdict text program (program_verdict text program)
+by_answer text (Err refusal) = Some (is_refused refusal)
+
+abbrev pub by_reading : List ℕ → Option (Result (List Token) ℕ) → Option Meaning
+by_reading text (Some (Ok tokens)) = by_answer text (answer reader greatest_depth (length text) reader.start tokens)
+by_reading text (Some (Err at)) = Some (is_refused (refusals.Lex at))
+by_reading text None = None
+
+-- the meaning of a text of at most the greatest length
+abbrev pub found : List ℕ → Option Meaning
+found text = by_reading text (reading (length text) (dialect_of text) 0 text)
+
+-- this is a meaning of the text, if one was found
+abbrev IsMeaning : List ℕ → Option Meaning → Type 0
+IsMeaning text (Some m) = Means text [] m
+IsMeaning text None = Unit {0}
+
+-- no input text spells no inputs
+no_input : (dialect : Dialect) → InputMeans dialect [] [] (spells [])
+unfolding next next_at first_token
+no_input dialect = lawful (omega arith) none refl (record { fits = tt; entries = refl })
+
+of_inputs : (text : List ℕ) (program : ProgramTree) (t : Ty) → Parses text (Ok program) → (inputs : List Declaration) → HasTyping text program inputs t
+    → IsMeaning text (by_inputs text program inputs)
+of_inputs text program t p [] (declared, h, same) =
+    evaluated p h (subst (λ inputs. InputMeans program.dialect inputs [] (spells [])) (sym same) (no_input program.dialect))
+of_inputs text program t p (declaration ∷ declarations) h = tt
+
+of_verdict : (text : List ℕ) (program : ProgramTree) → Parses text (Ok program) → (verdict : Result (Declared × Ty) Refusal) → program_verdict text program ≡ verdict
+    → IsMeaning text (by_verdict text program verdict)
+of_verdict text program p (Ok found) e = of_inputs text program found.1 p found.0.inputs (has_typing text program found.0 found.1 e)
+of_verdict text program p (Err (refusals.Name at)) e = ill_typed p (refused_first text program (refusals.Name at) (inr e))
+of_verdict text program p (Err (refusals.Mismatch at)) e = ill_typed p (refused_first text program (refusals.Mismatch at) (inr e))
+of_verdict text program p (Err (refusals.Streamed at)) e = ill_typed p (refused_first text program (refusals.Streamed at) (inr e))
+of_verdict text program p (Err refusals.TooBig) e = ill_typed p (refused_first text program refusals.TooBig (inr e))
+of_verdict text program p (Err other) e = tt
+
+of_answer : (text : List ℕ) (it : Result ProgramTree Refusal) → Parses text it → IsMeaning text (by_answer text it)
+of_answer text (Ok program) p = of_verdict text program p (program_verdict text program) refl
+of_answer text (Err refusal) p = no_program p
+
+of_reading : (text : List ℕ) → length text ≤ greatest_length → (it : Option (Result (List Token) ℕ)) → ReadsFrom (dialect_of text) 0 text it → IsMeaning text (by_reading text it)
+of_reading text fits (Some (Ok tokens)) h =
+    of_answer text (answer reader greatest_depth (length text) reader.start tokens) (read fits h (programs_answer greatest_depth (length text) tokens (omega arith)))
+of_reading text fits (Some (Err at)) h = no_program (bad_byte fits h)
+of_reading text fits None h = tt
+
+is_found : (text : List ℕ) → length text ≤ greatest_length → IsMeaning text (found text)
+is_found text fits = of_reading text fits (reading (length text) (dialect_of text) 0 text) (reads (length text) (dialect_of text) 0 text)
+
+-- Rows.
+
+-- the meaning of each row is the one that is found
+abbrev pub AreFound : List Row → Type 0
+AreFound [] = Unit {0}
+AreFound (row ∷ rows) =
+    (leb (length (codes row.program)) greatest_length ≡ true) × (found (codes row.program) ≡ Some row.meaning) × AreFound rows
+
+row_holds : (text : List ℕ) (m : Meaning) → leb (length text) greatest_length ≡ true → found text ≡ Some m → Means text [] m
+row_holds text m short e = subst (λ it. IsMeaning text it) e (is_found text (leb-true _ _ short))
+
+pub rows_hold : (rows : List Row) → AreFound rows → Hold rows
+rows_hold [] h = tt
+rows_hold (row ∷ rows) h = (row_holds (codes row.program) row.meaning h.0 h.1, rows_hold rows h.2)

@@ -1,0 +1,12 @@
+// The worked rows as laws.
+
+ghost use Rattle.snesl_worked.specs.Rows.{Hold};
+ghost use Rattle.snesl_worked.specs.Worked.{faults, in_second, refusals, values};
+
+/// A law: each worked row has the meaning that stands in it, by the definitions by which `run` promises its answers.
+pub fn worked_rows()
+    ensures values { Hold values }
+    ensures faults { Hold faults }
+    ensures refusals { Hold refusals }
+    ensures in_second { Hold in_second }
+{}
