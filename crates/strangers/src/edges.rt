@@ -85,3 +85,32 @@ pub fn block_taken(alloc: Global) -> Result<(bool, usize), AllocError> {
     meet(&mut writer, &mut reader);
     Ok((has_room, reader.take_block(&mut block, 64)))
 }
+
+/// Whether the edge takes items of this kind, where its writer is there.
+pub fn takes<E: Ends>(ends: &E, edge: usize, kind: Kind) -> Option<bool> {
+    if !ends.has_writer(edge) {
+        return None;
+    }
+    Some(ends.takes(edge, kind))
+}
+
+/// Whether the edge is certain of room for so many messages, where its writer is there.
+pub fn has_room_for<E: Ends>(ends: &mut E, edge: usize, count: usize) -> Option<bool> {
+    if !ends.has_writer(edge) {
+        return None;
+    }
+    Some(ends.room_for(edge, count))
+}
+
+/// How many messages a block took of the edge, at most so many, where its reader is there.
+pub fn taken_in_a_block<E: Ends>(
+    ends: &mut E,
+    edge: usize,
+    block: &mut Block,
+    most: usize,
+) -> usize {
+    if !ends.has_reader(edge) {
+        return 0;
+    }
+    ends.take_block(edge, block, most)
+}

@@ -3,7 +3,8 @@ use flow_edges::{Kind, Table};
 use flow_graph::{
     Edge, Graph, GraphBuilder, Moved, NoMemory, Settled, StreamNode, settle, step_once,
 };
-use flow_scalar::{Node, Sink, Source, Stream};
+use flow_scalar::workers::Sink;
+use flow_scalar::{Node, Source, Stream};
 use snesl_values::Refusal;
 use std::alloc::Global;
 

@@ -1,8 +1,8 @@
 //! Calls of each name that the ten doors offer, as one writes them who has read only what each name is and takes.
 //!
-//! Each module is named after its door. A function here calls something once, and holds no proof: that it compiles shows
+//! Each module is named after its door. A function here calls something once, and promises nothing: that it compiles shows
 //! that the names, the arguments and the results are those that were said, and that it is proved shows that a caller can
-//! see all that a call asks. So this crate has no proofs/.
+//! see all that a call asks. Only what a block of one message is stands in proofs/.
 #![tactic(auto)]
 
 pub mod drive;

@@ -1,8 +1,8 @@
 // Transducers over scalars.
-use flow_edges::{Item, Kind, Msg};
+use flow_edges::{Block, Flat, Item, Kind, Msg};
 use flow_scalar::{
-    Binary, BinaryOperator, Const, Fork, Iota, Length, Node, Reduce, Reduction, Scalar, ScanAdd,
-    Sink, Source, Stream, Transducer, Unary, UnaryOperator, UnitsOf, Want,
+    Binary, BinaryOperator, Const, Fork, Iota, Length, Node, Port, Reduce, Reduction, Scalar,
+    ScanAdd, Side, Sink, Source, Stream, Transducer, Unary, UnaryOperator, UnitsOf, Want, workers,
 };
 use snesl_values::Dialect;
 use std::alloc::{AllocError, Global};
@@ -45,30 +45,50 @@ pub fn first_unit(alloc: Global) -> Result<Msg, AllocError> {
 
 /// What a constant wants.
 pub fn constant() -> Want {
-    wanted(&Node::new(Const::new(Scalar::Int(5)), 0))
+    wanted(&Const::new(workers::Const::new(Scalar::Int(5)), 0))
+}
+
+/// Whether a transducer that reads units passes a block of one on, and what it writes then.
+pub fn passed<T: Transducer>(node: &mut T, out: &mut Block) -> bool {
+    if node.kind_in(0) != Kind::Unit {
+        return false;
+    }
+    let mut block = Block::new();
+    block.push(Flat::Unit);
+    node.pass(&block, out)
+}
+
+/// The number and the kind of a transducer's outputs.
+pub fn outputs_of(node: &impl Transducer) -> Port {
+    node.port(Side::Out, 0)
+}
+
+/// A sink is the node of the worker that has its name.
+pub fn sink() -> Node<workers::Sink> {
+    Sink::new(workers::Sink::new(Kind::Int), 0)
 }
 
 /// What operators want.
 pub fn operators() -> [Want; 2] {
-    let unary = Node::new(Unary::new(Dialect::One, UnaryOperator::Not), 0);
-    let binary = Node::new(Binary::new(Dialect::One, BinaryOperator::Add), 7);
+    let unary = Unary::new(workers::Unary::new(Dialect::One, UnaryOperator::Not), 0);
+    let binary = Binary::new(workers::Binary::new(Dialect::One, BinaryOperator::Add), 7);
     [wanted(&unary), wanted(&binary)]
 }
 
 /// What a copy to two outputs and a sink want.
 pub fn copies(alloc: Global) -> [Want; 2] {
-    let fork = Node::new(Fork::new(alloc, Kind::Unit, 2), 0);
-    let sink = Node::new(Sink::new(Kind::Unit), 0);
+    let fork = Fork::new(workers::Fork::new(alloc, Kind::Unit, 2), 0);
+    let sink = Sink::new(workers::Sink::new(Kind::Unit), 0);
     [wanted(&fork), wanted(&sink)]
 }
 
 /// What counts and folds want.
 pub fn folds() -> [Want; 5] {
-    let iota = Node::new(Iota::new(), 0);
-    let units = Node::new(UnitsOf::new(), 0);
-    let scan = Node::new(ScanAdd::new(Dialect::One), 0);
-    let sum = Node::new(Reduce::new(Dialect::One, Reduction::Sum), 0);
-    let length = Node::new(Length::new(Dialect::One), 0);
+    let iota = Iota::new(workers::Iota::new(), 0);
+    let units = UnitsOf::new(workers::UnitsOf::new(), 0);
+    let scan = ScanAdd::new(workers::ScanAdd::new(Dialect::One), 0);
+    let sum = Reduce::new(workers::Reduce::new(Dialect::One, Reduction::Sum), 0);
+    let length = Length::new(workers::Length::new(Dialect::One), 0);
     [
         wanted(&iota),
         wanted(&units),

@@ -1,9 +1,9 @@
 // Transducers over segments and vectors.
 use flow_edges::Kind;
-use flow_scalar::{Node, Transducer, Want};
+use flow_scalar::{Transducer, Want};
 use flow_segment::{
     AppendFlags, ConcatFlags, Dist, FlagOfBool, Index, Interleave, InterleaveGroups, Pack,
-    PackGroups, PartFlags, Print, SameFlags, Seq, Tab, TheCheck,
+    PackGroups, PartFlags, Print, SameFlags, Seq, Tab, TheCheck, workers,
 };
 use snesl_values::Ty;
 use std::alloc::{AllocError, Global};
@@ -11,31 +11,31 @@ use std::alloc::{AllocError, Global};
 /// What transducers over flags want.
 pub fn flags() -> [Want; 7] {
     [
-        Node::new(FlagOfBool::new(), 0).want(),
-        Node::new(SameFlags::new(), 0).want(),
-        Node::new(ConcatFlags::new(), 0).want(),
-        Node::new(PartFlags::new(), 0).want(),
-        Node::new(TheCheck::new(), 0).want(),
-        Node::new(AppendFlags::new(), 0).want(),
-        Node::new(InterleaveGroups::new(), 0).want(),
+        FlagOfBool::new(workers::FlagOfBool::new(), 0).want(),
+        SameFlags::new(workers::SameFlags::new(), 0).want(),
+        ConcatFlags::new(workers::ConcatFlags::new(), 0).want(),
+        PartFlags::new(workers::PartFlags::new(), 0).want(),
+        TheCheck::new(workers::TheCheck::new(), 0).want(),
+        AppendFlags::new(workers::AppendFlags::new(), 0).want(),
+        InterleaveGroups::new(workers::InterleaveGroups::new(), 0).want(),
     ]
 }
 
 /// What transducers want that move items of segments.
 pub fn items(alloc: Global) -> [Want; 4] {
     [
-        Node::new(Dist::new(alloc, Kind::Int), 0).want(),
-        Node::new(Pack::new(Kind::Int), 0).want(),
-        Node::new(PackGroups::new(), 0).want(),
-        Node::new(Interleave::new(Kind::Int), 0).want(),
+        Dist::new(workers::Dist::new(alloc, Kind::Int), 0).want(),
+        Pack::new(workers::Pack::new(Kind::Int), 0).want(),
+        PackGroups::new(workers::PackGroups::new(), 0).want(),
+        Interleave::new(workers::Interleave::new(Kind::Int), 0).want(),
     ]
 }
 
 /// What transducers over vectors want.
 pub fn vectors(alloc: Global) -> Result<[Want; 3], AllocError> {
-    let tab = Node::new(Tab::new(alloc, Ty::Int)?, 0);
-    let seq = Node::new(Seq::new(alloc, Ty::Int)?, 0);
-    let index = Node::new(Index::new(alloc, Ty::Int)?, 0);
+    let tab = Tab::new(workers::Tab::new(alloc, Ty::Int)?, 0);
+    let seq = Seq::new(workers::Seq::new(alloc, Ty::Int)?, 0);
+    let index = Index::new(workers::Index::new(alloc, Ty::Int)?, 0);
     Ok([tab.want(), seq.want(), index.want()])
 }
 
