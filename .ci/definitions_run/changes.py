@@ -1,0 +1,146 @@
+"""Changed definitions: which changes the rows tell.
+
+First each short row is answered as the definitions stand, and the equations and rules that it reaches are noted. Then a definition of the
+headline is changed in one that some row reaches, and such rows are answered until one is answered otherwise, stops, or does not end.
+"""
+
+import os
+import random
+import resource
+import time
+
+from .answers import CRATES, definitions, deriver
+from .edits import changes_of
+from .gate import rows_to_try, unknown_forms
+from .headline import whole_headline
+from .pool import in_processes
+from .trials import Trial
+
+REASONS = os.path.join(os.path.dirname(os.path.abspath(__file__)), "..", "definitions_alike")
+MOST_SECONDS = 20
+DEAREST = 1.5
+ROWS_EACH = 60
+# Tables whose rows are much like one another: some of them are tried last.
+LIKE_OTHERS = ("brackets", "bytes", "second_dialect")
+FEW_BYTES, MOST_BYTES = 300, 2500
+TOLD, STOPPED, LIVES = 10, 11, 12
+
+
+class Reached:
+    """A row that is answered as it tells: what it cost, and the equations that it reached."""
+
+    def __init__(self, number, seconds, places):
+        self.number = number
+        self.seconds = seconds
+        self.places = places
+
+
+def answered(program, trial, number, row):
+    """What a row reaches, or None where it is not answered as it tells."""
+    program.constants.clear()
+    trial.ruled.clear()
+    trial.deriver.found.clear()
+    program.reached[:] = bytes(len(program.reached))
+    started = time.process_time()
+    try:
+        said = trial.differs(row)
+    except Exception:
+        return None
+    places = frozenset(place for place, at in program.places.items() if program.reached[at])
+    return None if said else Reached(number, time.process_time() - started, places)
+
+
+def with_change(program, change):
+    """The program with a change."""
+    decider = deriver(program)
+    decider.found.clear()
+    if change.definition.kind in ("data", "record"):
+        name, tokens = change.equation
+        change.definition.parts[name] = tokens
+        decider.relations.pop(change.definition.key, None)
+        return
+    equations = list(program.equations(change.definition))
+    equations[change.at] = change.equation
+    program.change(change.definition, equations)
+
+
+def verdict(program, change, rows):
+    """Whether a row tells a change, in this process: its status."""
+    try:
+        with_change(program, change)
+        trial = Trial(program)
+        for row in rows:
+            if trial.differs(row) is not None:
+                return TOLD
+        return LIVES
+    except Exception:
+        return STOPPED
+
+
+def verdict_apart(program, change, rows):
+    """The same in a process of its own, which ends after some seconds."""
+    child = os.fork()
+    if child == 0:
+        resource.setrlimit(resource.RLIMIT_CPU, (MOST_SECONDS, MOST_SECONDS))
+        resource.setrlimit(resource.RLIMIT_AS, (6 << 30, 6 << 30))
+        os._exit(verdict(program, change, rows))
+    _, status = os.waitpid(child, 0)
+    code = os.waitstatus_to_exitcode(status)
+    return code if code in (TOLD, LIVES) else STOPPED
+
+
+def changes_reached(program, reached):
+    """The changes of equations of the headline that some row reaches."""
+    places = set().union(*(one.places for one in reached))
+    closure = whole_headline(program.modules, os.path.abspath(CRATES))
+    return [change for one in closure.found.values()
+            for change in changes_of(program, one) if (one.key, change.at) in places]
+
+
+def reasons():
+    """The changes of which a reason is known why no row can tell them."""
+    with open(REASONS, encoding="utf-8") as file:
+        return {line.partition(" -- ")[0] for line in file.read().split("\n") if line and not line.startswith("#")}
+
+
+def run(seed, seconds):
+    """Tries changes for so many seconds, and prints those that live without a reason; 1 where there are such."""
+    program = definitions()
+    unknown_forms(program, whole_headline(program.modules, os.path.abspath(CRATES)))
+    all_short = [row for row in rows_to_try()[0] if len(row.job) <= MOST_BYTES]
+    rows = [row for row in all_short if len(row.job) <= FEW_BYTES and not row.place.startswith(LIKE_OTHERS)]
+    others = [row for row in all_short if row not in rows]
+    trial = Trial(program)
+    answers, _ = in_processes(lambda item: answered(program, trial, *item), list(enumerate(rows)))
+    reached = sorted((one for one in answers if one is not None and one.seconds < DEAREST), key=lambda one: one.seconds)
+    changes = changes_reached(program, reached)
+    random.Random(seed).shuffle(changes)
+    print(f"seed {seed}: {len(changes)} changes that {len(reached)} rows reach", flush=True)
+    known, end = reasons(), time.time() + seconds
+
+    def tried(change):
+        """What becomes of a change, or None where the time is over."""
+        if time.time() > end:
+            return None
+        place = (change.definition.key, change.at)
+        near = [rows[one.number] for one in reached if place in one.places]
+        chance = random.Random(seed)
+        spread = near[:ROWS_EACH // 2] + chance.sample(near, min(len(near), ROWS_EACH // 2)) + chance.sample(others, min(len(others), ROWS_EACH))
+        status = verdict_apart(program, change, spread)
+        if status == LIVES and change.name not in known:
+            print(f"lives: {change.name}", flush=True)
+        return status
+
+    found, _ = in_processes(tried, changes)
+    return summed(changes, found, known)
+
+
+def summed(changes, found, known):
+    """Prints how many were told."""
+    tried = sum(status is not None for status in found)
+    told, stopped = found.count(TOLD), found.count(STOPPED)
+    alike = sum(status == LIVES and change.name in known for change, status in zip(changes, found))
+    lives = found.count(LIVES) - alike
+    print(f"{tried} of {len(changes)} tried: {told} told by an answer, {stopped} stopped or without end, {alike} alike by a reason, {lives} live")
+    print(f"{tried - lives} passed, {lives} failed")
+    return 1 if lives else 0

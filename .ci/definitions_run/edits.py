@@ -1,0 +1,121 @@
+"""Changes of one definition: of a number, a truth value, a text, an operator, a constructor, an argument's place, or a whole answer."""
+
+from .matching import Equation
+from .modules import explicit_parameters
+from .relations import header_of
+from .scope import NameMissing, Scope
+from .tokens import Token
+
+OTHERS = {
+    "true": "false", "false": "true", "+": "-", "-": "+", "*": "+", "&&": "||", "||": "&&", "+ℤ": "-ℤ", "-ℤ": "+ℤ", "*ℤ": "+ℤ",
+    "nat_le": "nat_lt", "nat_lt": "nat_le", "int_lt": "int_le", "min": "max", "max": "min", "take": "drop", "drop": "take",
+    "list_all": "list_any", "list_any": "list_all", "int_div": "int_rem", "int_rem": "int_div", "zero": "1",
+}
+
+
+class Change:
+    """An equation of a definition, and what stands in its place."""
+
+    def __init__(self, definition, at, what, equation):
+        self.definition = definition
+        self.at = at
+        self.what = what
+        self.equation = equation
+
+    @property
+    def name(self):
+        """The definition, its case from 1, and what is changed."""
+        module = self.definition.module.name.removeprefix("Rattle.").replace(".specs.", "/")
+        return f"{module} {self.definition.name} {self.at + 1}: {self.what}"
+
+
+def with_token(tokens, at, word):
+    """The tokens with another word at a place."""
+    return tokens[:at] + [Token(word, tokens[at].line)] + tokens[at + 1:]
+
+
+def changed_word(token):
+    """Another number, text, truth value, operator or function in the place of a token, or None."""
+    if token[0].isdigit():
+        return str(int(str(token).replace("_", ""), 0) + 1)
+    if token.startswith('"'):
+        return '"q' + token[1:]
+    return OTHERS.get(str(token))
+
+
+def siblings(scope, token):
+    """The next constructor of the same type in the place of one, by the names that the module knows them by."""
+    try:
+        found = scope.own(str(token))
+    except NameMissing:
+        return None
+    if found is None or found.kind != "constructor":
+        return None
+    module = scope.module
+    path = module.imports.get(str(token), (None,))[0]
+    if path is not None and path.endswith(".TheVariants"):
+        names = [name for name, (other, _) in module.imports.items() if other == path]
+    elif str(token) in module.constructors:
+        names = [name for name, owner in module.constructors.items() if owner is module.constructors[str(token)]]
+    else:
+        names = same_type_imports(scope, str(token))
+    at = names.index(str(token))
+    return names[(at + 1) % len(names)] if len(names) > 1 else None
+
+
+def same_type_imports(scope, name):
+    """The constructors that a module imports of the type that this one is of."""
+    def owner(other):
+        path, its_name = scope.module.imports[other]
+        module = scope.modules.get(path)
+        return module.constructors.get(its_name) if module else None
+
+    if name not in scope.module.imports or owner(name) is None:
+        return [name]
+    return [other for other in scope.module.imports if owner(other) is owner(name)]
+
+
+def exchanged(tokens, at, parameters):
+    """The tokens with two names that follow each other exchanged, where both are arguments; else None.
+
+    The parameters of a relation are of different types, so their exchange is refused before it is run.
+    """
+    if at < 1 or at + 1 >= len(tokens):
+        return None
+    before, first, second = tokens[at - 1:at + 2]
+    words = (before, first, second)
+    if any(not (word[0].isalpha() or word[0].isdigit()) or word in ("if", "then", "else", "let", "in", "record", "λ") for word in words):
+        return None
+    if first in parameters or second in parameters:
+        return None
+    if first == second or first.endswith(".") or second.endswith("."):
+        return None
+    return tokens[:at] + [second, first] + tokens[at + 2:]
+
+
+def changes_of(program, definition):
+    """All changes of a definition: of its equations, or of its rules or fields."""
+    scope = Scope(program.modules, definition.module)
+    if definition.kind in ("data", "record"):
+        for number, (name, tokens) in enumerate(definition.parts.items()):
+            at = number if definition.kind == "data" else 0
+            for what, changed in changed_sides(scope, tokens, explicit_parameters(header_of(definition))):
+                yield Change(definition, at, f"in `{name}` {what}", (name, changed))
+        return
+    equations = program.equations(definition)
+    for number, equation in enumerate(equations):
+        for what, right in changed_sides(scope, equation.right):
+            yield Change(definition, number, what, Equation(equation.patterns, right, equation.number))
+        if number + 1 < len(equations) and equations[number + 1].right != equation.right:
+            yield Change(definition, number, "the answer of the next case", Equation(equation.patterns, equations[number + 1].right, equation.number))
+
+
+def changed_sides(scope, right, parameters=()):
+    """The changed right sides of an equation, each with what was changed."""
+    for at, token in enumerate(right):
+        word = changed_word(token) or siblings(scope, token)
+        if word is not None and word != token:
+            yield f"`{token}` is `{word}`", with_token(right, at, word)
+        other = exchanged(right, at, parameters)
+        if other is not None:
+            yield f"`{token}` and `{right[at + 1]}` exchanged", other

@@ -1,0 +1,112 @@
+"""What `.ci/definitions` tries: the rows, the forms, the list of what is not run, and the page."""
+
+import os
+import time
+
+from . import planted
+from .answers import CRATES, definitions
+from .headline import short_path, whole_headline
+from .page import page_differs
+from .pool import in_processes
+from .tables import all_rows
+from .tokens import FormError
+from .trials import Trial
+
+HERE = os.path.join(os.path.dirname(os.path.abspath(__file__)), "..")
+UNREAD = os.path.join(HERE, "definitions_unread")
+TABLES = (os.path.join(CRATES, "tool_runs", "data"), os.path.join(HERE, "definitions_rows"))
+LONGEST = 20_000
+DEAR = 4
+# How the jobs begin that are passed over for the time that they take: 68 sequences in each other, and a type of 128 parts.
+PASSED_OVER = ("let p=\\[58:{\\]7", "input x : {(((((((int,int),(int,int))", "input x : [(((((((int,int),(int,int))")
+
+
+def rows_to_try():
+    """The rows of all tables, and those that are passed over: those over 20,000 bytes are about the limits of a text."""
+    tried, passed_over = [], []
+    for row in all_rows(TABLES):
+        is_dear = row.lines[0].startswith(PASSED_OVER) or len(row.job) > LONGEST
+        (passed_over if is_dear else tried).append(row)
+    return tried, passed_over
+
+
+def tried(program, rows):
+    """What is said of each row, and the places of the equations that any reached."""
+    trial = Trial(program)
+
+    def said(row):
+        """What is said of a row, and of its cost where that is great."""
+        started = time.process_time()
+        try:
+            answer = trial.differs(row)
+        except Exception as error:  # a definition that takes no value is said, like any other difference
+            answer = f"stops: {error!r}"[:200]
+        seconds = time.process_time() - started
+        if seconds > DEAR:
+            print(f"{row.place} took {seconds:.1f} processor seconds", flush=True)
+        return answer
+
+    def reached():
+        """The equations that this process reached, and its costs."""
+        places = {place for place, number in program.places.items() if program.reached[number]}
+        return places, trial.by_evaluation_alone, sum(os.times()[:2])
+
+    answers, ends = in_processes(said, rows, reached)
+    return answers, set().union(*(end[0] for end in ends)), sum(end[1] for end in ends), sum(end[2] for end in ends)
+
+
+def unknown_forms(program, closure):
+    """The functions of the headline that cannot be read."""
+    failures = []
+    for one in closure.definitions:
+        if one.kind in ("abbrev", "unfoldable") and not one.is_type:
+            try:
+                program.compile(one, *program.target(one))
+            except FormError as error:
+                failures.append(str(error))
+    return failures
+
+
+def unread(closure, reached, root):
+    """What the headline rests on and no row runs, one name a line, with its file."""
+    run = {key for key, _ in reached}
+    return sorted(f"{short_path(one.module.path, root)} {one.name}" for one in closure.found.values() if one.key not in run)
+
+
+def other_names(names, listed):
+    """What is said of names that a list lacks, and of those that it should not have."""
+    return [f"no row runs it, and .ci/definitions_unread lacks it: {name}" for name in sorted(set(names) - set(listed))] + [
+        f"it is run, or no longer there, and .ci/definitions_unread has it: {name}" for name in sorted(set(listed) - set(names))]
+
+
+def list_differs(names, write):
+    """What is said where the list of what is not run is another."""
+    if write:
+        with open(UNREAD, "w", encoding="utf-8") as file:
+            file.write("# What the headline rests on and no row runs.\n" + "".join(name + "\n" for name in names))
+    with open(UNREAD, encoding="utf-8") as file:
+        return other_names(names, [line for line in file.read().split("\n") if line and not line.startswith("#")])
+
+
+def run(write):
+    """Tries all, and prints what failed; 1 where something did."""
+    started = time.process_time()
+    program = definitions()
+    root = os.path.abspath(CRATES)
+    closure = whole_headline(program.modules, root)
+    forms = unknown_forms(program, closure)
+    rows, passed_over = rows_to_try()
+    answers, reached, alone, seconds = tried(program, rows)
+    failures = [f"{row.place}: {said}" for row, said in zip(rows, answers) if said]
+    names = unread(closure, reached, root)
+    lists = list_differs(names, write)
+    mistakes = planted.failures(other_names)
+    pages = page_differs(program.modules, root, len(names), write)
+    for line in failures + forms + lists + mistakes + pages:
+        print(line)
+    print(f"{len(rows)} rows, {alone} of them by evaluation alone, {len(passed_over)} passed over:", *[row.place for row in passed_over])
+    print(f"{len(closure.found)} definitions of the headline, {len(closure.found) - len(names)} run, {len(names)} listed")
+    print(f"{seconds + time.process_time() - started:.0f} processor seconds")
+    failed = len(failures) + len(forms) + len(lists) + len(mistakes) + len(pages)
+    print(f"{len(rows) - len(failures) + len(closure.found) - len(names)} passed, {failed} failed")
+    return 1 if failed else 0

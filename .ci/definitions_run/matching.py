@@ -1,0 +1,130 @@
+"""Equations, and their patterns as tests of Python."""
+
+from .terms import equation_parts, patterns
+from .tokens import FormError
+
+
+class Equation:
+    """The patterns of one equation, and its right side as tokens."""
+
+    def __init__(self, patterns_given, right, number):
+        self.patterns = patterns_given
+        self.right = right
+        self.number = number
+
+
+def operator_patterns(left, definition):
+    """The left side of an equation of an operator `(x ⊕ y) z` as that of a function."""
+    operator = definition.name.strip("◌")
+    at = list(left).index(operator)
+    inner = [token for token in left[:at] if token != "("]
+    rest = list(left[at + 1:])
+    close = rest.index(")") if ")" in rest else len(rest)
+    return inner + rest[:close] + rest[close + 1:]
+
+
+def equations_of(definition):
+    """The equations of a definition, with patterns."""
+    made = []
+    for tokens in definition.equations:
+        left, right = equation_parts(tokens, definition.module.path)
+        if definition.name.startswith("◌"):
+            left = operator_patterns(left, definition)
+        else:
+            left = left[1:]
+        made.append(Equation(patterns(left, definition.module.path), right, tokens[0].line))
+    return made
+
+
+class Match:
+    """The tests of patterns, and the expressions of the names that they bind."""
+
+    def __init__(self, scope):
+        self.scope = scope
+        self.tests = []
+        self.bound = {}
+        self.wholes = {}
+
+    def constructor(self, name):
+        """The constructor or constant that a name in a pattern stands for, or None where it is a new name."""
+        found, fields = self.scope.find(name)
+        if found is None or fields or found.kind not in ("constructor", "constant"):
+            return None
+        return found
+
+    def take(self, pattern, path):
+        """Adds the tests of a pattern for the value at a path."""
+        kind = pattern[0]
+        if kind == "number":
+            self.tests.append(f"{path} == {pattern[1]}")
+        elif kind == "tuple":
+            self.take_tuple(pattern[1], path)
+        elif kind == "operator" and pattern[1] == "∷":
+            self.take_list(pattern, path)
+        elif kind == "name":
+            self.take_name(str(pattern[1]), path)
+        elif kind == "apply":
+            self.take_constructor(pattern, path)
+        elif kind == "binder":
+            self.take(pattern[1], path)
+        else:
+            raise FormError(f"{self.scope.module.path}: a pattern {pattern}")
+
+    def take_tuple(self, parts, path):
+        """A pair, the second part of which may be a pair."""
+        self.take(parts[0], f"{path}[0]")
+        if len(parts) == 2:
+            self.take(parts[1], f"{path}[1]")
+        else:
+            self.take_tuple(parts[1:], f"{path}[1]")
+
+    def take_list(self, pattern, path):
+        """The first items of a list, and the rest. Where the right side has the same list, it is not built again."""
+        self.wholes[repr(pattern)] = path
+        count = 0
+        heads = []
+        while pattern[0] == "operator" and pattern[1] == "∷":
+            heads.append((pattern[2], f"{path}[{count}]"))
+            pattern = pattern[3]
+            count += 1
+        if pattern == ("name", "[]"):
+            self.tests.append(f"len({path}) == {count}")
+        else:
+            self.tests.append(f"len({path}) >= {count}")
+        for head, place in heads:
+            self.take(head, place)
+        if pattern != ("name", "[]"):
+            self.take(pattern, f"dropped({path}, {count})")
+
+    def take_name(self, name, path):
+        """A constant, a constructor without arguments, or a new name."""
+        if name == "_":
+            return
+        found = self.constructor(name)
+        if found is None:
+            self.bound[name] = path
+        elif found.kind == "constructor":
+            self.tests.append(f"{path}.tag == {found.what!r}")
+        elif name == "[]":
+            self.tests.append(f"len({path}) == 0")
+        elif name == "zero":
+            self.tests.append(f"{path} == 0")
+        elif name in ("true", "false"):
+            self.tests.append(f"{path} is {name == 'true'}")
+
+    def take_constructor(self, pattern, path):
+        """A constructor with patterns for its arguments."""
+        given = []
+        while pattern[0] == "apply":
+            given.insert(0, pattern[2])
+            pattern = pattern[1]
+        if pattern == ("name", "suc"):
+            self.tests.append(f"{path} > 0")
+            self.take(given[0], f"({path} - 1)")
+            return
+        found = self.constructor(str(pattern[1])) if pattern[0] == "name" else None
+        if found is None or found.kind != "constructor":
+            raise FormError(f"{self.scope.module.path}: a pattern of no constructor: {pattern}")
+        self.tests.append(f"{path}.tag == {found.what!r}")
+        for at, part in enumerate(given):
+            self.take(part, f"{path}.given[{at}]")

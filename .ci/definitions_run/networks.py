@@ -1,0 +1,160 @@
+"""The network of a program, stepped: each node by its machine, over edges of a capacity, until none can step."""
+
+from .values import Built, apply
+
+WANT = "Rattle.kahn.specs.declared.want.Want.TheVariants."
+OPERATION = "Rattle.flow_plans.specs.Plans."
+UNIT = Built("tt")
+
+# The machine of each operation: its module and name, and what its parameters are, given the operation's own.
+MACHINES = {
+    "const": ("flow_scalar.specs.ConstMachine", "const_machine", lambda scalar: scalar),
+    "unary": ("flow_scalar.specs.UnaryMachine", "unary_machine", lambda dialect, operator: (dialect, operator)),
+    "binary": ("flow_scalar.specs.BinaryMachine", "binary_machine", lambda dialect, operator: (dialect, operator)),
+    "iota": ("flow_scalar.specs.IotaMachine", "iota_machine", lambda: UNIT),
+    "units_of": ("flow_scalar.specs.UnitsOfMachine", "units_of_machine", lambda: UNIT),
+    "sink": ("flow_scalar.specs.SinkMachine", "sink_machine", lambda kind: kind),
+    "scan_add": ("flow_folds.specs.ScanAddMachine", "scan_add_machine", lambda dialect: dialect),
+    "reduce": ("flow_folds.specs.ReduceMachine", "reduce_machine", lambda dialect, reduction: (dialect, reduction)),
+    "length_of": ("flow_folds.specs.LengthMachine", "length_machine", lambda dialect: dialect),
+    "dist": ("flow_segment.specs.DistMachine", "dist_machine", lambda kind: kind),
+    "pack": ("flow_segment.specs.PackMachine", "pack_machine", lambda kind: kind),
+    "pack_groups": ("flow_segment.specs.PackGroupsMachine", "pack_groups_machine", lambda: UNIT),
+    "flag_of_bool": ("flow_segment.specs.FlagOfBoolMachine", "flag_of_bool_machine", lambda: UNIT),
+    "same_flags": ("flow_segment.specs.SameFlagsMachine", "same_flags_machine", lambda: UNIT),
+    "concat_flags": ("flow_segment.specs.ConcatFlagsMachine", "concat_flags_machine", lambda: UNIT),
+    "part_flags": ("flow_segment.specs.PartFlagsMachine", "part_flags_machine", lambda: UNIT),
+    "the_check": ("flow_segment.specs.TheCheckMachine", "the_check_machine", lambda: UNIT),
+    "append_flags": ("flow_segment.specs.AppendFlagsMachine", "append_flags_machine", lambda: UNIT),
+    "interleave": ("flow_segment.specs.InterleaveMachine", "interleave_machine", lambda kind: kind),
+    "interleave_groups": ("flow_segment.specs.InterleaveGroupsMachine", "interleave_groups_machine", lambda: UNIT),
+    "tab": ("flow_values.specs.TabMachine", "tab_machine", lambda ty: ty),
+    "seq_of": ("flow_values.specs.SeqMachine", "seq_machine", lambda ty: ty),
+    "index": ("flow_values.specs.IndexMachine", "index_machine", lambda ty: ty),
+}
+
+
+class Node:
+    """A node: its behaviour, and the state that it is in."""
+
+    def __init__(self, behaviour, state):
+        self.process = behaviour["process"]
+        self.state = state
+
+    def want(self):
+        """What it wants: to read or write at a port, or nothing, since it has ended or faulted."""
+        want = apply(self.process["want"], self.state)
+        return want.tag[len(WANT):], want.given
+
+    def read(self, message):
+        """Takes a message."""
+        self.state = apply(apply(self.process["read"], self.state), message)
+
+    def write(self):
+        """Gives the message that it writes."""
+        message = apply(self.process["written"], self.state)
+        self.state = apply(self.process["wrote"], self.state)
+        return message
+
+
+class Network:
+    """The nodes of a layout, and the queues of its edges."""
+
+    def __init__(self, definitions, layout, capacity):
+        self.definitions = definitions
+        self.capacity = capacity
+        self.nodes = [self.opened(placed) for placed in layout]
+        self.edges = definitions.call("flow_plans.specs.Layouts", "edges_between", layout)
+        self.queues = [[] for _ in self.edges]
+        self.sent = 0
+        self.steps = 0
+        self.read_from = {(edge["reader"], edge["reader_port"]): at for at, edge in enumerate(self.edges)}
+        self.written_to = {(edge["writer"], edge["writer_port"]): at for at, edge in enumerate(self.edges)}
+
+    def opened(self, placed):
+        """The node of an operation, in the state in which it opens."""
+        operation = placed["operation"]
+        name, given = operation.tag[len(OPERATION):], operation.given
+        call = self.definitions.call
+        if name == "source":
+            source = {"kind": given[0], "cells": given[1], "all_of": None}
+            module = "flow_scalar.specs.SourceBehaviour"
+            return Node(call(module, "source_behaviour"), call(module, "source_opening", source))
+        if name == "print":
+            module = "flow_values.specs.PrintMachine"
+            return Node(call(module, "print_behaviour"), call(module, "print_opening", given[0], placed["at"]))
+        if name == "fork":
+            module = "flow_scalar.specs.ForkMachine"
+            return self.of_machine(call(module, "fork_machine"), call(module, "fork_ports", *given), placed)
+        module, machine, parameters = MACHINES[name]
+        return self.of_machine(call(module, machine), parameters(*given), placed)
+
+    def of_machine(self, machine, parameters, placed):
+        """The node of a machine with its parameters."""
+        call = self.definitions.call
+        state = call("flow_base.specs.Nodes", "opened", (parameters, machine["start"]), placed["at"])
+        return Node(call("flow_base.specs.Nodes", "behaviour_of", machine), state)
+
+    def step(self, at, node):
+        """Makes a step of a node, where it can."""
+        want, given = node.want()
+        if want == "Read":
+            queue = self.queues[self.read_from[at, given[0]]]
+            if not queue:
+                return False
+            node.read(queue.pop(0))
+        elif want == "Write":
+            queue = self.queues[self.written_to[at, given[0]]]
+            if len(queue) >= self.capacity:
+                return False
+            queue.append(node.write())
+            self.sent += 1
+        else:
+            return False
+        self.steps += 1
+        return True
+
+    def run(self, most):
+        """Steps the nodes until none can step; `False` where that takes more than so many steps."""
+        moved = True
+        while moved:
+            moved = False
+            for at, node in enumerate(self.nodes):
+                visit = 0
+                while visit < 16 and self.step(at, node):
+                    visit += 1
+                moved = moved or visit > 0
+            if self.steps > most:
+                return False
+        return True
+
+    def outcome(self, deriver):
+        """How it came out, by `HasOutcome` of kahn: `value` and the printed text, `fault` with its kind and offset, or `stalled`."""
+        wants = [node.want() for node in self.nodes]
+        faults = [given[0] for want, given in wants if want == "Faulted"]
+        if self.holds(deriver, "Value"):
+            return "value", bytes(self.nodes[-1].state["text"]), None
+        if faults:
+            named = [one for one in faults if all(self.is_before(deriver, one, other) for other in faults)]
+            return "fault", named[0]["kind"], named[0]["at"]
+        stalled = [edge for edge in range(len(self.edges)) if self.may_block(wants, edge) and self.holds(deriver, "Stalled", edge)]
+        return "stalled", stalled[0], None
+
+    def is_before(self, deriver, fault, other):
+        """Whether a fault is named where another stands too."""
+        return deriver.decide(self.definitions.call("kahn.specs.Faults", "IsNamedBefore", fault, other))
+
+    def may_block(self, wants, edge):
+        """Whether the writer of an edge waits to write to it: others are not asked for."""
+        want, given = wants[self.edges[edge]["writer"]]
+        return want == "Write" and given[0] == self.edges[edge]["writer_port"]
+
+    def holds(self, deriver, outcome, *given):
+        """Whether the configuration of the network has this outcome."""
+        nodes, edges, queues = self.nodes, self.edges, self.queues
+        process = {"want": lambda node: apply(node.process["want"], node.state)}
+        net = {"nodes": len(nodes), "edges": len(edges), "writer": lambda edge: edges[edge]["writer"],
+               "writer_port": lambda edge: edges[edge]["writer_port"]}
+        configuration = {"state": lambda node: nodes[node], "sent": lambda edge: tuple(queues[edge]), "received": lambda edge: ()}
+        built = Built("Rattle.kahn.specs.declared.outcome.Outcome.TheVariants." + outcome, given)
+        return deriver.decide(self.definitions.call("kahn.specs.Outcomes", "HasOutcome", process, net, self.capacity, configuration, built))

@@ -1,0 +1,49 @@
+"""Planted mistakes that `.ci/definitions` has to tell: a form that is not known, a name that is not known, and a list with other names."""
+
+import os
+import tempfile
+
+from .modules import read_modules
+from .program import Program
+from .tokens import FormError
+
+HEAD = "-- A planted module.\nuse Rattle.std.specs.Prelude.{ℕ, suc}\n\n"
+SIGNATURE = "abbrev pub planted : ℕ → ℕ\n"
+# Each case: the lines after the head, and what is said, after the file's name.
+FORMS = [
+    (SIGNATURE + "planted n = n\n", None),
+    (SIGNATURE + "other n = n\n", ":5: an equation of no name"),
+    (SIGNATURE + "planted n\n", ":5: an equation without `=`"),
+    (SIGNATURE + "planted n = (n\n", ":5: a term that ends too early"),
+    (SIGNATURE + "planted n = n )\n", ":5: what comes after a term"),
+    (SIGNATURE + "planted n = unheard n\n", ":5: the name `unheard` is not known"),
+]
+
+
+def said_of(lines):
+    """What is said of a module of these lines, or None."""
+    with tempfile.TemporaryDirectory() as root:
+        folder = os.path.join(root, "crate", "specs")
+        os.makedirs(folder)
+        with open(os.path.join(folder, "Planted.antt"), "w", encoding="utf-8") as file:
+            file.write(HEAD + lines)
+        try:
+            program = Program(read_modules(root))
+            definition = program.definition("crate.specs.Planted", "planted")
+            program.compile(definition, *program.target(definition))
+        except FormError as error:
+            return str(error).partition("Planted.antt")[2]
+    return None
+
+
+def failures(differs):
+    """The planted mistakes that are not told. `differs` compares two lists of names."""
+    said = []
+    for lines, wanted in FORMS:
+        got = said_of(lines)
+        if (got is None) != (wanted is None) or (wanted and not got.startswith(wanted)):
+            said.append(f"planted {lines.splitlines()[-1]!r}: got {got}, where it has to be {wanted}")
+    for names, listed, count in ((["a"], ["a"], 0), (["a", "b"], ["a"], 1), (["a"], ["a", "b"], 1), (["a"], ["b"], 2)):
+        if len(differs(names, listed)) != count:
+            said.append(f"planted lists {names} and {listed} do not differ by {count}")
+    return said

@@ -1,0 +1,351 @@
+"""Relations, decided: the `data` and `record` of the definitions as rules, from which an instance is derived.
+
+A rule's conclusion is compared with what is known, its premises are met in an order in which each has what it needs, and what is asked
+for is then computed. Which arguments are asked for is told by a hole. What is found is kept. A premise of all or of some values is not
+decided, nor is a conclusion that takes a known list apart at an unknown place.
+"""
+
+from .compiling import Writer, binder_variables, binds, implication_of
+from .matching import Match
+from .modules import explicit_parameters
+from .terms import parsed
+from .tokens import binder_names
+from .values import Built, Claim, TYPE, apply, key_of
+
+HOLE = object()
+
+
+def is_digit(letter, base):
+    """Whether a letter is a digit of a base."""
+    return chr(letter).isascii() and chr(letter).isalnum() and int(chr(letter), 36) < base
+
+
+# The claims of the kit that are decided.
+KIT_CLAIMS = {
+    "Unit": lambda deriver: True, "⊤": lambda deriver: True, "⊥": lambda deriver: False,
+    "¬": lambda deriver, claim: not deriver.decide(claim),
+    "IsTrue": lambda deriver, truth: truth, "IsFalse": lambda deriver, truth: not truth,
+    "IsNumeral": lambda deriver, base, text: len(text) > 0 and all(is_digit(letter, base) for letter in text),
+    "IsInRange": lambda deriver, low, high, number: low <= number <= high,
+    "IsSome": lambda deriver, option: option.tag == "Some",
+    "All": lambda deriver, claim, items: all(deriver.decide(apply(claim, item)) for item in items),
+    "Contains": lambda deriver, items, item: key_of(item) in [key_of(one) for one in items],
+}
+
+
+class Undecided(Exception):
+    """A claim that is not decided here."""
+
+
+class Rule:
+    """One constructor: what it concludes, its premises, and the names that it binds."""
+
+    def __init__(self, definition, name, tokens):
+        self.name = name
+        self.variables = binder_names(tokens, ("(", "{"))
+        term = parsed(tokens, definition.module.path)
+        self.premises = []
+        while term[0] == "operator" and term[1] == "→":
+            if not binds(term[2]):
+                self.premises.append(term[2])
+            term = term[3]
+        self.conclusion = arguments_of(term)[1]
+
+
+def arguments_of(term):
+    """A name and its arguments."""
+    given = []
+    while term[0] == "apply":
+        given.insert(0, term[2])
+        term = term[1]
+    return term, given
+
+
+def names_in(term):
+    """The names that stand in a term, without the fields that are taken of them."""
+    if not isinstance(term, (tuple, list)):
+        return set()
+    if isinstance(term, tuple) and len(term) == 2 and term[0] == "name":
+        return {str(term[1]), str(term[1]).split(".")[0]}
+    return set().union(set(), *(names_in(part) for part in term))
+
+
+class Relation:
+    """A `data`: its parameters and rules."""
+
+    def __init__(self, program, definition):
+        self.definition = definition
+        self.parameters = definition.parameters + explicit_parameters(header_of(definition))
+        self.rules = [Rule(definition, name, tokens) for name, tokens in definition.parts.items()]
+        self.writer = Writer(program, definition)
+
+
+def header_of(definition):
+    """The tokens of a `data` or `record` that bind its parameters."""
+    depth = 0
+    for at, token in enumerate(definition.signature):
+        depth += {"(": 1, "{": 1, ")": -1, "}": -1}.get(token, 0)
+        if token == ":" and depth == 0:
+            return definition.signature[:at]
+    return definition.signature
+
+
+class Deriver:
+    """Derives instances of relations by the rules of a program."""
+
+    def __init__(self, program):
+        self.program = program
+        self.relations = {}
+        self.expressions = {}
+        self.patterns = {}
+        self.names = {}
+        self.found = {}
+        self.open = set()
+
+    def relation(self, definition):
+        """The rules of a relation."""
+        if definition.key not in self.relations:
+            self.relations[definition.key] = Relation(self.program, definition)
+        return self.relations[definition.key]
+
+    def value(self, relation, term, bound):
+        """The value of a term, where names have these values."""
+        names = sorted(self.names_of(term) & bound.keys())
+        key = (relation.definition.key, id(term), tuple(names))
+        if key not in self.expressions:
+            inner = {name: f"b_{at}" for at, name in enumerate(names)}
+            written = relation.writer.write(term, inner)
+            self.expressions[key] = term, eval(f"lambda {', '.join(inner.values())}: {written}", self.program.space)
+        return self.expressions[key][1](*(bound[name] for name in names))
+
+    def is_known(self, term, rule, bound):
+        """Whether all variables in a term have values."""
+        return not (self.names_of(term) & rule.variables) - bound.keys()
+
+    def names_of(self, term):
+        """The names that stand in a term, which are looked for once."""
+        if id(term) not in self.names:
+            self.names[id(term)] = term, frozenset(names_in(term))
+        return self.names[id(term)][1]
+
+    def derive(self, definition, given):
+        """The arguments of an instance whose known ones are these, or None. Holes ask for the others."""
+        key = (definition.key, tuple("?" if one is HOLE else key_of(one) for one in given))
+        if key in self.found:
+            return self.found[key]
+        if key in self.open:
+            raise Undecided(f"{definition.name} rests on itself")
+        self.open.add(key)
+        try:
+            answer = self.by_record(definition, given) if definition.kind == "record" else self.by_rules(definition, given)
+        finally:
+            self.open.discard(key)
+        self.found[key] = answer
+        return answer
+
+    def by_rules(self, definition, given):
+        """An instance by the first rule that gives one."""
+        relation = self.relation(definition)
+        for number, rule in enumerate(relation.rules):
+            answer = self.by_rule(relation, rule, given)
+            if answer is not None:
+                self.program.reached[self.program.place_of(definition, number)] = 1
+                return answer
+        return None
+
+    def by_rule(self, relation, rule, given):
+        """An instance by one rule."""
+        count = len(relation.parameters)
+        bound = dict(zip(relation.parameters, given[:count]))
+        for parameter in [name for name, one in bound.items() if one is HOLE]:
+            rule.variables.add(parameter)
+            del bound[parameter]
+        later = []
+        for term, one in zip(rule.conclusion[len(rule.conclusion) - len(given) + count:], given[count:]):
+            if one is HOLE:
+                continue
+            if not self.take(relation, rule, term, one, bound, later):
+                return None
+        if not self.meet(relation, rule, list(rule.premises), bound):
+            return None
+        if any(key_of(self.value(relation, term, bound)) != key_of(one) for term, one in later):
+            return None
+        terms = [("name", name) for name in relation.parameters] + rule.conclusion[len(rule.conclusion) - len(given) + count:]
+        return tuple(self.value(relation, term, bound) if one is HOLE else one for term, one in zip(terms, given))
+
+    def take(self, relation, rule, term, value, bound, later):
+        """Compares a term with a known value: by its form, or, where it is computed, once its variables are known."""
+        if self.is_known(term, rule, bound):
+            return key_of(self.value(relation, term, bound)) == key_of(value)
+        if not is_pattern(term, relation.writer.scope, rule):
+            later.append((term, value))
+            return True
+        return self.match(relation, rule, term, value, bound)
+
+    def match(self, relation, rule, pattern, value, bound):
+        """Compares a pattern with a value, and binds its names; a name that is bound has to have the same value."""
+        test, parts = self.compiled(relation, pattern)
+        if not test(value):
+            return False
+        for name, part in parts:
+            one = part(value)
+            if name in bound and key_of(bound[name]) != key_of(one):
+                return False
+            bound[name] = one
+        return True
+
+    def compiled(self, relation, pattern):
+        """A pattern as a test, and the names that it binds, each with what takes its value out of a value."""
+        key = relation.definition.key, id(pattern)
+        if key not in self.patterns:
+            match = Match(relation.writer.scope)
+            match.take(pattern, "value")
+            test = eval(f"lambda value: {' and '.join(match.tests) or 'True'}", self.program.space)
+            parts = [(name, eval(f"lambda value: {path}", self.program.space)) for name, path in match.bound.items()]
+            self.patterns[key] = pattern, (test, parts)
+        return self.patterns[key][1]
+
+    def meet(self, relation, rule, premises, bound):
+        """Whether all premises are met, each once it has what it needs."""
+        while premises:
+            for at, premise in enumerate(premises):
+                met = self.premise(relation, rule, premise, bound)
+                if met is False:
+                    return False
+                if met is True:
+                    premises.pop(at)
+                    break
+            else:
+                raise Undecided(f"{relation.definition.name}, {rule.name}: a premise that lacks what it needs")
+        return True
+
+    def premise(self, relation, rule, term, bound):
+        """Whether a premise is met; None where it lacks what it needs."""
+        if term[0] == "operator" and term[1] == "≡":
+            return self.equation(relation, rule, term, bound)
+        if term[0] == "operator" and term[1] == "→" and binds(term[2]):
+            return self.every(relation, rule, term, bound)
+        if term[0] == "operator":
+            return self.decide(self.value(relation, term, bound)) if self.is_known(term, rule, bound) else None
+        head, given = arguments_of(term)
+        found = relation.writer.scope.find(str(head[1]))[0] if head[0] == "name" else None
+        if found is None or found.kind != "type" or getattr(found.what, "kind", None) not in ("data", "record"):
+            return self.decide(self.value(relation, term, bound)) if self.is_known(term, rule, bound) else None
+        return self.instance(relation, rule, found.what, given, bound)
+
+    def equation(self, relation, rule, term, bound):
+        """Whether both sides are the same; one may be a pattern of what is not known yet."""
+        left, right = term[2], term[3]
+        if not self.is_known(left, rule, bound):
+            left, right = right, left
+        if not self.is_known(left, rule, bound):
+            return None
+        value = self.value(relation, left, bound)
+        if self.is_known(right, rule, bound):
+            return key_of(self.value(relation, right, bound)) == key_of(value)
+        return self.match(relation, rule, right, value, bound) if is_pattern(right, relation.writer.scope, rule) else None
+
+    def every(self, relation, rule, term, bound):
+        """Whether a claim holds of all values that make an equation true: those of which a known value is made, if it is."""
+        names = binder_variables(term[2])
+        claim = implication_of(term[3])
+        if claim[0] != "operator" or claim[1] != "→" or claim[2][0] != "operator" or claim[2][1] != "≡":
+            return None
+        bound = {name: value for name, value in bound.items() if name not in names}
+        met = self.equation(relation, rule, claim[2], bound)
+        return True if met is False else met and self.premise(relation, rule, claim[3], bound)
+
+    def instance(self, relation, rule, definition, given, bound):
+        """Whether there is an instance of a relation; what is not known of it is found, where it is a pattern."""
+        passed = [("name", name) for name in definition.parameters] if definition.module is relation.definition.module else []
+        asked, terms = [], passed + given
+        for term in terms:
+            if self.is_known(term, rule, bound):
+                asked.append(self.value(relation, term, bound))
+            elif is_pattern(term, relation.writer.scope, rule):
+                asked.append(HOLE)
+            else:
+                return None
+        if sum(one is HOLE for one in asked) > most_holes(definition):
+            return None
+        answer = self.derive(definition, tuple(asked))
+        if answer is None:
+            return False
+        return all(self.match(relation, rule, term, one, bound) for term, one, was in zip(terms, answer, asked) if was is HOLE)
+
+    def by_record(self, definition, given):
+        """An instance of a record whose fields are claims: each in turn."""
+        relation = self.relation_of_record(definition)
+        return self.by_rule(relation, relation.rules[0], given)
+
+    def relation_of_record(self, definition):
+        """A record as a relation of one rule, whose premises are its fields."""
+        if definition.key not in self.relations:
+            relation = Relation.__new__(Relation)
+            relation.definition = definition
+            relation.parameters = definition.parameters + explicit_parameters(header_of(definition))
+            rule = Rule.__new__(Rule)
+            rule.name, rule.variables, rule.conclusion = "fields", set(), []
+            rule.premises = [parsed(tokens, definition.module.path) for tokens in definition.parts.values()]
+            relation.rules, relation.writer = [rule], Writer(self.program, definition)
+            self.relations[definition.key] = relation
+        self.program.reached[self.program.place_of(definition, 0)] = 1
+        return self.relations[definition.key]
+
+    def decide(self, claim):
+        """Whether a claim holds."""
+        if type(claim) is Claim:
+            return self.decide_claim(claim)
+        if type(claim) is Built and isinstance(claim.tag, tuple):
+            _, path, name = claim.tag
+            if name in KIT_CLAIMS:
+                return KIT_CLAIMS[name](self, *claim.given)
+            module = self.program.modules.get(path)
+            if module is not None and name in module.definitions:
+                return self.derive(module.definitions[name], claim.given) is not None
+        raise Undecided("a claim of all or of some values" if claim is TYPE else repr(claim)[:60])
+
+    def decide_claim(self, claim):
+        """Whether a claim of two parts holds."""
+        left, right, operator = claim.left, claim.right, claim.operator
+        if operator in ("≡", "≢"):
+            return (key_of(left) == key_of(right)) == (operator == "≡")
+        if operator in ("<", "≤"):
+            return left < right or (operator == "≤" and left == right)
+        if operator in ("every", "some"):
+            return (all if operator == "every" else any)(self.decide(right(number)) for number in range(left))
+        if operator == "×":
+            return self.decide(left()) and self.decide(right())
+        if operator == "⊎":
+            return self.decide(left()) or self.decide(right())
+        if operator == "→":
+            return not self.decide(left()) or self.decide(right())
+        return self.decide(left()) == self.decide(right())
+
+
+def most_holes(definition):
+    """How many arguments are found at most: one, but for those relations that give two."""
+    return 2 if definition.name in ("ProgramTypes", "HasTokens") else 1
+
+
+def is_pattern(term, scope, rule):
+    """Whether a term is made of constructors and variables alone."""
+    kind = term[0]
+    if kind == "number":
+        return True
+    if kind == "name":
+        return str(term[1]) in rule.variables or is_constructor(str(term[1]), scope)
+    if kind == "apply":
+        head, given = arguments_of(term)
+        if head[0] != "name" or not (is_constructor(str(head[1]), scope) or str(head[1]) == "suc"):
+            return False
+        return all(is_pattern(one, scope, rule) for one in given)
+    if kind == "operator":
+        return term[1] == "∷" and is_pattern(term[2], scope, rule) and is_pattern(term[3], scope, rule)
+    return kind == "tuple" and all(is_pattern(one, scope, rule) for one in term[1])
+
+
+def is_constructor(name, scope):
+    """Whether a name is a constructor or a constant."""
+    found, fields = scope.find(name)
+    return found is not None and not fields and found.kind in ("constructor", "constant")

@@ -1,0 +1,253 @@
+"""Terms of equations: a tree of tuples, the first entry of which names the form.
+
+name NAME | number N | text BYTES | apply F X | operator OP LEFT RIGHT | if C A B | let NAME VALUE BODY | lambda NAMES BODY
+tuple TERMS | field TERM NAME | record BASE FIELDS | cases TERM ALTERNATIVES | type
+"""
+
+import ast
+import re
+
+from .tokens import FormError
+
+TIGHTNESS = {
+    "→": 0, "↔": 0, "⊎": 1, "×": 2, "≡": 3, "≢": 3, "<": 3, "≤": 3, "||": 4, "&&": 5, "==": 6, "⊕": 6,
+    "∷": 8, "++": 8, "+": 9, "-": 9, "+ℤ": 9, "-ℤ": 9, "*": 10, "*ℤ": 10, "/": 10, "%": 10, "^": 11,
+}
+RIGHT = {"→", "⊎", "×", "∷", "++", "||", "&&", "^"}
+ENDS = {")", "}", "]", ",", ";", "then", "else", "in", "=", "|", "↦", "as", "where", ":"}
+
+
+class Parser:
+    """Reads the tokens of one term, or of patterns."""
+
+    def __init__(self, tokens, path):
+        self.tokens = tokens
+        self.path = path
+        self.at = 0
+
+    def fail(self, why):
+        """Refuses the form, with its place."""
+        token = self.tokens[min(self.at, len(self.tokens) - 1)]
+        around = " ".join(self.tokens[max(0, self.at - 4):self.at + 4])
+        raise FormError(f"{self.path}:{token.line}: {why}: {around}")
+
+    def peek(self):
+        """The token that comes next, or None at the end."""
+        return self.tokens[self.at] if self.at < len(self.tokens) else None
+
+    def next(self):
+        """Takes the next token."""
+        if self.at >= len(self.tokens):
+            self.fail("a term that ends too early")
+        self.at += 1
+        return self.tokens[self.at - 1]
+
+    def want(self, word):
+        """Takes this token."""
+        if self.next() != word:
+            self.at -= 1
+            self.fail(f"no `{word}`")
+
+    def whole(self):
+        """The term of all tokens."""
+        term = self.term()
+        if self.peek() is not None:
+            self.fail("what comes after a term")
+        return term
+
+    def term(self, tightness=0):
+        """A term whose operators bind at least so tightly."""
+        left = self.application()
+        while self.peek() in TIGHTNESS and TIGHTNESS[self.peek()] >= tightness:
+            operator = str(self.next())
+            level = TIGHTNESS[operator]
+            right = self.term(level if operator in RIGHT else level + 1)
+            left = ("operator", operator, left, right)
+        return left
+
+    def application(self):
+        """A term with its arguments; those in braces are implicit, and passed over."""
+        if self.peek() == "elim":
+            return self.elimination()
+        if self.peek() == "¬":
+            return ("apply", ("name", self.next()), self.application())
+        term = self.atom()
+        while True:
+            token = self.peek()
+            if token is None or token in TIGHTNESS or token in ENDS:
+                return term
+            if token == "{":
+                self.skip_braces()
+            else:
+                term = ("apply", term, self.atom())
+
+    def skip_braces(self):
+        """Passes over an implicit argument or binder."""
+        depth = 0
+        while True:
+            token = self.next()
+            depth += {"{": 1, "}": -1}.get(token, 0)
+            if depth == 0:
+                return
+
+    def elimination(self):
+        """`elim TERM [ PATTERN ↦ TERM | .. ]`."""
+        self.next()
+        scrutinee = self.atom()
+        if self.peek() == "as":
+            self.next()
+            self.atom()
+        self.want("[")
+        alternatives = []
+        while True:
+            pattern = self.term()
+            self.want("↦")
+            alternatives.append((pattern, self.term()))
+            if self.next() == "]":
+                return ("cases", scrutinee, alternatives)
+
+    def atom(self):
+        """A term that needs no brackets, with the fields that are taken of it."""
+        token = self.next()
+        if token == "(":
+            return self.fields(self.bracketed())
+        if token == "{":
+            return self.implicit()
+        if token == "λ":
+            return self.function()
+        if token == "if":
+            return self.choice()
+        if token == "let":
+            return self.binding()
+        if token == "record":
+            return self.record()
+        if token.startswith('"'):
+            return ("text", tuple(ast.literal_eval(str(token)).encode()))
+        if token[0].isdigit():
+            return ("number", int(str(token).replace("_", ""), 0))
+        if token in ENDS or token in TIGHTNESS:
+            self.at -= 1
+            self.fail("no term")
+        return self.fields(("name", token))
+
+    def implicit(self):
+        """The implicit binder of a type."""
+        names = []
+        while self.peek() not in (":", "}"):
+            names.append(("name", self.next()))
+        if self.peek() == ":":
+            self.next()
+            self.term()
+        self.want("}")
+        return ("binder", names[0], None) if len(names) == 1 else ("binder", ("apply", *names[:2]), None)
+
+    def fields(self, term):
+        """A term, and the fields that are taken of it: `.name` right after a bracket."""
+        while self.peek() is not None and re.match(r"\.[^\s.]", self.peek()):
+            for name in self.next()[1:].split("."):
+                term = ("field", term, name)
+        return term
+
+    def bracketed(self):
+        """What stands in brackets: a term, a tuple, a term with its type, or the binder of a type."""
+        if self.peek() in TIGHTNESS and self.tokens[self.at + 1] == ")":
+            operator = self.next()
+            self.next()
+            return ("name", f"◌{operator}◌")
+        parts = [self.term()]
+        while self.peek() == ",":
+            self.next()
+            parts.append(self.term())
+        if self.peek() == ":":
+            self.next()
+            written = self.term()
+            self.want(")")
+            return ("binder", parts[0], written)
+        self.want(")")
+        return parts[0] if len(parts) == 1 else ("tuple", parts)
+
+    def function(self):
+        """`λ a (b : T) c. BODY`."""
+        names = []
+        while True:
+            token = self.next()
+            if token == "(":
+                names.append(str(self.next()))
+                self.skip_type()
+                if self.peek() == ".":
+                    self.next()
+                    break
+            elif token == "{":
+                self.at -= 1
+                self.skip_braces()
+            elif token.endswith("."):
+                names.append(str(token[:-1]))
+                break
+            else:
+                names.append(str(token))
+        return ("lambda", names, self.term())
+
+    def skip_type(self):
+        """Passes over the type of a binder, up to its bracket."""
+        depth = 1
+        while depth:
+            depth += {"(": 1, ")": -1}.get(self.next(), 0)
+
+    def choice(self):
+        """`if C then A else B`."""
+        condition = self.term()
+        self.want("then")
+        positive = self.term()
+        self.want("else")
+        return ("if", condition, positive, self.term())
+
+    def binding(self):
+        """`let x = VALUE in BODY`, where a type may stand after the name."""
+        name = str(self.next())
+        while self.peek() != "=":
+            self.next()
+        self.next()
+        value = self.term()
+        self.want("in")
+        return ("let", name, value, self.term())
+
+    def record(self):
+        """`record { field = TERM; .. }`, or of another record with some fields changed."""
+        base = None if self.peek() == "{" else self.atom()
+        self.want("{")
+        fields = []
+        while self.peek() != "}":
+            name = str(self.next())
+            self.want("=")
+            fields.append((name, self.term()))
+            if self.peek() == ";":
+                self.next()
+        self.next()
+        return ("record", base, fields)
+
+
+def parsed(tokens, path):
+    """The term of these tokens."""
+    return Parser(tokens, path).whole()
+
+
+def patterns(tokens, path):
+    """The patterns of these tokens; those in braces are implicit, and passed over."""
+    parser = Parser(tokens, path)
+    found = []
+    while parser.peek() is not None:
+        if parser.peek() == "{":
+            parser.skip_braces()
+        else:
+            found.append(parser.atom())
+    return found
+
+
+def equation_parts(tokens, path):
+    """The left and the right side of an equation."""
+    depth = 0
+    for at, token in enumerate(tokens):
+        depth += {"(": 1, "{": 1, ")": -1, "}": -1}.get(token, 0)
+        if token == "=" and depth == 0:
+            return tokens[:at], tokens[at + 1:]
+    raise FormError(f"{path}:{tokens[0].line}: an equation without `=`")
