@@ -13,27 +13,32 @@ from trials import PASSED, verdict_of
 TRIED = re.compile(r"(?m)^rt: must-fail (\S+\.edit): (.*)$")
 # What rt itself says where only the names of a proof file refuse an edit.
 BY_A_NAME = "only because a proof file names"
+# What rt says of an edit that cannot be applied or compiled, which a kit of its own counts as neither passed nor failed.
+BAD = "BAD EDIT: "
 
 
 def hold(module):
     """Has rt's own try of an edit fail where what its check says is no refusal by the reading of .ci/wrong: a goal of the function
     that the edit strikes is not proved."""
     heard, plain_check, plain_try, codes = threading.local(), module.checked, module.must_fail, {}
+    # A kit tells what a try came to by a word of its own, or by whether the edit is refused.
+    refusals = {True, *(getattr(module, it, True) for it in ("REFUSED", "AT_LIMIT"))}
+    missed = getattr(module, "MISSED", False)
 
     def checked(*words):
         heard.last = plain_check(*words)
         return heard.last
 
     def must_fail(crate, file, *words):
-        is_refused, said = plain_try(crate, file, *words)
-        if not is_refused:
-            return False, said
+        kind, said = plain_try(crate, file, *words)
+        if kind not in refusals:
+            return kind, said
         if crate.name not in codes:
             codes[crate.name] = Code(crate)
         edit = Edit(crate, file, codes[crate.name])
         report = Report(crate, codes[crate.name].functions, heard.last.returncode, heard.last.stdout)
         verdict = verdict_of(edit, report)
-        return verdict.kind in PASSED, f"must-fail {edit.label}: {verdict.kind}: {verdict.text}"
+        return kind if verdict.kind in PASSED else missed, f"must-fail {edit.label}: {verdict.kind}: {verdict.text}"
 
     module.checked, module.must_fail = checked, must_fail
 
@@ -44,10 +49,14 @@ def files(crates):
 
 
 def untried(labels, said):
-    """What is wrong with the edits of these names by what rt ci printed: each that it did not try, and each that only a name refused."""
+    """What is wrong with the edits of these names by what rt ci printed: each that it did not try or could not read, and each that
+    only a name refused."""
     told = dict(TRIED.findall(said))
     for label in labels:
         if label not in told:
             yield f"must-fail {label}: NOT TRIED: rt ci says nothing of it"
         elif BY_A_NAME in told[label]:
             yield f"must-fail {label}: ONLY BY A NAME: {told[label]}"
+        elif told[label].startswith(BAD) and hasattr(rt, "BAD"):
+            # (a kit without such a word has failed by it already)
+            yield f"must-fail {label}: {told[label]}"
