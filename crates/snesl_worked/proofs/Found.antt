@@ -1,11 +1,11 @@
 -- The meaning of a program without inputs, found by computing.
-use Rattle.std.proofs.Common.{◌≡◌, ℕ, zero, suc, ◌+◌, ◌≤◌, leb, true, List, [], ◌∷◌, ◌++◌, length, drop, Option, Some, None, Result, Ok, Err, inl, inr, refl, sym, subst, arith, codes}
+use Rattle.std.proofs.Common.{◌≡◌, ℕ, zero, suc, ◌+◌, ◌≤◌, leb, true, List, [], ◌∷◌, ◌++◌, length, drop, map, Option, Some, None, Result, Ok, Err, inl, inr, refl, sym, subst, arith, codes}
 use Rattle.std.proofs.lemmas.Bool.{leb-true}
 use Rattle.snesl_data.specs.declared.dialect.Dialect.{Dialect}
 use Rattle.snesl_data.specs.declared.refusal.Refusal.{Refusal}
 use Rattle.snesl_data.specs.declared.refusal.Refusal.TheVariants as refusals
 use Rattle.snesl_data.specs.Types.{Ty}
-use Rattle.snesl_values.specs.Inputs.{Declaration, InputMeans, spells, lawful}
+use Rattle.snesl_values.specs.Inputs.{Declaration, InputAnswer, InputMeans, spells, refused_at, lawful}
 use Rattle.snesl_values.specs.InputTokens.{none, next, next_at, next_token, first as first_token}
 use Rattle.snesl_lexer.specs.declared.token.Kind.{Kind}
 use Rattle.snesl_lexer.specs.declared.token.Token.{Token}
@@ -22,8 +22,8 @@ use Rattle.snesl_evaluation.specs.Eval.{program_value}
 use Rattle.snesl_types.specs.Programs.{Declared, ProgramTypes, HasTyping}
 use Rattle.snesl_types.specs.Verdicts.{program_verdict}
 use Rattle.snesl_types.proofs.ProgramSound.{has_typing, refused_first}
-use Rattle.snesl_meaning.specs.Meaning.{Meaning, Means, meaning_of, no_program, ill_typed, evaluated, is_refused}
-use Rattle.snesl_worked.specs.Rows.{Row, Hold}
+use Rattle.snesl_meaning.specs.Meaning.{Meaning, Means, meaning_of, no_program, ill_typed, bad_input, evaluated, is_refused}
+use Rattle.snesl_worked.specs.Rows.{Row, Holds, Hold}
 
 -- Tokens, or the first bad byte.
 
@@ -141,17 +141,101 @@ of_reading text fits None h = tt
 is_found : (text : List ℕ) → length text ≤ greatest_length → IsMeaning text (found text)
 is_found text fits = of_reading text fits (reading (length text) (dialect_of text) 0 text) (reads (length text) (dialect_of text) 0 text)
 
+-- Programs with inputs.
+
+-- a typed program: its tree, what it declares, and its type
+abbrev pub TypedTree : Type 0
+TypedTree = ProgramTree × (Declared × Ty)
+
+abbrev by_typing : ProgramTree → Result (Declared × Ty) Refusal → Option TypedTree
+by_typing program (Ok typing) = Some (program, typing)
+by_typing program (Err refusal) = None
+
+abbrev by_parsing : List ℕ → Result ProgramTree Refusal → Option TypedTree
+by_parsing text (Ok program) = by_typing program (program_verdict text program)
+by_parsing text (Err refusal) = None
+
+abbrev by_tokens : List ℕ → Option (Result (List Token) ℕ) → Option TypedTree
+by_tokens text (Some (Ok tokens)) = by_parsing text (answer reader greatest_depth (length text) reader.start tokens)
+by_tokens text other = None
+
+-- the typed program of a text of at most the greatest length
+abbrev pub typed_tree : List ℕ → Option TypedTree
+typed_tree text = by_tokens text (reading (length text) (dialect_of text) 0 text)
+
+-- this is the typed program of the text, if one was found
+abbrev IsTyped : List ℕ → Option TypedTree → Type 0
+IsTyped text (Some (program, typing)) = Parses text (Ok program) × HasTyping text program typing.0.inputs typing.1
+IsTyped text None = Unit {0}
+
+is_typed : (text : List ℕ) → length text ≤ greatest_length → IsTyped text (typed_tree text)
+is_typed text fits = of_reads (reading (length text) (dialect_of text) 0 text) (reads (length text) (dialect_of text) 0 text)
+  where
+    of_typing : (program : ProgramTree) → Parses text (Ok program) → (verdict : Result (Declared × Ty) Refusal) → program_verdict text program ≡ verdict
+        → IsTyped text (by_typing program verdict)
+    of_typing program p (Ok typing) e = (p, has_typing text program typing.0 typing.1 e)
+    of_typing program p (Err refusal) e = tt
+
+    of_parsing : (it : Result ProgramTree Refusal) → Parses text it → IsTyped text (by_parsing text it)
+    of_parsing (Ok program) p = of_typing program p (program_verdict text program) refl
+    of_parsing (Err refusal) p = tt
+
+    of_reads : (it : Option (Result (List Token) ℕ)) → ReadsFrom (dialect_of text) 0 text it → IsTyped text (by_tokens text it)
+    of_reads (Some (Ok tokens)) h =
+        of_parsing (answer reader greatest_depth (length text) reader.start tokens) (read fits h (programs_answer greatest_depth (length text) tokens (omega arith)))
+    of_reads (Some (Err at)) h = tt
+    of_reads None h = tt
+
+-- the meaning of a typed program by what its input text answers
+abbrev pub answered : List ℕ → TypedTree → InputAnswer → Meaning
+answered text it (spells environment) = meaning_of (program_value text it.0 environment)
+answered text it (refused_at at) = is_refused (refusals.BadInput at)
+
+-- the input text answers this for what the program declares, and the row has the meaning that follows
+abbrev pub FollowsFrom : Row → InputAnswer → Option TypedTree → Type 0
+FollowsFrom row told (Some it) =
+    InputMeans it.0.dialect it.1.0.inputs (codes row.input) told × (answered (codes row.program) it told ≡ row.meaning)
+FollowsFrom row told None = ⊥
+
+pub row_holds_on : (row : Row) (told : InputAnswer) → leb (length (codes row.program)) greatest_length ≡ true
+    → FollowsFrom row told (typed_tree (codes row.program)) → Holds row
+row_holds_on row told short h = of_typed (typed_tree (codes row.program)) (is_typed (codes row.program) (leb-true _ _ short)) h
+  where
+    of_answer : (program : ProgramTree) (typing : Declared × Ty) → Parses (codes row.program) (Ok program) → (declared : Declared) → ProgramTypes (codes row.program) program declared typing.1
+        → (answer : InputAnswer) → InputMeans program.dialect declared.inputs (codes row.input) answer
+        → Means (codes row.program) (codes row.input) (answered (codes row.program) (program, typing) answer)
+    of_answer program typing p declared types (spells environment) means = evaluated p types means
+    of_answer program typing p declared types (refused_at at) means = bad_input p types means
+
+    of_typed : (it : Option TypedTree) → IsTyped (codes row.program) it → FollowsFrom row told it → Holds row
+    of_typed (Some (program, typing)) (p, (declared, types, same)) (means, e) =
+        subst (Means (codes row.program) (codes row.input)) e
+        (of_answer program typing p declared types told (subst (λ inputs. InputMeans program.dialect inputs (codes row.input) told) (sym same) means))
+    of_typed None typed h = absurd h
+
 -- Rows.
 
--- the meaning of each row is the one that is found
-abbrev pub AreFound : List Row → Type 0
-AreFound [] = Unit {0}
-AreFound (row ∷ rows) =
-    (leb (length (codes row.program)) greatest_length ≡ true) × (found (codes row.program) ≡ Some row.meaning) × AreFound rows
+-- the rows have no input text and short programs, and the meaning of each is the one that is found
+pub record AreFound (rows : List Row) : Type 0 where
+  pub plain : map (λ row. codes row.input) rows ≡ map (λ row. []) rows
+  pub short : map (λ row. leb (length (codes row.program)) greatest_length) rows ≡ map (λ row. true) rows
+  pub same : map (λ row. found (codes row.program)) rows ≡ map (λ row. Some row.meaning) rows
 
 row_holds : (text : List ℕ) (m : Meaning) → leb (length text) greatest_length ≡ true → found text ≡ Some m → Means text [] m
 row_holds text m short e = subst (λ it. IsMeaning text it) e (is_found text (leb-true _ _ short))
 
+one_holds : (row : Row) → codes row.input ≡ [] → leb (length (codes row.program)) greatest_length ≡ true → found (codes row.program) ≡ Some row.meaning → Holds row
+one_holds row plain short e = subst (λ input. Means (codes row.program) input row.meaning) (sym plain) (row_holds (codes row.program) row.meaning short e)
+
 pub rows_hold : (rows : List Row) → AreFound rows → Hold rows
 rows_hold [] h = tt
-rows_hold (row ∷ rows) h = (row_holds (codes row.program) row.meaning h.0 h.1, rows_hold rows h.2)
+rows_hold (row ∷ rows) h = (
+  one_holds row (head_same h.plain) (head_same h.short) (head_same h.same),
+  rows_hold rows (record { plain = tail_same h.plain; short = tail_same h.short; same = tail_same h.same }),
+)
+  where
+    head_same : {A : Type 0} {x y : A} {xs ys : List A} → x ∷ xs ≡ y ∷ ys → x ≡ y
+    head_same e = cc
+
+    tail_same : {A : Type 0} {x y : A} {xs ys : List A} → x ∷ xs ≡ y ∷ ys → xs ≡ ys
+    tail_same e = cc

@@ -5,18 +5,24 @@ use Rattle.snesl_meaning.specs.Meaning.{Meaning, Means}
 use Prim.Native.String.{String}
 
 infixl 20 ◌means◌
--- a program without inputs, and its meaning
+infixl 20 ◌on◌means◌
+-- a program, an input text, and their meaning
 pub record Row : Type 0 where
   pub program : String
+  pub input : String
   pub meaning : Meaning
 
--- `program means meaning`
+-- `program means meaning`, without inputs
 abbrev pub ◌means◌ : String → Meaning → Row
-program means meaning = record { program = program; meaning = meaning }
+program means meaning = record { program = program; input = ""; meaning = meaning }
 
--- the program of a row means what the row says, with an empty input text
+-- `program on input means meaning`
+abbrev pub ◌on◌means◌ : String → String → Meaning → Row
+program on input means meaning = record { program = program; input = input; meaning = meaning }
+
+-- the program of a row means for its input text what the row says
 abbrev pub Holds : Row → Type 0
-Holds row = Means (codes row.program) [] row.meaning
+Holds row = Means (codes row.program) (codes row.input) row.meaning
 
 -- so do all of them
 abbrev pub Hold : List Row → Type 0

@@ -1,10 +1,10 @@
--- The worked rows of the language that need no input text.
+-- The worked rows of the language.
 use Rattle.std.specs.Prelude.{List, [], ◌∷◌, negsuc}
 use Rattle.snesl_data.specs.Values.{an_int, a_pair}
 use Rattle.snesl_data.specs.declared.fault.FaultKind.TheVariants as fault
 use Rattle.snesl_data.specs.declared.refusal.Refusal.TheVariants as refusal
 use Rattle.snesl_meaning.specs.Meaning.{is_refused, has_value, has_fault}
-use Rattle.snesl_worked.specs.Rows.{Row, ◌means◌, number, numbers, sequence}
+use Rattle.snesl_worked.specs.Rows.{Row, ◌means◌, ◌on◌means◌, number, numbers, sequence}
 
 -- programs that have a value
 abbrev pub values : List Row
@@ -103,4 +103,15 @@ in_second =
     ("dialect 2; input x : int; input x : bool; x" means is_refused (refusal.Name 32)) ∷
     ("dialect 2; 1 + true" means is_refused (refusal.Mismatch 13)) ∷
     ("dialect 2; input v : [{int}]; 1" means is_refused (refusal.Streamed 21)) ∷
+    []
+
+-- programs with an input text, which is refused at an offset of its own
+abbrev pub with_inputs : List Row
+with_inputs =
+    ("input xs : {{int}}; {length(x) : x in xs}" on "xs = {{},{1,2,3},{4}}" means has_value (numbers (0 ∷ 3 ∷ 1 ∷ []))) ∷
+    ("input s : {int}; scan_add(s)" on "s = {2,1,3}" means has_value (numbers (0 ∷ 2 ∷ 3 ∷ []))) ∷
+    ("input s : {int}; scan_add(s)" on "s = {9223372036854775807,1,1}" means has_fault fault.Overflow 17) ∷
+    ("input v : [int]; v ! 2" on "v = [7,8]" means has_fault fault.Index 19) ∷
+    ("input n : int; iota(n)" on "n = 9223372036854775808" means is_refused (refusal.BadInput 4)) ∷
+    ("input xs : {{int}}; {length(x) : x in xs}" on "xs = {{}" means is_refused (refusal.BadInput 8)) ∷
     []
