@@ -1,0 +1,3 @@
+pub mod Offsets
+pub mod Faults
+pub mod Culprits
