@@ -1,0 +1,49 @@
+-- The form at which evaluation ends in a fault, and the values of its parts.
+use Rattle.std.specs.Prelude.{◌≡◌, ℕ, List, map, Result, Ok, Err}
+use Rattle.snesl_data.specs.declared.dialect.Dialect.{Dialect}
+use Rattle.snesl_data.specs.declared.fault.FaultKind.{FaultKind}
+use Rattle.snesl_data.specs.Values.{Value, value_of}
+use Rattle.snesl_values.specs.Inputs.{Environment}
+use Rattle.snesl_tree.specs.declared.declaration.Declaration.{Declaration}
+use Rattle.snesl_tree.specs.Tree.{Tree, Trees, Binders, binary, prefix, call, each, none, both, none_bound, binder, offset}
+use Rattle.snesl_tree.specs.View.{declaration_of}
+use Rattle.snesl_evaluation.specs.Answer.{Answer, gives, faults}
+use Rattle.snesl_evaluation.specs.Eval.{Calls, calls_of, eval, eval_all}
+use Rattle.snesl_faults.specs.declared.finding.Finding.{Finding}
+use Rattle.snesl_faults.specs.declared.finding.Stop.{Stop}
+use Rattle.snesl_faults.specs.declared.finding.Stop.TheVariants.{Found, GivenUp}
+
+-- the sequences of binders
+abbrev pub sources : Binders → Trees
+sources none_bound = none
+sources (binder place source others) = both source (sources others)
+
+-- the parts that a form at fault has: operands, arguments, or the sequences of a comprehension
+abbrev pub parts_of : Tree → Trees
+parts_of (binary at operator left right) = both left (both right none)
+parts_of (prefix at operator operand) = both operand none
+parts_of (call at function arguments) = arguments
+parts_of (each at body binders condition) = sources binders
+parts_of _ = none
+
+-- where calls and names mean this, the parts of the form have the values, and the form ends in the fault, which stands at its own offset
+pub record Ends (dialect : Dialect) (text : List ℕ) (calls : Calls) (environment : Environment) (tree : Tree) (kind : FaultKind) (at : ℕ) (values : List Value) : Type 0 where
+  pub parts : eval_all dialect (parts_of tree) text calls environment ≡ gives values
+  pub form : eval dialect tree text calls environment ≡ faults kind at
+  pub own : at ≡ offset tree
+
+-- some form does, where these functions may be called and names mean something
+abbrev pub SomeEnds : Dialect → List ℕ → FaultKind → ℕ → List Value → Type 0
+SomeEnds dialect text kind at values =
+    (functions : List Declaration) × (environment : Environment) × (tree : Tree)
+    × Ends dialect text (calls_of dialect text (map declaration_of functions)) environment tree kind at values
+
+-- so it is of what a search has found; where it was given up nothing is said
+abbrev pub Stops : Dialect → List ℕ → Stop → Type 0
+Stops dialect text GivenUp = Unit {0}
+Stops dialect text (Found finding) = SomeEnds dialect text finding.fault.kind finding.fault.at (map value_of finding.values.items)
+
+-- the same of a result
+abbrev pub MayStop : {A : Type 0} → Dialect → List ℕ → Result A Stop → Type 0
+MayStop dialect text (Ok x) = Unit {0}
+MayStop dialect text (Err stop) = Stops dialect text stop
