@@ -4,3 +4,4 @@ mod Running
 mod Carrying
 mod Resting
 mod Named
+mod Planned

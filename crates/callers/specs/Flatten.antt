@@ -5,6 +5,8 @@ use Rattle.snesl_values.specs.Types.{Ty}
 use Rattle.snesl_syntax.specs.Parse.{Parses}
 use Rattle.snesl_types.specs.Programs.{HasTyping}
 use Rattle.snesl_types.specs.Tree.{ProgramTree}
+use Rattle.snesl_types.specs.Typed.{typed_dialect, typed_inputs, typed_text, typed_tree}
+use Rattle.snesl_types.specs.declared.typed.Typed.{Typed}
 use Rattle.flow_graph.specs.Edge.{Edge}
 use Rattle.snesl_flatten.specs.GraphNetworks.{AreOpened}
 use Rattle.snesl_flatten.specs.Networks.{NodeState, NetworkMeans}
@@ -22,3 +24,10 @@ pub record IsNetworkOf (text input : List ℕ) (states : List NodeState) (edges 
   pub reads : InputMeans program.dialect inputs input (spells environment)
   pub opened : AreOpened node_behaviour states
   pub means : NetworkMeans text program environment states edges
+
+-- The same of a program that is typed: the input text spells values for its inputs, and the nodes stand before their first step.
+pub record IsNetworkOfTyped (typed : Typed) (input : List ℕ) (states : List NodeState) (edges : List Edge) : Type 0 where
+  pub environment : Environment
+  pub reads : InputMeans (typed_dialect typed) (typed_inputs typed) input (spells environment)
+  pub opened : AreOpened node_behaviour states
+  pub means : NetworkMeans (typed_text typed) (typed_tree typed) environment states edges

@@ -8,6 +8,7 @@ pub mod drive;
 pub mod edges;
 pub mod flatten;
 pub mod graph;
+pub mod plans;
 pub mod run;
 pub mod scalar;
 pub mod segment;
