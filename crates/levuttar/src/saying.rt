@@ -11,9 +11,14 @@ use snesl_advice::{
 };
 use snesl_console::send;
 use snesl_data::{Counted, Fault, Refusal};
-use snesl_look::{fault_message, refusal_message, refusal_sentence};
+use snesl_faults::{note_of, values_at_fault};
+use snesl_look::{
+    fault_hint, fault_message, fault_sentence, function_at, noted_message, refusal_message,
+    refusal_sentence,
+};
 use snesl_syntax::parse;
-use snesl_types::clash_at;
+use snesl_types::{check, clash_at};
+use snesl_values::read_inputs;
 use std::alloc::{AllocError, Global};
 use std::io::Write;
 
@@ -74,6 +79,48 @@ pub(crate) fn say_refused<E: Write>(
     say(message, refusal.status(), err)
 }
 
+// Of a longer input text no values are told, for which the program is evaluated anew.
+const MOST_INPUT: usize = 65_536;
+
+// What is said of the values at a fault, where evaluation comes to it first, and soon.
+fn note_of_fault(alloc: Global, fault: Fault, job: &Job<'_>) -> Option<Vec<u8>> {
+    if job.input.len() > MOST_INPUT {
+        return None;
+    }
+    if let Ok(parsed) = parse(alloc, &job.program)
+        && let Ok(typed) = check(alloc, &parsed)
+        && let Ok(inputs) = read_inputs(typed.dialect(), alloc, typed.decls(), &job.input)
+        && let Some(values) = values_at_fault(alloc, &parsed, &inputs, fault)
+        && let Ok(note) = note_of(alloc, fault.kind, &values)
+    {
+        return note;
+    }
+    None
+}
+
+// What is said of a fault, with a note of the values there.
+fn noted_fault_message(
+    alloc: Global,
+    fault: Fault,
+    program: &[u8],
+    note: Vec<u8>,
+) -> Result<Vec<u8>, AllocError> {
+    let mut notes = Vec::new(alloc);
+    notes.push(note)?;
+    if let Some(name) = function_at(program, fault.at) {
+        let mut inside = Vec::from_slice(alloc, b"this is in the function `")?;
+        inside.extend_from_slice(name)?;
+        inside.extend_from_slice(b"`; which call of it led here is not known")?;
+        notes.push(inside)?;
+    }
+    let sentence = fault_sentence(fault.kind).as_bytes();
+    let hint = match fault_hint(fault.kind) {
+        Some(hint) => hint.as_bytes(),
+        None => b"",
+    };
+    noted_message(alloc, sentence, program, fault.at, "", &notes, hint)
+}
+
 // Says in which fault a program ends, and gives the exit status.
 pub(crate) fn say_fault<E: Write>(
     alloc: Global,
@@ -84,7 +131,11 @@ pub(crate) fn say_fault<E: Write>(
     if say_place_in_program(alloc, job, fault.at, err).is_err() {
         return say_plainly(Refusal::NoMemory, err);
     }
-    say(fault_message(alloc, fault, &job.program), 2, err)
+    let message = match note_of_fault(alloc, fault, job) {
+        Some(note) => noted_fault_message(alloc, fault, &job.program, note),
+        None => fault_message(alloc, fault, &job.program),
+    };
+    say(message, 2, err)
 }
 
 // What is said of a file that cannot be opened.
