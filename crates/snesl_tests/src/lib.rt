@@ -17,6 +17,8 @@ mod drawings;
 #[cfg(test)]
 mod ending;
 #[cfg(test)]
+mod faults;
+#[cfg(test)]
 mod findings;
 #[cfg(test)]
 mod inputs;
