@@ -1,8 +1,17 @@
 // Graphs that are driven.
+ghost use Rattle.std.specs.Prelude.{◌≡◌};
+ghost use Rattle.flow_drive.specs.Dealings.{network_under};
+ghost use Rattle.flow_graph.specs.Graphs.{states_of};
+ghost use Rattle.flow_graph.specs.Networks.{AreOpened};
+ghost use Rattle.flow_drive.specs.SharedNetworks.{SharedNetwork};
+
 use flow_drive::{
-    AlwaysStart, Boxes, Config, Drive, DriveError, Ends, Gate, NoGate, Outcome, Rested, Rings,
-    Share, Start, deal, deal_rings, drive, drive_with, pump,
+    AlwaysStart, Boxes, Config, Drive, DriveError, Ends, Gate, Lender, NoGate, Outcome, Rested,
+    Rings, Share, Start, Transducer, are_fed, deal, deal_rings, drive, drive_with, epoch,
+    epoch_with, pump, rested_is_sound,
 };
+use flow_graph::StreamNode;
+use flow_networks::Graph;
 use snesl_flatten::flatten;
 use snesl_types::Typed;
 use snesl_values::{Inputs, Refusal};
@@ -127,6 +136,71 @@ pub fn pumped<E: Ends + Drop>(share: Share<E>, config: &Config) -> Option<(bool,
     }
     let share = pump::<E, NoGate>(share, config, &NoGate);
     Some((share.spent(), share.starved()))
+}
+
+/// The shares of a program's network after two epochs, if the inputs are its own. The second is made only where memory was
+/// refused to no share in the first.
+pub fn shares_after_epochs<S: Start>(
+    rt: &impl Threads,
+    alloc: Global,
+    typed: &Typed,
+    inputs: Inputs,
+    config: &Config,
+    start: &mut S,
+) -> Result<Option<Vec<Share<Rings>>>, Refused> {
+    let plan = flatten(alloc, typed).map_err(Refused::Flatten)?;
+    if !plan.fits(&inputs) {
+        return Ok(None);
+    }
+    let graph = plan.with(inputs)?;
+    Ok(Some(after_epochs(rt, alloc, graph, config, start)?))
+}
+
+// The same of a graph, as it was built, of nodes of any type.
+fn after_epochs<R: Threads, T: Transducer + Send + Drop + 'static, S: Start>(
+    rt: &R,
+    alloc: Global,
+    graph: Graph<T>,
+    config: &Config,
+    start: &mut S,
+) -> Result<Vec<flow_drives::Share<T, Rings>>, DriveError>
+    requires { AreOpened T.behaviour (states_of graph) }
+{
+    after_epochs_in(rt, alloc, graph, config, start)
+}
+
+// The same in the network in which the graph is dealt out.
+fn after_epochs_in<R: Threads, T: Transducer + Send + Drop + 'static, S: Start>(
+    rt: &R,
+    alloc: Global,
+    graph: Graph<T>,
+    config: &Config,
+    start: &mut S,
+) -> Result<Vec<flow_drives::Share<T, Rings>>, DriveError>
+    ghost network: { SharedNetwork ⟦<T as Transducer>⟧ }
+    requires opened { AreOpened T.behaviour (states_of graph) }
+    requires network { network ≡ network_under graph config.now }
+{
+    let gate = Arc::new(alloc, NoGate).map_err(AllocError::from)?;
+    let shares = flow_drives::deal_rings(alloc, graph, config)?;
+    let once = epoch(rt, alloc, shares, config, &gate)?;
+    if !are_fed(&once) {
+        return Ok(once);
+    }
+    epoch_with(rt, alloc, once, config, &gate, start)
+}
+
+/// A share whose ends were lent meanwhile, and whether its writer of this edge had room then.
+pub fn lent<E: Ends>(share: Share<E>, edge: usize) -> (Share<E>, bool) {
+    let (lender, mut ends): (Lender<StreamNode, E>, E) = share.lend();
+    let room = ends.has_writer(edge) && ends.room(edge);
+    (lender.take_back(ends), room)
+}
+
+/// How a network came out: it is sound, and at rest.
+pub fn outcome_of(rested: &Rested) -> Outcome {
+    rested_is_sound(rested);
+    rested.outcome()
 }
 
 /// What can be asked of a network at rest.

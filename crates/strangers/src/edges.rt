@@ -1,6 +1,6 @@
 // Messages, edges and ends.
 use flow_edges::{
-    Block, Boxes, EdgeReader, EdgeWriter, Ends, FinishedMark, Held, Item, Kind, Msg, Refused,
+    Block, Boxes, EdgeReader, EdgeWriter, Ends, FinishedMark, Flat, Held, Item, Kind, Msg, Refused,
     Rings, Table, Why, edge, meet, scalar_edge,
 };
 use std::alloc::{AllocError, Global};
@@ -113,4 +113,14 @@ pub fn taken_in_a_block<E: Ends>(
         return 0;
     }
     ends.take_block(edge, block, most)
+}
+
+/// Whether a block of one integer was put on the edge, where its writer is there and takes integers.
+pub fn put_in_a_block<E: Ends>(ends: &mut E, edge: usize, value: i128) -> bool {
+    if !ends.has_writer(edge) || !ends.takes(edge, Kind::Int) {
+        return false;
+    }
+    let mut block = Block::new();
+    block.push(Flat::Int(value));
+    ends.put_block(edge, &mut block)
 }

@@ -1,7 +1,7 @@
 // Graphs, and their steps.
-use flow_edges::{Kind, Table};
+use flow_edges::{Ends, Kind, Table};
 use flow_graph::{
-    Edge, Graph, GraphBuilder, Moved, NoMemory, Settled, StreamNode, settle, step_once,
+    Edge, Graph, GraphBuilder, Moved, NoMemory, Settled, StreamNode, settle, step_block, step_once,
 };
 use flow_scalar::workers::Sink;
 use flow_scalar::{Node, Source, Stream};
@@ -41,6 +41,17 @@ pub fn steps(graph: &mut Graph, ends: &mut Table) -> Result<usize, NoMemory> {
         }
     }
     Ok(moved)
+}
+
+/// Steps of each node in a block, in order, at most so many of each. How many they made.
+pub fn block_steps<E: Ends>(graph: &mut Graph, ends: &mut E, most: usize) -> usize {
+    let mut made: usize = 0;
+    for node in 0..graph.nodes() {
+        if node < graph.nodes() && graph.may_step(ends, node) {
+            made = made.saturating_add(step_block(graph, ends, node, most));
+        }
+    }
+    made
 }
 
 /// Three units settled by a schedule, which names a node that is not there too.

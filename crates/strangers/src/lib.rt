@@ -2,7 +2,7 @@
 //!
 //! Each module is named after its door. A function here calls something once, and promises nothing: that it compiles shows
 //! that the names, the arguments and the results are those that were said, and that it is proved shows that a caller can
-//! see all that a call asks. Only what a block of one message is stands in proofs/.
+//! see all that a call asks. In proofs/ stand what a block of one message is, and the network of the shares of an epoch.
 #![tactic(auto)]
 
 pub mod drive;
