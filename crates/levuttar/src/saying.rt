@@ -10,14 +10,15 @@ use snesl_advice::{
     syntax_message,
 };
 use snesl_console::send;
+use snesl_culprits::culprit_of;
 use snesl_data::{Counted, Fault, Refusal};
 use snesl_faults::{note_of, values_at_fault};
 use snesl_look::{
     fault_hint, fault_message, fault_sentence, function_at, noted_message, refusal_message,
     refusal_sentence,
 };
-use snesl_syntax::parse;
-use snesl_types::{check, clash_at};
+use snesl_syntax::{Program, parse};
+use snesl_types::{Clash, check, clash_at};
 use snesl_values::read_inputs;
 use std::alloc::{AllocError, Global};
 use std::io::Write;
@@ -52,10 +53,8 @@ fn job_message(alloc: Global, refusal: Refusal, job: &Job<'_>) -> Result<Vec<u8>
         Refusal::Syntax(at) => syntax_message(alloc, &job.program, at),
         Refusal::Name(at) => name_message(alloc, &job.program, at),
         Refusal::Mismatch(at) => {
-            if let Ok(parsed) = parse(alloc, &job.program)
-                && let Ok(Some(clash)) = clash_at(alloc, &parsed, at)
-            {
-                return mismatch_message(alloc, &job.program, at, &clash);
+            if let Some((parsed, clash)) = clash_found(alloc, at, job) {
+                return mismatch_message(alloc, &parsed, at, &clash);
             }
             refusal_message(alloc, refusal, &job.program, &job.input)
         }
@@ -63,6 +62,23 @@ fn job_message(alloc: Global, refusal: Refusal, job: &Job<'_>) -> Result<Vec<u8>
         Refusal::BadInput(at) => input_message(alloc, &job.program, &job.input, at),
         _ => refusal_message(alloc, refusal, &job.program, &job.input),
     }
+}
+
+// The program, and the types that clash in it at the offset, where they are found.
+fn clash_found(alloc: Global, at: usize, job: &Job<'_>) -> Option<(Program, Clash)> {
+    let parsed = parse(alloc, &job.program).ok()?;
+    let clash = clash_at(alloc, &parsed, at).ok()??;
+    Some((parsed, clash))
+}
+
+// The refusal with the offset at which its message has its caret: of types that do not fit that of the part at fault.
+fn shown_refusal(alloc: Global, refusal: Refusal, job: &Job<'_>) -> Refusal {
+    if let Refusal::Mismatch(at) = refusal
+        && let Some((parsed, clash)) = clash_found(alloc, at, job)
+    {
+        return Refusal::Mismatch(culprit_of(&parsed, at, &clash).unwrap_or(at));
+    }
+    refusal
 }
 
 // Says why a job is refused, and gives the exit status.
@@ -73,7 +89,8 @@ pub(crate) fn say_refused<E: Write>(
     err: &mut Voice<'_, E>,
 ) -> u8 {
     let message = job_message(alloc, refusal, job);
-    if say_place_of_refusal(alloc, refusal, job, err).is_err() {
+    let shown = shown_refusal(alloc, refusal, job);
+    if say_place_of_refusal(alloc, shown, job, err).is_err() {
         return say_plainly(Refusal::NoMemory, err);
     }
     say(message, refusal.status(), err)
