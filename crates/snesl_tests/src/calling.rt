@@ -3,29 +3,37 @@ ghost use Rattle.flow_graph.specs.Graphs.{states_of};
 ghost use Rattle.flow_graph.specs.Networks.{AreOpened};
 ghost use Rattle.flow_graph.specs.StreamNodes.{node_behaviour};
 
+use crate::declared_inputs::inputs_of;
 use callers::drive::{SomeStarts, outcome_of_some_starts, outcome_on_two_threads};
 use callers::edges::messages;
 use callers::flatten::network_of;
 use callers::graph::carried;
+use callers::plans::networks_of;
 use callers::run::line_of;
 use callers::scalar::negated;
 use callers::segment::printed;
 use callers::syntax::is_program;
 use callers::types::value_of;
 use callers::values::value_text;
-use flow_drive::{Drive, DriveError, Outcome};
+use flow_drive::{AlwaysStart, Config, Drive, DriveError, Outcome};
 use flow_edges::{Item, Kind, Msg, Table};
 use flow_graph::{Graph, StreamNode};
 use flow_scalar::workers::Sink;
 use flow_scalar::{Node, Source, Stream};
+use snesl_syntax::parse;
 use snesl_trials::in_threads;
+use snesl_types::{Typed, check};
 use snesl_values::{FaultKind, Refusal, Ty, text_of};
 use std::alloc::Global;
 use std::test::Fail;
 use std::thread::Threads;
+use strangers::drive::{lent, outcome_of, rested, shares, shares_after_epochs};
 
 // A program of five nodes and five edges.
 const SUM: &[u8] = b"reduce_add(iota(5))";
+
+// The same of as many numbers as an input text says.
+const SUM_TO: &[u8] = b"input n : int; reduce_add(iota(n))";
 
 #[test]
 fn an_input_text_gives_a_value_to_its_name(rt: HostRuntime) -> Result<(), Fail> {
@@ -79,6 +87,32 @@ fn a_program_has_a_network(rt: HostRuntime) -> Result<(), Fail> {
     Ok(())
 }
 
+// One network for all inputs, whose program is typed once.
+#[test]
+fn a_program_has_a_network_for_each_input_text(rt: HostRuntime) -> Result<(), Fail> {
+    let alloc = rt.alloc();
+    let mut inputs = Vec::new(alloc);
+    inputs.push(Vec::from_slice(alloc, b"n = 5")?)?;
+    inputs.push(Vec::from_slice(alloc, b"n = -1")?)?;
+    let graphs = networks_of(alloc, SUM_TO, &inputs)?;
+    assert_eq!(rt; graphs.len(), 2);
+    let other = network_of(alloc, SUM_TO, b"n = 0")?;
+    for graph in &graphs {
+        assert_eq!(rt;
+            (graph.nodes(), graph.edges()),
+            (other.nodes(), other.edges())
+        );
+    }
+    inputs.push(Vec::from_slice(alloc, b"n = x")?)?;
+    assert!(rt;
+        matches!(
+            networks_of(alloc, SUM_TO, &inputs),
+            Err(Refusal::BadInput(4))
+        )
+    );
+    Ok(())
+}
+
 #[test]
 fn a_program_runs_to_a_line(rt: HostRuntime) -> Result<(), Fail> {
     let line = line_of(&rt, rt.alloc(), SUM, b"")?.ok_or("none")?;
@@ -110,6 +144,73 @@ fn strangers_step_and_settle_a_graph(rt: HostRuntime) -> Result<(), Fail> {
     let mut graph = strangers::graph::units(rt.alloc())?.ok_or("no graph")?;
     let mut ends = Table::new(rt.alloc(), graph.edges(), 4)?;
     assert_eq!(rt; strangers::graph::steps(&mut graph, &mut ends)?, 2);
+    Ok(())
+}
+
+// Three units and the end, in blocks: four messages are drawn, of which the sink reads the units first.
+#[test]
+fn strangers_step_in_blocks(rt: HostRuntime) -> Result<(), Fail> {
+    let mut graph = strangers::graph::units(rt.alloc())?.ok_or("no graph")?;
+    let mut ends = Table::new(rt.alloc(), graph.edges(), 4)?;
+    let made = [
+        strangers::graph::block_steps(&mut graph, &mut ends, 64),
+        strangers::graph::block_steps(&mut graph, &mut ends, 64),
+    ];
+    let mut other = Table::new(rt.alloc(), 1, 1)?;
+    let put = strangers::edges::put_in_a_block(&mut other, 0, 5);
+    assert_eq!(rt; (made, put), ([7, 1], true));
+    Ok(())
+}
+
+// How many shares of a program without inputs come back to a stranger from two epochs.
+fn back_from_epochs(
+    rt: &impl Threads,
+    alloc: Global,
+    typed: &Typed,
+    config: &Config,
+) -> Result<Option<usize>, Refusal> {
+    let inputs = inputs_of(alloc, SUM, b"")?;
+    let mut start = AlwaysStart::new();
+    match shares_after_epochs(rt, alloc, typed, inputs, config, &mut start) {
+        Ok(Some(shares)) => Ok(Some(shares.len())),
+        Ok(None) | Err(_) => Ok(None),
+    }
+}
+
+// Whether the first share has room on the first edge, while a stranger has its ends.
+fn room_while_lent(alloc: Global, typed: &Typed, config: &Config) -> Result<Option<bool>, Refusal> {
+    let inputs = inputs_of(alloc, SUM, b"")?;
+    match shares(alloc, typed, inputs, config) {
+        Ok(Some(mut shares)) if !shares.is_empty() => Ok(Some(lent(shares.swap_remove(0), 0).1)),
+        Ok(_) | Err(_) => Ok(None),
+    }
+}
+
+// How a stranger's network comes out.
+fn outcome_at_rest(
+    rt: &impl Threads,
+    alloc: Global,
+    typed: &Typed,
+    config: &Config,
+) -> Result<Option<Outcome>, Refusal> {
+    let inputs = inputs_of(alloc, SUM, b"")?;
+    match rested(rt, alloc, typed, inputs, config) {
+        Ok(Some(rested)) => Ok(Some(outcome_of(&rested))),
+        Ok(None) | Err(_) => Ok(None),
+    }
+}
+
+#[test]
+fn strangers_drive_a_network_by_its_parts(rt: HostRuntime) -> Result<(), Fail> {
+    let program = parse(rt.alloc(), SUM)?;
+    let typed = check(rt.alloc(), &program)?;
+    let config = in_threads(rt.alloc(), Drive::Rings, 256, 2, &[0, 1])?;
+    let told = (
+        back_from_epochs(&rt, rt.alloc(), &typed, &config)?,
+        room_while_lent(rt.alloc(), &typed, &config)?,
+        outcome_at_rest(&rt, rt.alloc(), &typed, &config)?,
+    );
+    assert_eq!(rt; told, (Some(2), Some(true), Some(Outcome::Value)));
     Ok(())
 }
 
