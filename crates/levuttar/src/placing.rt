@@ -2,7 +2,7 @@
 
 use crate::reading::Job;
 use crate::voice::Voice;
-use snesl_data::{Refusal, is_blank};
+use snesl_data::Refusal;
 use snesl_look::{Position, position_of};
 use std::alloc::{AllocError, Global};
 use std::io::Write;
@@ -14,21 +14,14 @@ pub(crate) fn say_place_of_refusal<E: Write>(
     job: &Job<'_>,
     err: &mut Voice<'_, E>,
 ) -> Result<(), AllocError> {
-    match place_of_refusal(refusal, job) {
-        Some(position) => say_place(alloc, job, position, err),
-        None => Ok(()),
-    }
-}
-
-// The place in the job that a refusal has, if it has one. Where a program ends too early it is the end of its last word, as in what is
-// said of it.
-pub(crate) fn place_of_refusal(refusal: Refusal, job: &Job<'_>) -> Option<Position> {
     match refusal {
-        Refusal::BadInput(at) => Some(place_in_input(job, at)),
-        Refusal::Syntax(at) if job.program.len() <= at => {
-            Some(position_of(&job.program, length_without_blanks(&job.program)))
-        }
-        _ => Some(position_of(&job.program, refusal.at()?)),
+        Refusal::BadInput(at) => say_place(alloc, job, place_in_input(job, at), err),
+        Refusal::Lex(at)
+        | Refusal::Syntax(at)
+        | Refusal::Name(at)
+        | Refusal::Mismatch(at)
+        | Refusal::Streamed(at) => say_place_in_program(alloc, job, at, err),
+        _ => Ok(()),
     }
 }
 
@@ -40,14 +33,6 @@ pub(crate) fn say_place_in_program<E: Write>(
     err: &mut Voice<'_, E>,
 ) -> Result<(), AllocError> {
     say_place(alloc, job, position_of(&job.program, at), err)
-}
-
-// The length of a text without the blanks at its end.
-fn length_without_blanks(text: &[u8]) -> usize {
-    match text.iter().rposition(|byte| !is_blank(*byte)) {
-        Some(last) => last.saturating_add(1),
-        None => 0,
-    }
 }
 
 // The place in the job of an offset in its input text, which begins after the program and the line `---`.

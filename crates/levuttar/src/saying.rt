@@ -47,11 +47,7 @@ pub(crate) fn say_plainly<E: Write>(refusal: Refusal, err: &mut Voice<'_, E>) ->
 
 // What is said of a refusal of a job: of a program that is none what could stand there, of a name whether it is unbound or bound
 // twice, of types that do not fit which they are, where that is found, and of an input text which input is declared there.
-pub(crate) fn job_message(
-    alloc: Global,
-    refusal: Refusal,
-    job: &Job<'_>,
-) -> Result<Vec<u8>, AllocError> {
+fn job_message(alloc: Global, refusal: Refusal, job: &Job<'_>) -> Result<Vec<u8>, AllocError> {
     match refusal {
         Refusal::Lex(at) => lexical_message(alloc, &job.program, at),
         Refusal::Syntax(at) => syntax_message(alloc, &job.program, at),
@@ -161,19 +157,9 @@ pub(crate) fn say_fault<E: Write>(
 
 // What is said of a file that cannot be opened.
 pub(crate) fn unopened_message(alloc: Global, path: &str) -> Result<Vec<u8>, AllocError> {
-    file_message(alloc, path, b"` could not be opened\n")
-}
-
-// What is said of a file that cannot be written.
-pub(crate) fn unwritten_message(alloc: Global, path: &str) -> Result<Vec<u8>, AllocError> {
-    file_message(alloc, path, b"` could not be written\n")
-}
-
-// What is said of a file.
-fn file_message(alloc: Global, path: &str, what: &[u8]) -> Result<Vec<u8>, AllocError> {
     let mut message = Vec::from_slice(alloc, b"error: the file `")?;
     message.extend_from_slice(path.as_bytes())?;
-    message.extend_from_slice(what)?;
+    message.extend_from_slice(b"` could not be opened\n")?;
     Ok(message)
 }
 
