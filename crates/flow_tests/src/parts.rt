@@ -1,6 +1,7 @@
 // Tests of the parts of which the drives are made: tables, boxes and rings, by courses over their edges; dealing, shares, threads,
 // openings and epochs; and both ends of an edge, in one thread and in threads of their own.
 
+mod block_steps;
 mod courses;
 mod crossings;
 mod epochs;
