@@ -1,5 +1,5 @@
-// Tests of the parts of which the drives are made: tables, boxes and rings, by courses over their edges; dealing, shares, threads,
-// openings and epochs; and both ends of an edge, in one thread and in threads of their own.
+// Tests of the parts of which the drives are made: tables, boxes and rings, by courses over their edges; blocks that nodes move over
+// them; dealing, shares, threads, openings and epochs; and both ends of an edge, in one thread and in threads of their own.
 
 mod block_steps;
 mod courses;
