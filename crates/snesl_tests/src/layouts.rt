@@ -1,7 +1,7 @@
 // Programs laid out, by hand.
 
 use snesl_data::Refusal;
-use snesl_layout::{LayoutError, laid_out};
+use snesl_layout::{LayoutError, first_difference, laid_out};
 
 // Texts, and the layout of each.
 const LAID_OUT: [(&str, Result<&str, LayoutError>); 8] = [
@@ -33,6 +33,13 @@ fn programs_are_laid_out(rt: HostRuntime) {
         let out = laid_out(rt.alloc(), text.as_bytes());
         assert!(rt; is_it(&out, laid), "{text}");
     }
+}
+
+#[test]
+fn texts_differ_from_an_offset_on(rt: HostRuntime) {
+    assert_eq!(rt; first_difference(b"let x=1", b"let x = 1"), 5);
+    assert_eq!(rt; first_difference(b"x", b"x\n"), 1);
+    assert_eq!(rt; first_difference(b"x\n", b"x\n"), 2);
 }
 
 // Whether it is that layout, or why there is none.
