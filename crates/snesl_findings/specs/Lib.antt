@@ -1,3 +1,4 @@
 pub mod Marks
 pub mod Parts
+pub mod Places
 pub mod Objects

@@ -1,6 +1,7 @@
 // What an editor is told of a message, by hand.
 
-use snesl_findings::{Finding, hint_of, mark_len, object_line, sentence_of};
+use snesl_data::Refusal;
+use snesl_findings::{Finding, finding_of, hint_of, mark_len, object_line, place_of, sentence_of};
 use std::test::Fail;
 
 // A message with a note and a hint, and one with neither.
@@ -38,6 +39,33 @@ fn an_editor_marks_what_stands_there(rt: HostRuntime) {
     for (text, offset, len) in MARKED {
         assert_eq!(rt; mark_len(text.as_bytes(), offset), len, "{text} {offset}");
     }
+}
+
+// A job, refusals of it, and the line, the column and the end that each has in it.
+const PROGRAM: &[u8] = b"input total : int;\n  total\n";
+
+const INPUT: &[u8] = b"\n total = true";
+
+const PLACED: [(Refusal, usize, usize, usize); 5] = [
+    (Refusal::Name(21), 2, 3, 8),
+    (Refusal::Mismatch(12), 1, 13, 14),
+    (Refusal::Syntax(26), 2, 8, 8),
+    (Refusal::BadInput(10), 5, 10, 14),
+    (Refusal::Deep, 1, 1, 1),
+];
+
+#[test]
+fn a_refusal_has_its_place_in_the_job(rt: HostRuntime) {
+    for (refusal, line, column, end) in PLACED {
+        let finding = finding_of(Some("a.snesl"), refusal, PROGRAM, INPUT, HINTED);
+        assert_eq!(rt; finding.line, line, "{line} {column}");
+        assert_eq!(rt; finding.column, column, "{line} {column}");
+        assert_eq!(rt; finding.end, end, "{line} {column}");
+        assert_eq!(rt; finding.file, Some("a.snesl"));
+        assert_eq!(rt; finding.sentence, b"no `x` here".as_slice());
+        assert_eq!(rt; finding.hint, Some(b"take it out".as_slice()));
+    }
+    assert!(rt; place_of(Refusal::Deep, PROGRAM, INPUT).is_none());
 }
 
 #[test]
