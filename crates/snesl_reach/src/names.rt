@@ -1,0 +1,158 @@
+// Names that are bound around others.
+
+ghost use Rattle.std.specs.Prelude.{◌≡◌, ◌++◌, ◌==◌, [], ◌∷◌, Some, None, IfOk, OnOk, if◌then◌else◌, map, option_map};
+ghost use Rattle.snesl_tree.specs.View.{binders_of, declaration_of, typed_of};
+ghost use Rattle.snesl_reach.specs.Reach.{around, bound_by, enclosed, functions, functions_among, inputs_among, places_of, values};
+ghost use Rattle.snesl_reach.specs.View.{names_of};
+
+use snesl_tree::{Binder, Declaration, Span, Typing};
+use std::alloc::{AllocError, Global};
+
+/// The names that may stand at a place, each as it stands in the text of the program where it is bound or declared.
+#[derive(Debug, Drop)]
+pub enum Reach {
+    /// Of values, innermost first: binders and names of `let`, then parameters, or inputs.
+    Values(Vec<Span>),
+    /// Of functions: those declared before, in order. The built-in ones are in reach too.
+    Functions(Vec<Span>),
+}
+
+// Around a variable that stands at the offset nothing is bound yet.
+pub(crate) fn variable_here(alloc: Global, name: Span, at: usize) -> Option<Reach>
+    ensures { option_map names_of result ≡ (if name.at == at then Some (values []) else None) }
+{
+    if name.at == at {
+        return Some(Reach::Values(Vec::new(alloc)));
+    }
+    None
+}
+
+// And the same before a function that is called there.
+pub(crate) fn function_here(alloc: Global, name: Span, at: usize) -> Option<Reach>
+    ensures { option_map names_of result ≡ (if name.at == at then Some (functions []) else None) }
+{
+    if name.at == at {
+        return Some(Reach::Functions(Vec::new(alloc)));
+    }
+    None
+}
+
+// With a name that is bound around these.
+pub(crate) fn with_name(found: Option<Reach>, name: Span) -> Result<Option<Reach>, AllocError>
+    ensures { IfOk result (λ made. option_map names_of made
+        ≡ option_map (around (name ∷ [])) (option_map names_of found)) }
+{
+    match found {
+        Some(Reach::Values(mut names)) => {
+            names.push(name)?;
+            Ok(Some(Reach::Values(names)))
+        }
+        other => Ok(other),
+    }
+}
+
+// With the names of binders.
+pub(crate) fn with_binders(
+    found: Option<Reach>,
+    binders: &[Binder],
+) -> Result<Option<Reach>, AllocError>
+    ensures { IfOk result (λ made. option_map names_of made
+        ≡ option_map (around (bound_by (binders_of binders.now))) (option_map names_of found)) }
+{
+    match found {
+        Some(Reach::Values(mut names)) => {
+            append_binders(&mut names, binders)?;
+            Ok(Some(Reach::Values(names)))
+        }
+        other => Ok(other),
+    }
+}
+
+// With the parameters of the function around these, or the functions before it.
+pub(crate) fn with_parameters(
+    found: Option<Reach>,
+    parameters: &[Typing],
+    earlier: &[Declaration],
+) -> Result<Option<Reach>, AllocError>
+    ensures { IfOk result (λ made. option_map names_of made
+        ≡ option_map (enclosed (places_of (map typed_of parameters.now))
+        (functions_among (map declaration_of earlier.now))) (option_map names_of found)) }
+{
+    match found {
+        Some(Reach::Values(mut names)) => {
+            append_parameters(&mut names, parameters)?;
+            Ok(Some(Reach::Values(names)))
+        }
+        Some(Reach::Functions(mut names)) => {
+            append_functions(&mut names, earlier)?;
+            Ok(Some(Reach::Functions(names)))
+        }
+        None => Ok(None),
+    }
+}
+
+// With the inputs, or all functions.
+pub(crate) fn with_inputs(
+    found: Option<Reach>,
+    declarations: &[Declaration],
+) -> Result<Option<Reach>, AllocError>
+    ensures { IfOk result (λ made. option_map names_of made
+        ≡ option_map (enclosed (inputs_among (map declaration_of declarations.now))
+        (functions_among (map declaration_of declarations.now))) (option_map names_of found)) }
+{
+    match found {
+        Some(Reach::Values(mut names)) => {
+            append_inputs(&mut names, declarations)?;
+            Ok(Some(Reach::Values(names)))
+        }
+        Some(Reach::Functions(mut names)) => {
+            append_functions(&mut names, declarations)?;
+            Ok(Some(Reach::Functions(names)))
+        }
+        None => Ok(None),
+    }
+}
+
+fn append_binders(names: &mut Vec<Span>, binders: &[Binder]) -> Result<(), AllocError>
+    ensures { OnOk result (names.new.items
+        ≡ names.old.items ++ bound_by (binders_of binders.now)) }
+{
+    for binder in binders {
+        names.push(binder.name)?;
+    }
+    Ok(())
+}
+
+fn append_parameters(names: &mut Vec<Span>, parameters: &[Typing]) -> Result<(), AllocError>
+    ensures { OnOk result (names.new.items
+        ≡ names.old.items ++ places_of (map typed_of parameters.now)) }
+{
+    for parameter in parameters {
+        names.push(parameter.name)?;
+    }
+    Ok(())
+}
+
+fn append_inputs(names: &mut Vec<Span>, declarations: &[Declaration]) -> Result<(), AllocError>
+    ensures { OnOk result (names.new.items
+        ≡ names.old.items ++ inputs_among (map declaration_of declarations.now)) }
+{
+    for declaration in declarations {
+        if let Declaration::Input(input) = declaration {
+            names.push(input.name)?;
+        }
+    }
+    Ok(())
+}
+
+fn append_functions(names: &mut Vec<Span>, declarations: &[Declaration]) -> Result<(), AllocError>
+    ensures { OnOk result (names.new.items
+        ≡ names.old.items ++ functions_among (map declaration_of declarations.now)) }
+{
+    for declaration in declarations {
+        if let Declaration::Function(function) = declaration {
+            names.push(function.name)?;
+        }
+    }
+    Ok(())
+}
