@@ -1,5 +1,5 @@
 -- Names that are near to one that is not bound.
-use Rattle.std.specs.Prelude.{◌≡◌, ◌≢◌, ◌<◌, ◌≤◌, ◌⊎◌, ℕ, ◌+◌, ◌-◌, ◌/◌, ◌++◌, ◌==◌, ◌&&◌, ◌||◌, Bool, IsTrue, List, [], ◌∷◌, codes, drop, if◌then◌else◌, length, max, min, nat_eq, not, slice_index}
+use Rattle.std.specs.Prelude.{◌≡◌, ◌≢◌, ◌<◌, ◌≤◌, ◌⊎◌, ℕ, ◌+◌, ◌-◌, ◌/◌, ◌++◌, ◌==◌, ◌&&◌, ◌||◌, Bool, IsTrue, List, [], ◌∷◌, codes, drop, get_or, if◌then◌else◌, length, max, min, nat_eq, not, slice_index}
 use Rattle.std.specs.Char.{is_ascii_alphabetic}
 use Rattle.snesl_data.specs.Characters.{is_word}
 use Rattle.snesl_look.specs.Functions.{front_word}
@@ -91,3 +91,19 @@ abbrev pub NoneMeant : (program : List ℕ) → (at : ℕ) → Type 0
 NoneMeant program at =
     (64 < length (name_at program at)) ⊎ (NoneNear (searched program) at (name_at program at)
     ⊎ ((place : ℕ) × IsOther (searched program) at place × (name_at (searched program) place ≡ name_at program at)))
+
+-- how far the name of this number is from a word
+abbrev pub distance_among : (names : List (List ℕ)) → (word : List ℕ) → ℕ → ℕ
+distance_among names word number = distance (get_or names number []) word
+
+-- The name of this number is near to the word, which has at most 64 bytes, none of the names is nearer, and none before it is as near.
+pub record IsNearestAmong (names : List (List ℕ)) (word : List ℕ) (number : ℕ) : Type 0 where
+  pub short : length word ≤ 64
+  pub within : number < length names
+  pub near : distance_among names word number ≤ most_edits word
+  pub nearest : (k : ℕ) → k < length names → distance_among names word number ≤ distance_among names word k
+  pub first : (k : ℕ) → k < number → distance_among names word number < distance_among names word k
+
+-- the word is longer, or none of the names is near
+abbrev pub NoneNearAmong : (names : List (List ℕ)) → (word : List ℕ) → Type 0
+NoneNearAmong names word = (64 < length word) ⊎ ((k : ℕ) → k < length names → most_edits word < distance_among names word k)

@@ -2,6 +2,7 @@
 //! under it, and what is said of it.
 #![tactic(auto)]
 
+pub mod among;
 pub mod clashes;
 pub mod functions;
 pub mod messages;
@@ -10,6 +11,7 @@ pub mod places;
 pub mod stalls;
 pub mod words;
 
+pub use among::nearest_of;
 pub use clashes::{clash_note, clash_sentence};
 pub use functions::function_at;
 pub use messages::{fault_message, noted_message, refusal_message, stalled_message};

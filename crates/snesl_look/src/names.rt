@@ -10,7 +10,7 @@ use strsim::generic_levenshtein;
 
 // Names up to this length are compared with others, so that the tables of edits have at most so many cells for each byte of a
 // program in all.
-const MOST_COMPARED: usize = 64;
+pub(crate) const MOST_COMPARED: usize = 64;
 
 /// The reserved words, but for the built-in functions.
 const KEYWORDS: &[u8] =
@@ -104,7 +104,7 @@ pub fn distance_is_least()
 {}
 
 // Up to which distance names are near.
-fn most_edits(word: &[u8]) -> usize
+pub(crate) fn most_edits(word: &[u8]) -> usize
     ensures edits { result ≡ most_edits word.now }
     ensures few { result ≤ 2 }
 {
