@@ -25,6 +25,8 @@ values_text between (v ∷ vs) = value_text v ++ between ++ values_text between 
 abbrev pub words_of : FaultKind → List Value → Option (List ℕ × List ℕ)
 words_of Divide (v ∷ w ∷ []) = Some (codes "the operands are ", codes " and ")
 words_of Overflow (v ∷ w ∷ []) = Some (codes "the operands are ", codes " and ")
+words_of Overflow (a_seq vs ∷ []) = Some (codes "the sequence has ", [])
+words_of Overflow (v ∷ []) = Some (codes "the operand is ", [])
 words_of NegativeCount (v ∷ []) = Some (codes "the argument is ", [])
 words_of Length (v ∷ w ∷ vs) = Some (codes "the sequences have ", codes " and ")
 words_of Part (v ∷ w ∷ []) = Some (codes "the sequence has ", codes " and the flags have ")

@@ -36,6 +36,8 @@ fn words_of(kind: FaultKind, values: &[Datum]) -> Option<(&'static [u8], &'stati
     match (kind, values) {
         (FaultKind::Divide, [_, _]) => Some((b"the operands are ", b" and ")),
         (FaultKind::Overflow, [_, _]) => Some((b"the operands are ", b" and ")),
+        (FaultKind::Overflow, [Datum::Seq(_)]) => Some((b"the sequence has ", b"")),
+        (FaultKind::Overflow, [_]) => Some((b"the operand is ", b"")),
         (FaultKind::NegativeCount, [_]) => Some((b"the argument is ", b"")),
         (FaultKind::Length, [_, _, ..]) => Some((b"the sequences have ", b" and ")),
         (FaultKind::Part, [_, _]) => Some((b"the sequence has ", b" and the flags have ")),

@@ -9,7 +9,7 @@ use std::alloc::Global;
 use std::test::Fail;
 
 // Programs that end in a fault, its kind and offset, and what is said of the values there.
-const TOLD: [(&str, FaultKind, usize, &str); 14] = [
+const TOLD: [(&str, FaultKind, usize, &str); 17] = [
     ("1 / 0", FaultKind::Divide, 2, "the operands are 1 and 0"),
     (
         "{7 % x : x in {5,0,2}}",
@@ -22,6 +22,24 @@ const TOLD: [(&str, FaultKind, usize, &str); 14] = [
         FaultKind::Overflow,
         20,
         "the operands are 9223372036854775807 and 1",
+    ),
+    (
+        "-(0 - 9223372036854775807 - 1)",
+        FaultKind::Overflow,
+        0,
+        "the operand is -9223372036854775808",
+    ),
+    (
+        "reduce_add({9223372036854775807,0,1})",
+        FaultKind::Overflow,
+        0,
+        "the sequence has 3 elements",
+    ),
+    (
+        "scan_add({9223372036854775807,1,0})",
+        FaultKind::Overflow,
+        0,
+        "the sequence has 3 elements",
     ),
     (
         "iota(0 - 1)",
