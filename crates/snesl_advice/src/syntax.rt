@@ -177,6 +177,7 @@ fn hint_after_value(
         b"=" => "two values are compared by `==`",
         b"==" | b"<" | b"<=" | b">" | b">=" =>
             "comparisons do not stand beside one another: write `a < b and b < c`",
+        b"for" => "a comprehension is written `{x * x : x in s}`",
         b"in" if open.is_some() => "a comprehension is written `{x * x : x in s}`",
         b";" if open.is_none() => "no `;` stands after the last expression",
         b")" | b"]" | b"}" if open.is_none() => "no bracket is open here",
