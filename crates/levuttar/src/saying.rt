@@ -51,7 +51,10 @@ fn job_message(alloc: Global, refusal: Refusal, job: &Job<'_>) -> Result<Vec<u8>
     match refusal {
         Refusal::Lex(at) => lexical_message(alloc, &job.program, at),
         Refusal::Syntax(at) => syntax_message(alloc, &job.program, at),
-        Refusal::Name(at) => name_message(alloc, &job.program, at),
+        Refusal::Name(at) => match parse(alloc, &job.program) {
+            Ok(parsed) => name_message(alloc, &parsed, at),
+            Err(_) => refusal_message(alloc, refusal, &job.program, &job.input),
+        },
         Refusal::Mismatch(at) => {
             if let Some((parsed, clash)) = clash_found(alloc, at, job) {
                 return mismatch_message(alloc, &parsed, at, &clash);

@@ -9,6 +9,7 @@ pub mod inputs;
 pub mod lexemes;
 pub mod mismatches;
 pub mod names;
+mod near;
 pub mod streams;
 pub mod syntax;
 mod telling;

@@ -4,26 +4,27 @@ ghost use Rattle.std.specs.Prelude.{◌≤◌, IfOk, length};
 ghost use Rattle.snesl_advice.specs.Told.{IsToldAt};
 
 use crate::habits::habit_of_name;
+use crate::near::near_name;
 use crate::telling::tell;
-use crate::tokens::{
-    BUILT_INS, after_blanks, is_among, length_without_blanks, quoted, stands_after, stands_in,
-};
+use crate::tokens::{after_blanks, length_without_blanks, quoted, stands_after};
 use snesl_data::word_len;
-use snesl_look::{function_at, near_name};
+use snesl_grammar::Program;
+use snesl_look::function_at;
 use std::alloc::{AllocError, Global};
 
 /// What is said of a name that is not bound, or that is bound twice: which of the two it is, and what may help. The offset
 /// counts bytes of the program from 0. The error is that memory was refused.
-pub fn name_message(alloc: Global, program: &[u8], at: usize) -> Result<Vec<u8>, AllocError>
-    ensures { IfOk result (λ message. IsToldAt program.now at message.items) }
+pub fn name_message(alloc: Global, program: &Program, at: usize) -> Result<Vec<u8>, AllocError>
+    ensures { IfOk result (λ message. IsToldAt program.now.text.items at message.items) }
 {
-    let within = at.min(program.len());
-    let rest = &program[within..];
+    let text = program.text.as_slice();
+    let within = at.min(text.len());
+    let rest = &text[within..];
     let name = &rest[..word_len(rest)];
     let next = after_blanks(&rest[name.len()..]);
-    if is_binding(program, within, next) {
+    if is_binding(text, within, next) {
         let sentence = quoted(alloc, b"", name, b" is bound a second time here")?;
-        return tell(alloc, program, at, &sentence, &[], b"");
+        return tell(alloc, text, at, &sentence, &[], b"");
     }
     let (sentence, hint) = if next.starts_with(b"(") {
         let sentence = quoted(alloc, b"there is no function ", name, b" here")?;
@@ -32,7 +33,7 @@ pub fn name_message(alloc: Global, program: &[u8], at: usize) -> Result<Vec<u8>,
         let sentence = quoted(alloc, b"there is no value ", name, b" here")?;
         (sentence, hint_of_value(alloc, program, at, name)?)
     };
-    tell(alloc, program, at, &sentence, &[], &hint)
+    tell(alloc, text, at, &sentence, &[], &hint)
 }
 
 // Whether the name at the offset is bound there: after `input` or `function`, as a parameter or by a binder.
@@ -52,22 +53,23 @@ fn is_binding(program: &[u8], at: usize, next: &[u8]) -> bool
 // What may help where a function is not bound.
 fn hint_of_function(
     alloc: Global,
-    program: &[u8],
+    program: &Program,
     at: usize,
     name: &[u8],
 ) -> Result<Vec<u8>, AllocError> {
-    if let Some(around) = function_at(program, at)
+    let text = program.text.as_slice();
+    if let Some(around) = function_at(text, at)
         && around == name
     {
         return Vec::from_slice(alloc, b"functions do not call themselves");
     }
-    if stands_after(program, b"function", name) {
+    if stands_after(text, b"function", name) {
         return Vec::from_slice(
             alloc,
             b"a function calls those that stand before it: declare this one earlier",
         );
     }
-    if stands_after(program, b"input", name) {
+    if stands_after(text, b"input", name) {
         return quoted(alloc, b"", name, b" is an input, and no function");
     }
     hint_of_any(alloc, program, at, name)
@@ -76,14 +78,15 @@ fn hint_of_function(
 // And where a value is not.
 fn hint_of_value(
     alloc: Global,
-    program: &[u8],
+    program: &Program,
     at: usize,
     name: &[u8],
 ) -> Result<Vec<u8>, AllocError> {
-    if stands_after(program, b"function", name) {
+    let text = program.text.as_slice();
+    if stands_after(text, b"function", name) {
         return Vec::from_slice(alloc, b"a function is no value: call it, as in `f(1)`");
     }
-    if stands_after(program, b"input", name) && function_at(program, at).is_some() {
+    if stands_after(text, b"input", name) && function_at(text, at).is_some() {
         return Vec::from_slice(
             alloc,
             b"a function sees its parameters and no inputs: give it one more parameter",
@@ -95,38 +98,15 @@ fn hint_of_value(
 // What others use the name for, or which name is near.
 fn hint_of_any(
     alloc: Global,
-    program: &[u8],
+    program: &Program,
     at: usize,
     name: &[u8],
 ) -> Result<Vec<u8>, AllocError> {
     if let Some(advice) = habit_of_name(name) {
         return Vec::from_slice(alloc, advice.as_bytes());
     }
-    if let Some(other) = with_two_exchanged(alloc, program, name)? {
-        return quoted(alloc, b"did you mean ", &other, b"?");
-    }
-    // A name of one letter is near to every other.
-    if name.len() < 2 {
-        return Ok(Vec::new(alloc));
-    }
-    match near_name(alloc, program, at)? {
+    match near_name(alloc, program, at, name)? {
         Some(near) => quoted(alloc, b"did you mean ", &near, b"?"),
         None => Ok(Vec::new(alloc)),
     }
-}
-
-// The word of the program, or the built-in function, that the name is with two neighbouring letters exchanged, if there is one.
-fn with_two_exchanged(
-    alloc: Global,
-    program: &[u8],
-    name: &[u8],
-) -> Result<Option<Vec<u8>>, AllocError> {
-    for place in 1..name.len() {
-        let mut other = Vec::from_slice(alloc, name)?;
-        other.swap(place - 1, place);
-        if other.as_slice() != name && (is_among(&other, BUILT_INS) || stands_in(program, &other)) {
-            return Ok(Some(other));
-        }
-    }
-    Ok(None)
 }

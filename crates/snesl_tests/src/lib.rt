@@ -33,6 +33,8 @@ mod looks;
 #[cfg(test)]
 mod plans;
 #[cfg(test)]
+mod reaches;
+#[cfg(test)]
 mod running;
 #[cfg(test)]
 mod settling;
