@@ -6,7 +6,8 @@ use snesl_syntax::{Program, parse};
 use std::alloc::{AllocError, Global};
 use std::test::Fail;
 
-const PROGRAM: &[u8] = b"input n : int; function f(x : int) : int = a; function g(y : int) : int = b(y); \
+const PROGRAM: &[u8] =
+    b"input n : int; function f(x : int) : int = a; function g(y : int) : int = b(y); \
 let m = c in {d + e(r) : r in h; s in {1} | i} ++ {m}";
 
 // Offsets, and what is in reach there: of values, of functions, and nothing where no name stands.

@@ -14,8 +14,8 @@ loop-place-preserved c =
     let place = c.loop-place.place in
     let so_far = c.loop-place.invariant in
     let name : c.deref.result.now ≡ get_or names place [] =
-        c.deref.ensures.value ∙ ap (λ name. name.items) c.index-names-place.is
-        ∙ sym (get_or-map (λ name. name.items) c.args.names.now place c.index-names-place.result [] c.loop-place-test.true) in
+    c.deref.ensures.value ∙ ap (λ name. name.items) c.index-names-place.is
+    ∙ sym (get_or-map (λ name. name.items) c.args.names.now place c.index-names-place.result [] c.loop-place-test.true) in
     let known : c.in_ok-edits.edits ≡ far place = c.in_ok-edits.ensures.value ∙ ap (λ x. distance x word) name in
     elim c.if-edits-least.branch [
       | then-edits-least w ↦
