@@ -1,1 +1,2 @@
+mod Advised
 mod Made

@@ -1,3 +1,4 @@
+pub mod Advice
 pub mod Brackets
 pub mod Followers
 pub mod Told

@@ -1,14 +1,11 @@
 // What is said of types that do not fit.
 
 ghost use Rattle.std.specs.Prelude.{IfOk};
-ghost use Rattle.snesl_types.specs.Clashes.{clash_of};
-ghost use Rattle.snesl_advice.specs.Told.{IsToldOfClash};
+ghost use Rattle.snesl_advice.specs.Told.{IsToldAt};
 
 use crate::telling::tell;
 use crate::tokens::{quoted, token_at};
-use snesl_culprits::culprit_of;
 use snesl_data::Ty;
-use snesl_grammar::Program;
 use snesl_look::{clash_note, clash_sentence};
 use snesl_types::Clash;
 use std::alloc::{AllocError, Global};
@@ -68,19 +65,18 @@ const TAKES: [(&str, &str); 31] = [
 ];
 
 /// What is said of types that do not fit: what is wrong, the types that stand there, what the operator or built-in function at
-/// the offset takes, and what may help. It is told where the part begins that is at fault, or else at the offset, which counts
-/// bytes of the program from 0. The error is that memory was refused.
+/// the offset takes, and what may help. It is told at the place. Both count bytes of the program from 0. The error is that memory
+/// was refused.
 pub fn mismatch_message(
     alloc: Global,
-    program: &Program,
+    program: &[u8],
     at: usize,
     clash: &Clash,
+    place: usize,
 ) -> Result<Vec<u8>, AllocError>
-    ensures { IfOk result (λ message.
-        IsToldOfClash program.now at (clash_of clash.now) message.items) }
+    ensures { IfOk result (λ message. IsToldAt program.now place message.items) }
 {
-    let text = program.text.as_slice();
-    let found = token_at(text, at.min(text.len()));
+    let found = token_at(program, at.min(program.len()));
     let mut notes = Vec::new(alloc);
     notes.push(clash_note(alloc, clash)?)?;
     if let Some(takes) = taken_by(clash, found) {
@@ -88,8 +84,7 @@ pub fn mismatch_message(
     }
     let sentence = clash_sentence(clash).as_bytes();
     let hint = remedy(clash, found).as_bytes();
-    let place = culprit_of(program, at, clash).unwrap_or(at);
-    tell(alloc, text, place, sentence, &notes, hint)
+    tell(alloc, program, place, sentence, &notes, hint)
 }
 
 // What the operator or built-in function takes.

@@ -38,7 +38,7 @@ pub fn syntax_message(alloc: Global, program: &[u8], at: usize) -> Result<Vec<u8
 }
 
 // Where it is shown: at the end of a program, before the blanks there.
-fn shown_place(program: &[u8], at: usize) -> usize
+pub(crate) fn shown_place(program: &[u8], at: usize) -> usize
     ensures { result ≡ shown_place program.now at }
 {
     if program.len() <= at {

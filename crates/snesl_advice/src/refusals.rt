@@ -1,0 +1,75 @@
+// What is said of a refusal.
+
+ghost use Rattle.std.specs.Prelude.{IfOk};
+ghost use Rattle.snesl_advice.specs.Advice.{IsMismatchAdvice, IsShown, IsToldOfRefusal};
+
+use crate::inputs::input_message;
+use crate::lexemes::lexical_message;
+use crate::mismatches::mismatch_message;
+use crate::names::name_message;
+use crate::streams::streamed_message;
+use crate::syntax::{shown_place, syntax_message};
+use snesl_culprits::culprit_of;
+use snesl_data::Refusal;
+use snesl_look::refusal_message;
+use snesl_syntax::parse;
+use snesl_types::clash_at;
+use std::alloc::{AllocError, Global};
+
+/// What a person is told of a refusal, and where.
+#[derive(Drop)]
+pub struct Advice {
+    /// What is said of it.
+    pub message: Vec<u8>,
+    /// The refusal, with the offset at which the message has its caret, where it has one.
+    pub shown: Refusal,
+}
+
+/// What is said of a refusal of a job: of a program that is none what could stand there, of a name whether it is unbound or bound
+/// twice, of types that do not fit which they are, where that is found, and of an input text which input is declared there. The
+/// offset in `shown` is that of the caret: of a program that ends too early it is the end of its last word, and of types that do not
+/// fit that of the part at fault. The error is that memory was refused.
+pub fn advice_on(
+    alloc: Global,
+    refusal: Refusal,
+    program: &[u8],
+    input: &[u8],
+) -> Result<Advice, AllocError>
+    ensures told { IfOk result (λ advice.
+        IsToldOfRefusal advice.shown program.now input.now advice.message.items) }
+    ensures shown { IfOk result (IsShown refusal program.now) }
+{
+    let (message, shown) = match refusal {
+        Refusal::Lex(at) => (lexical_message(alloc, program, at)?, refusal),
+        Refusal::Syntax(at) => (
+            syntax_message(alloc, program, at)?,
+            Refusal::Syntax(shown_place(program, at)),
+        ),
+        Refusal::Name(at) => (name_message(alloc, program, at)?, refusal),
+        Refusal::Mismatch(at) => return mismatch_advice(alloc, program, at),
+        Refusal::Streamed(at) => (streamed_message(alloc, program, at)?, refusal),
+        Refusal::BadInput(at) => (input_message(alloc, program, input, at)?, refusal),
+        _ => (refusal_message(alloc, refusal, program, input)?, refusal),
+    };
+    Ok(Advice { message, shown })
+}
+
+// What is said of types that do not fit.
+fn mismatch_advice(alloc: Global, program: &[u8], at: usize) -> Result<Advice, AllocError>
+    ensures { IfOk result (IsMismatchAdvice program.now at) }
+{
+    if let Ok(parsed) = parse(alloc, program)
+        && let Some(clash) = clash_at(alloc, &parsed, at)?
+    {
+        let place = culprit_of(&parsed, at, &clash).unwrap_or(at);
+        return Ok(Advice {
+            message: mismatch_message(alloc, program, at, &clash, place)?,
+            shown: Refusal::Mismatch(place),
+        });
+    }
+    let shown = Refusal::Mismatch(at);
+    Ok(Advice {
+        message: refusal_message(alloc, shown, program, &[])?,
+        shown,
+    })
+}
