@@ -8,11 +8,13 @@ _levuttar() {
     --capacity | --chunk | --threads | --idle | --deal) words="" ;;
     *)
         case ${COMP_CWORD}:${COMP_WORDS[1]} in
-        1:*) words="run size draw help --help --version" ;;
+        1:*) words="run check fmt size draw help --help --version" ;;
         *:run) words="$settings --explain --watch --help" ;;
+        *:check) words="--json --help" ;;
+        *:fmt) words="--check --write --help" ;;
         *:size) words="--chunk --help" ;;
         *:draw) words="$settings --text --traffic --help" ;;
-        *:help) words="run size draw" ;;
+        *:help) words="run check fmt size draw" ;;
         esac
         ;;
     esac

@@ -1,7 +1,9 @@
 // The command line, by clap.
 
+use crate::checking::check_command;
 use crate::choosing::{choice_of, explain_word};
 use crate::drawing::draw_command;
+use crate::formatting::fmt_command;
 use crate::sizing::size_command;
 use crate::watching::watch_word;
 use clap::{Arg, ArgMatches, Command};
@@ -61,6 +63,8 @@ pub(crate) fn command<'a>(alloc: Global) -> Result<Command<'a>, AllocError> {
         .subcommand_required(true)
         .arg_required_else_help(true)
         .subcommand(run_command(alloc)?)?
+        .subcommand(check_command(alloc)?)?
+        .subcommand(fmt_command(alloc)?)?
         .subcommand(size_command(alloc)?)?
         .subcommand(draw_command(alloc)?)
 }

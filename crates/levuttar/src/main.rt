@@ -1,12 +1,15 @@
 // Runs jobs, and says in words what went wrong and where.
 #![tactic(auto)]
 
+mod checking;
 mod choosing;
 mod command_line;
 mod drawing;
+mod formatting;
 mod piping;
 mod placing;
 mod reading;
+mod rewriting;
 mod running;
 mod saying;
 mod sizing;
@@ -14,8 +17,10 @@ mod stalling;
 mod voice;
 mod watching;
 
+use checking::check_file;
 use command_line::command;
 use drawing::draw_file;
+use formatting::format_file;
 use piping::Piped;
 use running::run_file;
 use saying::{say_plainly, say_words};
@@ -77,6 +82,8 @@ fn obeyed<
     match command.try_get_matches_from(words) {
         Ok(matches) => match matches.subcommand() {
             Some(("run", words)) => run_file(rt, words, stdin, out, err),
+            Some(("check", words)) => check_file(rt, words, stdin, out, err),
+            Some(("fmt", words)) => format_file(rt, words, stdin, out, err),
             Some(("size", words)) => size_file(rt, words, stdin, out, err),
             Some(("draw", words)) => draw_file(rt, words, stdin, out, err),
             _ => say_plainly(Refusal::BadConfig, err),

@@ -3,25 +3,21 @@
 use crate::reading::Job;
 use crate::voice::Voice;
 use snesl_data::Refusal;
+use snesl_findings::place_of;
 use snesl_look::{Position, position_of};
 use std::alloc::{AllocError, Global};
 use std::io::Write;
 
-// Says before a message where in its file a refusal has its place, as `marks.snesl:2:6: `.
+// Says before a message where in its file a refusal has its place, as `marks.snesl:2:6: `. Its offset is that of the message's caret.
 pub(crate) fn say_place_of_refusal<E: Write>(
     alloc: Global,
     refusal: Refusal,
     job: &Job<'_>,
     err: &mut Voice<'_, E>,
 ) -> Result<(), AllocError> {
-    match refusal {
-        Refusal::BadInput(at) => say_place(alloc, job, place_in_input(job, at), err),
-        Refusal::Lex(at)
-        | Refusal::Syntax(at)
-        | Refusal::Name(at)
-        | Refusal::Mismatch(at)
-        | Refusal::Streamed(at) => say_place_in_program(alloc, job, at, err),
-        _ => Ok(()),
+    match place_of(refusal, &job.program, &job.input) {
+        Some(position) => say_place(alloc, job, position, err),
+        None => Ok(()),
     }
 }
 
@@ -33,16 +29,6 @@ pub(crate) fn say_place_in_program<E: Write>(
     err: &mut Voice<'_, E>,
 ) -> Result<(), AllocError> {
     say_place(alloc, job, position_of(&job.program, at), err)
-}
-
-// The place in the job of an offset in its input text, which begins after the program and the line `---`.
-fn place_in_input(job: &Job<'_>, at: usize) -> Position {
-    let separator = position_of(&job.program, job.program.len());
-    let position = position_of(&job.input, at);
-    Position {
-        line: position.line.saturating_add(separator.line),
-        column: position.column,
-    }
 }
 
 // Says a place, where the job came from a file.

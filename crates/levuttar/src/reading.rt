@@ -1,13 +1,13 @@
 // Reading a job.
 
-use crate::saying::{say, say_plainly, unopened_message};
+use crate::saying::{file_message, say, say_plainly};
 use crate::voice::Voice;
 use clap::ArgMatches;
 use snesl_data::{Counted, Refusal};
 use snesl_run::split_job;
 use std::alloc::Global;
 use std::fs;
-use std::io::{Read, Write};
+use std::io::{self, ErrorKind, Read, Write};
 use std::rt::Files;
 
 // A program and its input text, and the file that has both, where they came from one.
@@ -29,6 +29,30 @@ impl<'a> Job<'a> {
     }
 }
 
+// What a job is read from.
+#[derive(Drop)]
+enum Source<F, R> {
+    File(F),
+    Input(R),
+}
+
+impl<F: Read, R: Read> Read for Source<F, R> {
+    fn read(&mut self, buf: &mut [u8]) -> io::Result<usize> {
+        match self {
+            Source::File(file) => file.read(buf),
+            Source::Input(input) => input.read(buf),
+        }
+    }
+}
+
+// The file that the words name, unless that is standard input.
+pub(crate) fn file_of<'a>(matches: &ArgMatches<'a>) -> Option<&'a str> {
+    match matches.get_str("file") {
+        None | Some("-") => None,
+        file => file,
+    }
+}
+
 // The job in the file that the words name, or on standard input. The error is the exit status, after what went wrong was said.
 pub(crate) fn read_job<'a, H: AllocGlobal + Files, R: Read + Drop, E: Write>(
     rt: &H,
@@ -36,32 +60,52 @@ pub(crate) fn read_job<'a, H: AllocGlobal + Files, R: Read + Drop, E: Write>(
     stdin: R,
     err: &mut Voice<'_, E>,
 ) -> Result<Job<'a>, u8> {
-    match matches.get_str("file") {
-        None | Some("-") => job_of(rt.alloc(), stdin, None, err),
-        Some(path) => match fs::open(rt, path) {
-            Ok(file) => job_of(rt.alloc(), file, Some(path), err),
-            Err(_) => Err(say(
-                unopened_message(rt.alloc(), path),
-                Refusal::Read.status(),
-                err,
-            )),
-        },
-    }
-}
-
-// The job that a reader gives.
-fn job_of<'a, R: Read + Drop, E: Write>(
-    alloc: Global,
-    reader: R,
-    file: Option<&'a str>,
-    err: &mut Voice<'_, E>,
-) -> Result<Job<'a>, u8> {
-    match split_job(alloc, &mut Counted::new(reader)) {
+    let file = file_of(matches);
+    let source = opened(rt, file, stdin, err)?;
+    match split_job(rt.alloc(), &mut Counted::new(source)) {
         Ok((program, input)) => Ok(Job {
             program,
             input,
             file,
         }),
         Err(error) => Err(say_plainly(Refusal::from(error), err)),
+    }
+}
+
+// All bytes that stand there. The error is as above.
+pub(crate) fn read_bytes<H: AllocGlobal + Files, R: Read + Drop, E: Write>(
+    rt: &H,
+    matches: &ArgMatches<'_>,
+    stdin: R,
+    err: &mut Voice<'_, E>,
+) -> Result<Vec<u8>, u8> {
+    let mut source = opened(rt, file_of(matches), stdin, err)?;
+    let mut bytes = Vec::new(rt.alloc());
+    match source.read_to_end(&mut bytes) {
+        Ok(_) => Ok(bytes),
+        Err(error) if error.kind() == ErrorKind::OutOfMemory => {
+            Err(say_plainly(Refusal::NoMemory, err))
+        }
+        Err(_) => Err(say_plainly(Refusal::Read, err)),
+    }
+}
+
+// The file, or standard input where there is none. The error is as above.
+fn opened<H: AllocGlobal + Files, R: Read + Drop, E: Write>(
+    rt: &H,
+    file: Option<&str>,
+    stdin: R,
+    err: &mut Voice<'_, E>,
+) -> Result<Source<H::File, R>, u8> {
+    let Some(path) = file else {
+        return Ok(Source::Input(stdin));
+    };
+    match fs::open(rt, path) {
+        Ok(file) => Ok(Source::File(file)),
+        Err(_) => Err(say(
+            file_message(rt.alloc(), path, b"could not be opened"),
+            Refusal::Read.status(),
+            err,
+        )),
     }
 }

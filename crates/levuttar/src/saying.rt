@@ -5,20 +5,13 @@ use crate::reading::Job;
 use crate::voice::Voice;
 use clap::Error;
 use clap::error::ErrorKind;
-use snesl_advice::{
-    input_message, lexical_message, mismatch_message, name_message, streamed_message,
-    syntax_message,
-};
+use snesl_advice::{advice_on, noted_fault_message};
 use snesl_console::send;
-use snesl_culprits::culprit_of;
 use snesl_data::{Counted, Fault, Refusal};
 use snesl_faults::{note_of, values_at_fault};
-use snesl_look::{
-    fault_hint, fault_message, fault_sentence, function_at, noted_message, refusal_message,
-    refusal_sentence,
-};
-use snesl_syntax::{Program, parse};
-use snesl_types::{Clash, check, clash_at};
+use snesl_look::{fault_message, refusal_sentence};
+use snesl_syntax::parse;
+use snesl_types::check;
 use snesl_values::read_inputs;
 use std::alloc::{AllocError, Global};
 use std::io::Write;
@@ -38,50 +31,25 @@ pub(crate) fn say<E: Write>(
     }
 }
 
+// Prints a text, unless memory was refused to it, and gives the exit status: this one, where nothing went wrong.
+pub(crate) fn print<W: Write, E: Write>(
+    text: Result<Vec<u8>, AllocError>,
+    status: u8,
+    out: &mut Counted<W>,
+    err: &mut Voice<'_, E>,
+) -> u8 {
+    match text {
+        Ok(text) if send(out, &text) => status,
+        Ok(_) => say_plainly(Refusal::Output, err),
+        Err(AllocError) => say_plainly(Refusal::NoMemory, err),
+    }
+}
+
 // Says a refusal by its sentence alone, for which no memory is taken, and gives its exit status.
 pub(crate) fn say_plainly<E: Write>(refusal: Refusal, err: &mut Voice<'_, E>) -> u8 {
     let sentence = refusal_sentence(refusal);
     let _ = err.say(b"error: ") && err.say(sentence.as_bytes()) && err.say(b"\n");
     refusal.status()
-}
-
-// What is said of a refusal of a job: of a program that is none what could stand there, of a name whether it is unbound or bound
-// twice, of types that do not fit which they are, where that is found, and of an input text which input is declared there.
-fn job_message(alloc: Global, refusal: Refusal, job: &Job<'_>) -> Result<Vec<u8>, AllocError> {
-    match refusal {
-        Refusal::Lex(at) => lexical_message(alloc, &job.program, at),
-        Refusal::Syntax(at) => syntax_message(alloc, &job.program, at),
-        Refusal::Name(at) => match parse(alloc, &job.program) {
-            Ok(parsed) => name_message(alloc, &parsed, at),
-            Err(_) => refusal_message(alloc, refusal, &job.program, &job.input),
-        },
-        Refusal::Mismatch(at) => {
-            if let Some((parsed, clash)) = clash_found(alloc, at, job) {
-                return mismatch_message(alloc, &parsed, at, &clash);
-            }
-            refusal_message(alloc, refusal, &job.program, &job.input)
-        }
-        Refusal::Streamed(at) => streamed_message(alloc, &job.program, at),
-        Refusal::BadInput(at) => input_message(alloc, &job.program, &job.input, at),
-        _ => refusal_message(alloc, refusal, &job.program, &job.input),
-    }
-}
-
-// The program, and the types that clash in it at the offset, where they are found.
-fn clash_found(alloc: Global, at: usize, job: &Job<'_>) -> Option<(Program, Clash)> {
-    let parsed = parse(alloc, &job.program).ok()?;
-    let clash = clash_at(alloc, &parsed, at).ok()??;
-    Some((parsed, clash))
-}
-
-// The refusal with the offset at which its message has its caret: of types that do not fit that of the part at fault.
-fn shown_refusal(alloc: Global, refusal: Refusal, job: &Job<'_>) -> Refusal {
-    if let Refusal::Mismatch(at) = refusal
-        && let Some((parsed, clash)) = clash_found(alloc, at, job)
-    {
-        return Refusal::Mismatch(culprit_of(&parsed, at, &clash).unwrap_or(at));
-    }
-    refusal
 }
 
 // Says why a job is refused, and gives the exit status.
@@ -91,12 +59,14 @@ pub(crate) fn say_refused<E: Write>(
     job: &Job<'_>,
     err: &mut Voice<'_, E>,
 ) -> u8 {
-    let message = job_message(alloc, refusal, job);
-    let shown = shown_refusal(alloc, refusal, job);
-    if say_place_of_refusal(alloc, shown, job, err).is_err() {
+    let advice = match advice_on(alloc, refusal, &job.program, &job.input) {
+        Ok(advice) => advice,
+        Err(AllocError) => return say_plainly(Refusal::NoMemory, err),
+    };
+    if say_place_of_refusal(alloc, advice.shown, job, err).is_err() {
         return say_plainly(Refusal::NoMemory, err);
     }
-    say(message, refusal.status(), err)
+    say(Ok(advice.message), refusal.status(), err)
 }
 
 // Of a longer input text no values are told, for which the program is evaluated anew.
@@ -118,29 +88,6 @@ fn note_of_fault(alloc: Global, fault: Fault, job: &Job<'_>) -> Option<Vec<u8>> 
     None
 }
 
-// What is said of a fault, with a note of the values there.
-fn noted_fault_message(
-    alloc: Global,
-    fault: Fault,
-    program: &[u8],
-    note: Vec<u8>,
-) -> Result<Vec<u8>, AllocError> {
-    let mut notes = Vec::new(alloc);
-    notes.push(note)?;
-    if let Some(name) = function_at(program, fault.at) {
-        let mut inside = Vec::from_slice(alloc, b"this is in the function `")?;
-        inside.extend_from_slice(name)?;
-        inside.extend_from_slice(b"`; which call of it led here is not known")?;
-        notes.push(inside)?;
-    }
-    let sentence = fault_sentence(fault.kind).as_bytes();
-    let hint = match fault_hint(fault.kind) {
-        Some(hint) => hint.as_bytes(),
-        None => b"",
-    };
-    noted_message(alloc, sentence, program, fault.at, "", &notes, hint)
-}
-
 // Says in which fault a program ends, and gives the exit status.
 pub(crate) fn say_fault<E: Write>(
     alloc: Global,
@@ -158,11 +105,13 @@ pub(crate) fn say_fault<E: Write>(
     say(message, 2, err)
 }
 
-// What is said of a file that cannot be opened.
-pub(crate) fn unopened_message(alloc: Global, path: &str) -> Result<Vec<u8>, AllocError> {
+// What is said of a file: what it could not be.
+pub(crate) fn file_message(alloc: Global, path: &str, what: &[u8]) -> Result<Vec<u8>, AllocError> {
     let mut message = Vec::from_slice(alloc, b"error: the file `")?;
     message.extend_from_slice(path.as_bytes())?;
-    message.extend_from_slice(b"` could not be opened\n")?;
+    message.extend_from_slice(b"` ")?;
+    message.extend_from_slice(what)?;
+    message.extend_from_slice(b"\n")?;
     Ok(message)
 }
 

@@ -2,10 +2,9 @@
 
 use crate::command_line::{config_of, file_word};
 use crate::reading::{Job, read_job};
-use crate::saying::{say, say_fault, say_plainly, say_refused};
+use crate::saying::{print, say, say_fault, say_refused};
 use crate::voice::Voice;
 use clap::{Arg, ArgMatches, Command};
-use snesl_console::send;
 use snesl_data::{Counted, Refusal};
 use snesl_look::{Enough, stalled_message};
 use snesl_size::{Size, least_capacity, size_table};
@@ -58,7 +57,7 @@ pub(crate) fn size_file<H: AllocGlobal + Files + Threads, R: Read + Drop, W: Wri
                 full,
                 rested,
             },
-        ) => print_table(size_table(alloc, least, full, &rested), out, err),
+        ) => print(size_table(alloc, least, full, &rested), 0, out, err),
         Ok(Size::Faults(fault)) => say_fault(alloc, fault, &job, err),
         Ok(Size::NeverEnds) => say(
             stalled_message(alloc, &job.program, None, Enough::Nothing),
@@ -66,19 +65,6 @@ pub(crate) fn size_file<H: AllocGlobal + Files + Threads, R: Read + Drop, W: Wri
             err,
         ),
         Err(refusal) => say_refused(alloc, refusal, &job, err),
-    }
-}
-
-// Prints a table, unless memory was refused to it.
-fn print_table<W: Write, E: Write>(
-    table: Result<Vec<u8>, AllocError>,
-    out: &mut Counted<W>,
-    err: &mut Voice<'_, E>,
-) -> u8 {
-    match table {
-        Ok(table) if send(out, &table) => 0,
-        Ok(_) => say_plainly(Refusal::Output, err),
-        Err(AllocError) => say_plainly(Refusal::NoMemory, err),
     }
 }
 

@@ -2,6 +2,7 @@
 
 ghost use Rattle.std.specs.Prelude.{IfOk};
 ghost use Rattle.snesl_advice.specs.Advice.{IsMismatchAdvice, IsShown, IsToldOfRefusal};
+ghost use Rattle.snesl_advice.specs.Told.{IsToldAt};
 
 use crate::inputs::input_message;
 use crate::lexemes::lexical_message;
@@ -9,9 +10,10 @@ use crate::mismatches::mismatch_message;
 use crate::names::name_message;
 use crate::streams::streamed_message;
 use crate::syntax::{shown_place, syntax_message};
+use crate::telling::tell;
 use snesl_culprits::culprit_of;
 use snesl_data::Refusal;
-use snesl_look::refusal_message;
+use snesl_look::{refusal_message, refusal_sentence};
 use snesl_syntax::parse;
 use snesl_types::clash_at;
 use std::alloc::{AllocError, Global};
@@ -45,7 +47,7 @@ pub fn advice_on(
             syntax_message(alloc, program, at)?,
             Refusal::Syntax(shown_place(program, at)),
         ),
-        Refusal::Name(at) => (name_message(alloc, program, at)?, refusal),
+        Refusal::Name(at) => (name_advice(alloc, program, at)?, refusal),
         Refusal::Mismatch(at) => return mismatch_advice(alloc, program, at),
         Refusal::Streamed(at) => (streamed_message(alloc, program, at)?, refusal),
         Refusal::BadInput(at) => (input_message(alloc, program, input, at)?, refusal),
@@ -72,4 +74,17 @@ fn mismatch_advice(alloc: Global, program: &[u8], at: usize) -> Result<Advice, A
         message: refusal_message(alloc, shown, program, &[])?,
         shown,
     })
+}
+
+// What is said of a name. Where memory was refused to the program's tree, it is the sentence alone.
+fn name_advice(alloc: Global, program: &[u8], at: usize) -> Result<Vec<u8>, AllocError>
+    ensures { IfOk result (λ message. IsToldAt program.now at message.items) }
+{
+    match parse(alloc, program) {
+        Ok(parsed) => name_message(alloc, &parsed, at),
+        Err(_) => {
+            let sentence = refusal_sentence(Refusal::Name(at));
+            tell(alloc, program, at, sentence.as_bytes(), &[], b"")
+        }
+    }
 }
