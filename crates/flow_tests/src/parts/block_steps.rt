@@ -484,7 +484,8 @@ fn first_wrong<T: Transducer, E: Meeting>(
 
 // Each of three edges goes from a share to itself.
 fn own_owners() -> [EdgeOwners; 3]
-    ensures { let own = record { writer = 0; reader = 0 } in result ≡ own ∷ own ∷ own ∷ [] }
+    ensures { result ≡ record { writer = 0; reader = 0 } ∷ record { writer = 0; reader = 0 } ∷
+        record { writer = 0; reader = 0 } ∷ [] }
 {
     let own = EdgeOwners {
         writer: 0,
