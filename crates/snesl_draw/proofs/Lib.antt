@@ -1,2 +1,3 @@
 mod Pieces
+mod Reaches
 mod Strings

@@ -1,16 +1,14 @@
 -- A network as a text, and as a picture in DOT.
-use Rattle.std.specs.Prelude.{ℕ, ◌++◌, ◌==◌, List, [], ◌∷◌, codes, decimal, flat_map, fold, if◌then◌else◌}
+use Rattle.std.specs.Prelude.{ℕ, ◌++◌, ◌==◌, List, [], ◌∷◌, Bool, true, false, Option, Some, None, codes, decimal, flat_map, if◌then◌else◌}
 use Rattle.std.specs.List.{list_any}
 use Rattle.flow_messages.specs.declared.message.Kind.{Kind}
-use Rattle.snesl_draw.specs.Lines.{edge_label, form_at, line_and_column, width_part}
-use Rattle.snesl_draw.specs.Quoting.{quoted}
-use Rattle.snesl_draw.specs.Words.{kind_colour}
+use Rattle.flow_messages.specs.declared.message.Kind.TheVariants as kind
+use Rattle.snesl_draw.specs.Forms.{has_form}
+use Rattle.snesl_draw.specs.Lines.{edge_label, form_title, line_and_column, node_title, width_of}
+use Rattle.snesl_draw.specs.Words.{is_kind, kind_colour, kind_word}
 use Rattle.snesl_draw.specs.declared.drawing.DrawnEdge.{DrawnEdge}
+use Rattle.snesl_draw.specs.declared.drawing.DrawnForm.{DrawnForm}
 use Rattle.snesl_draw.specs.declared.drawing.DrawnNode.{DrawnNode}
-
--- `4 Binary: Multiply`
-abbrev pub node_title : DrawnNode → List ℕ
-node_title node = decimal node.number ++ codes " " ++ node.word.now
 
 -- an edge that ends in a node: ` <- `, where it begins, and what goes over it
 abbrev pub read_by : ℕ → DrawnEdge → List ℕ
@@ -25,59 +23,76 @@ written_by number edge =
 -- a node's line: its title, its place, the edges that it reads, and those that it writes
 abbrev pub node_text : List ℕ → List DrawnEdge → DrawnNode → List ℕ
 node_text program edges node =
-    node_title node ++ codes " " ++ line_and_column program node.at ++ flat_map (read_by node.number) edges
+    node_title program node ++ codes " " ++ line_and_column program node.at ++ flat_map (read_by node.number) edges
     ++ flat_map (written_by node.number) edges ++ codes "\n"
 
 -- a line for each node
 abbrev pub network_text : List ℕ → List DrawnNode → List DrawnEdge → List ℕ
 network_text program nodes edges = flat_map (node_text program edges) nodes
 
--- a node in DOT, where it comes from this form
-abbrev pub node_of_form : ℕ → DrawnNode → List ℕ
-node_of_form at node =
-    if node.at == at then codes "    n" ++ decimal node.number ++ codes " [label=\"" ++ node_title node ++ codes "\"];\n" else []
+-- a node in DOT
+abbrev pub node_line : List ℕ → DrawnNode → List ℕ
+node_line program node = codes "  n" ++ decimal node.number ++ codes " [label=\"" ++ node_title program node ++ codes "\"];\n"
 
--- what a form is called: its place, and its text
-abbrev pub form_title : List ℕ → ℕ → List ℕ
-form_title program at = line_and_column program at ++ codes "  " ++ quoted (form_at program at)
+-- where none of the forms is its own, it stands free
+abbrev pub free_node : List ℕ → List DrawnForm → DrawnNode → List ℕ
+free_node program forms node = if has_form forms node.at then [] else node_line program node
 
--- the beginning of its frame
-abbrev pub frame_head : List ℕ → ℕ → List ℕ
-frame_head program at =
-    codes "  subgraph cluster_" ++ decimal at ++ codes " {\n    bgcolor=\"#f4f4f4\"; label=\"" ++ form_title program at ++ codes "\";\n"
+-- where it comes from this form, it stands in its frame
+abbrev pub node_of_form : List ℕ → ℕ → DrawnNode → List ℕ
+node_of_form program at node = if node.at == at then node_line program node else []
+
+-- the beginning of a form's frame, with its title beside its first nodes, where no edge crosses it
+abbrev pub frame_head : List ℕ → DrawnForm → List ℕ
+frame_head program form =
+    codes "  subgraph cluster_" ++ decimal form.at ++ codes " {\n  color=\"#cccccc\"; bgcolor=\"#f4f4f4\";\n  f" ++ decimal form.at
+    ++ codes " [shape=plaintext, style=\"\", width=0, margin=\"0.05,0\", label=\"" ++ form_title program form ++ codes "\"];\n"
 
 -- the nodes of a form, in a frame
-abbrev pub frame : List ℕ → List DrawnNode → ℕ → List ℕ
-frame program nodes at = frame_head program at ++ flat_map (node_of_form at) nodes ++ codes "  }\n"
-
--- the offsets from which nodes come, each once
-abbrev pub one_more_form : List ℕ → DrawnNode → List ℕ
-one_more_form forms node = if list_any (λ at. at == node.at) forms then forms else forms ++ node.at ∷ []
-
-abbrev pub forms : List DrawnNode → List ℕ
-forms nodes = fold one_more_form [] nodes
+abbrev pub frame : List ℕ → List DrawnNode → DrawnForm → List ℕ
+frame program nodes form = frame_head program form ++ flat_map (node_of_form program form.at) nodes ++ codes "  }\n"
 
 -- an arrow of DOT, from the writer of an edge to its reader
 abbrev pub arrow : DrawnEdge → List ℕ
 arrow edge = codes "  n" ++ decimal edge.edge.writer ++ codes " -> n" ++ decimal edge.edge.reader
 
--- the colour of an edge and of its label
-abbrev pub colours : Kind → List ℕ
-colours kind = codes ", color=\"" ++ kind_colour kind ++ codes "\", fontcolor=\"" ++ kind_colour kind ++ codes "\""
+-- how many messages went over an edge, in a colour, and how thick it is for them
+abbrev pub traffic_part : List ℕ → Option ℕ → List ℕ
+traffic_part colour None = []
+traffic_part colour (Some messages) =
+    codes ", label=\" " ++ decimal messages ++ codes "\", fontcolor=\"" ++ colour ++ codes "\", penwidth=" ++ decimal (width_of messages)
 
--- an edge in DOT: with what goes over it, in the colour of its kind
+-- an edge in DOT, in the colour of its kind
 abbrev pub edge_line : DrawnEdge → List ℕ
 edge_line edge =
-    arrow edge ++ codes " [label=\"" ++ edge_label edge ++ codes "\"" ++ colours edge.kind ++ width_part edge.messages ++ codes "];\n"
+    arrow edge ++ codes " [color=\"" ++ kind_colour edge.kind ++ codes "\"" ++ traffic_part (kind_colour edge.kind) edge.messages ++ codes "];\n"
+
+-- what a kind is called, in its colour, where some edge is of that kind
+abbrev pub legend_cell : List DrawnEdge → Kind → List ℕ
+legend_cell edges k =
+    if list_any (λ edge. is_kind k edge.kind) edges
+    then codes "<td><font color=\"" ++ kind_colour k ++ codes "\">" ++ kind_word k ++ codes "</font></td>" else []
+
+-- the colours of the kinds that edges are of, in a corner
+abbrev pub legend : List DrawnEdge → List ℕ
+legend [] = []
+legend (edge ∷ edges) =
+    codes "  label=<<table border=\"1\" cellborder=\"0\" color=\"#cccccc\"><tr>"
+    ++ legend_cell (edge ∷ edges) kind.Unit ++ legend_cell (edge ∷ edges) kind.Bool
+    ++ legend_cell (edge ∷ edges) kind.Int ++ legend_cell (edge ∷ edges) kind.Vec
+    ++ codes "</tr></table>>; labelloc=b; labeljust=r;\n"
 
 -- the settings of the picture
 abbrev pub head : List ℕ
 head =
     codes "digraph network {\n"
-    ++ codes "  newrank=true; fontname=\"Helvetica\"; fontsize=10; labeljust=l; color=\"#cccccc\"; bgcolor=white;\n"
-    ++ codes "  node [shape=box, style=\"rounded,filled\", fillcolor=white, height=0.3, fontname=\"Helvetica\", fontsize=10];\n"
+    ++ codes "  nodesep=0.25; ranksep=0.3; fontname=\"Helvetica\"; fontsize=10; bgcolor=white;\n"
+    ++ codes "  node [shape=box, style=\"rounded,filled\", fillcolor=white, height=0.25, margin=\"0.08,0.04\",\n"
+    ++ codes "    fontname=\"Helvetica\", fontsize=10];\n"
     ++ codes "  edge [arrowsize=0.6, fontname=\"Helvetica\", fontsize=8];\n"
 
--- the frames of the forms, and the edges
-abbrev pub network_dot : List ℕ → List DrawnNode → List DrawnEdge → List ℕ
-network_dot program nodes edges = head ++ flat_map (frame program nodes) (forms nodes) ++ flat_map edge_line edges ++ codes "}\n"
+-- the nodes that stand free, the frames of the forms, the edges, and the legend
+abbrev pub network_dot : List ℕ → List DrawnNode → List DrawnEdge → List DrawnForm → List ℕ
+network_dot program nodes edges forms =
+    head ++ flat_map (free_node program forms) nodes ++ flat_map (frame program nodes) forms ++ flat_map edge_line edges
+    ++ legend edges ++ codes "}\n"

@@ -1,5 +1,5 @@
 -- What nodes and messages are called.
-use Rattle.std.specs.Prelude.{ℕ, List, codes}
+use Rattle.std.specs.Prelude.{ℕ, List, Bool, true, false, codes}
 use Rattle.snesl_operators.specs.declared.operator.UnaryOperator.{UnaryOperator}
 use Rattle.snesl_operators.specs.declared.operator.UnaryOperator.TheVariants.{Negate, Not}
 use Rattle.snesl_operators.specs.declared.operator.BinaryOperator.{BinaryOperator}
@@ -24,6 +24,14 @@ kind_colour kind.Unit = codes "#777777"
 kind_colour kind.Bool = codes "#b35900"
 kind_colour kind.Int = codes "#1a5fb4"
 kind_colour kind.Vec = codes "#26782e"
+
+-- whether two kinds are the same
+abbrev pub is_kind : Kind → Kind → Bool
+is_kind kind.Unit kind.Unit = true
+is_kind kind.Bool kind.Bool = true
+is_kind kind.Int kind.Int = true
+is_kind kind.Vec kind.Vec = true
+is_kind _ _ = false
 
 abbrev pub unary_word : UnaryOperator → List ℕ
 unary_word Negate = codes "Unary: Negate"

@@ -1,60 +1,97 @@
 // A network as a picture, in DOT.
 
 ghost use Rattle.std.specs.Prelude.{◌≡◌, ◌++◌, IfOk, OnOk, flat_map};
-ghost use Rattle.snesl_draw.specs.Texts.{arrow, colours, edge_line, form_title, forms, frame, frame_head, network_dot, node_of_form, one_more_form};
+ghost use Rattle.std.specs.List.{list_any};
+ghost use Rattle.snesl_draw.specs.Texts.{arrow, edge_line, frame, frame_head, free_node, legend, legend_cell, network_dot, node_line, node_of_form, traffic_part};
+ghost use Rattle.snesl_draw.specs.Words.{is_kind};
 
-use crate::drawing::{Drawing, DrawnEdge, DrawnNode};
+use crate::drawing::{Drawing, DrawnEdge, DrawnForm, DrawnNode};
+use crate::forms::has_form;
 use crate::lines::{
-    append_carried, append_number, append_place, append_text, append_title, append_width, form_at,
+    append_form_title, append_messages, append_number, append_text, append_title, append_width,
 };
-use crate::quoting::quoted;
-use crate::words::kind_colour;
+use crate::words::{is_kind, kind_colour, kind_word};
 use flow_messages::Kind;
 use std::alloc::{AllocError, Global};
 
 // The settings of the picture.
 const HEAD: &str = "digraph network {
-  newrank=true; fontname=\"Helvetica\"; fontsize=10; labeljust=l; color=\"#cccccc\"; bgcolor=white;
-  node [shape=box, style=\"rounded,filled\", fillcolor=white, height=0.3, fontname=\"Helvetica\", fontsize=10];
+  nodesep=0.25; ranksep=0.3; fontname=\"Helvetica\"; fontsize=10; bgcolor=white;
+  node [shape=box, style=\"rounded,filled\", fillcolor=white, height=0.25, margin=\"0.08,0.04\",
+    fontname=\"Helvetica\", fontsize=10];
   edge [arrowsize=0.6, fontname=\"Helvetica\", fontsize=8];
 ";
 
-/// The network of a program as a picture in DOT: a box for each node, in a frame for each form of the program that nodes
-/// come from, and an arrow for each edge, with the kind of its items and how many messages went over it, where that is
-/// known. The error is that memory was refused.
+// Those of a frame, and of its title.
+const FRAME: &str = " {\n  color=\"#cccccc\"; bgcolor=\"#f4f4f4\";\n  f";
+
+const TITLE: &str = " [shape=plaintext, style=\"\", width=0, margin=\"0.05,0\", label=\"";
+
+/// The network of a program as a picture in DOT. It has a box for each node: in a frame for each of the forms, or free. It has
+/// an arrow for each edge, in the colour of the kind of its items, with how many messages went over it, where that is known, and
+/// a legend of the colours. The error is that memory was refused.
 pub fn network_dot(alloc: Global, program: &[u8], drawing: &Drawing) -> Result<Vec<u8>, AllocError>
     ensures { IfOk result (λ text. text.items
-        ≡ network_dot program.now drawing.now.nodes.items drawing.now.edges.items) }
+        ≡ network_dot program.now drawing.now.nodes.items drawing.now.edges.items
+        drawing.now.forms.items) }
 {
-    let forms = forms(alloc, &drawing.nodes)?;
     let mut text = Vec::new(alloc);
     append_text(&mut text, HEAD)?;
-    append_frames(&mut text, alloc, program, &drawing.nodes, &forms)?;
+    append_free(&mut text, alloc, program, &drawing.forms, &drawing.nodes)?;
+    append_frames(&mut text, alloc, program, &drawing.nodes, &drawing.forms)?;
     append_edges(&mut text, &drawing.edges)?;
+    append_legend(&mut text, &drawing.edges)?;
     append_text(&mut text, "}\n")?;
     Ok(text)
 }
 
-// The offsets from which nodes come, each once.
-fn forms(alloc: Global, nodes: &[DrawnNode]) -> Result<Vec<usize>, AllocError>
-    ensures { IfOk result (λ made. made.items ≡ forms nodes.now) }
+// The nodes that stand free.
+fn append_free(
+    text: &mut Vec<u8>,
+    alloc: Global,
+    program: &[u8],
+    forms: &[DrawnForm],
+    nodes: &[DrawnNode],
+) -> Result<(), AllocError>
+    ensures { OnOk result (text.new.items
+        ≡ text.old.items ++ flat_map (free_node program.now forms.now) nodes.now) }
 {
-    let mut forms = Vec::new(alloc);
     for node in nodes {
-        add_form(&mut forms, *node)?;
+        append_free_node(text, alloc, program, forms, *node)?;
     }
-    Ok(forms)
+    Ok(())
 }
 
-// That of one node.
-fn add_form(forms: &mut Vec<usize>, node: DrawnNode) -> Result<(), AllocError>
-    ensures { OnOk result (forms.new.items ≡ one_more_form forms.old.items node) }
+// A node, if none of the forms is its own.
+fn append_free_node(
+    text: &mut Vec<u8>,
+    alloc: Global,
+    program: &[u8],
+    forms: &[DrawnForm],
+    node: DrawnNode,
+) -> Result<(), AllocError>
+    ensures { OnOk result (text.new.items
+        ≡ text.old.items ++ free_node program.now forms.now node) }
 {
-    if forms.contains(&node.at) {
+    if has_form(forms, node.at) {
         return Ok(());
     }
-    forms.push(node.at)?;
-    Ok(())
+    append_node(text, alloc, program, node)
+}
+
+fn append_node(
+    text: &mut Vec<u8>,
+    alloc: Global,
+    program: &[u8],
+    node: DrawnNode,
+) -> Result<(), AllocError>
+    ensures { OnOk result (text.new.items ≡ text.old.items ++ node_line program.now node) }
+{
+    append_text(text, "  n")?;
+    append_number(text, node.number)?;
+    append_text(text, " [label=\"")?;
+    append_title(text, alloc, program, node)?;
+    append_text(text, "\"];\n")
 }
 
 fn append_frames(
@@ -62,13 +99,13 @@ fn append_frames(
     alloc: Global,
     program: &[u8],
     nodes: &[DrawnNode],
-    forms: &[usize],
+    forms: &[DrawnForm],
 ) -> Result<(), AllocError>
     ensures { OnOk result (text.new.items
         ≡ text.old.items ++ flat_map (frame program.now nodes.now) forms.now) }
 {
-    for at in forms {
-        append_frame(text, alloc, program, nodes, *at)?;
+    for form in forms {
+        append_frame(text, alloc, program, nodes, *form)?;
     }
     Ok(())
 }
@@ -79,68 +116,64 @@ fn append_frame(
     alloc: Global,
     program: &[u8],
     nodes: &[DrawnNode],
-    at: usize,
+    form: DrawnForm,
 ) -> Result<(), AllocError>
-    ensures { OnOk result (text.new.items ≡ text.old.items ++ frame program.now nodes.now at) }
+    ensures { OnOk result (text.new.items ≡ text.old.items ++ frame program.now nodes.now form) }
 {
-    append_frame_head(text, alloc, program, at)?;
-    append_nodes(text, nodes, at)?;
+    append_frame_head(text, alloc, program, form)?;
+    append_nodes(text, alloc, program, nodes, form.at)?;
     append_text(text, "  }\n")
 }
 
-// Its beginning.
+// Its beginning, with its title beside its first nodes, where no edge crosses it.
 fn append_frame_head(
     text: &mut Vec<u8>,
     alloc: Global,
     program: &[u8],
-    at: usize,
+    form: DrawnForm,
 ) -> Result<(), AllocError>
-    ensures { OnOk result (text.new.items ≡ text.old.items ++ frame_head program.now at) }
+    ensures { OnOk result (text.new.items ≡ text.old.items ++ frame_head program.now form) }
 {
     append_text(text, "  subgraph cluster_")?;
-    append_number(text, at)?;
-    append_text(text, " {\n    bgcolor=\"#f4f4f4\"; label=\"")?;
-    append_form_title(text, alloc, program, at)?;
-    append_text(text, "\";\n")
-}
-
-// The place of a form, and its text.
-fn append_form_title(
-    text: &mut Vec<u8>,
-    alloc: Global,
-    program: &[u8],
-    at: usize,
-) -> Result<(), AllocError>
-    ensures { OnOk result (text.new.items ≡ text.old.items ++ form_title program.now at) }
-{
-    let form = quoted(alloc, form_at(program, at))?;
-    append_place(text, program, at)?;
-    append_text(text, "  ")?;
-    text.extend_from_slice(&form)
+    append_number(text, form.at)?;
+    append_text(text, FRAME)?;
+    append_number(text, form.at)?;
+    append_text(text, TITLE)?;
+    append_form_title(text, alloc, program, form)?;
+    append_text(text, "\"];\n")
 }
 
 // The nodes of a form.
-fn append_nodes(text: &mut Vec<u8>, nodes: &[DrawnNode], at: usize) -> Result<(), AllocError>
-    ensures { OnOk result (text.new.items ≡ text.old.items ++ flat_map (node_of_form at) nodes.now) }
+fn append_nodes(
+    text: &mut Vec<u8>,
+    alloc: Global,
+    program: &[u8],
+    nodes: &[DrawnNode],
+    at: usize,
+) -> Result<(), AllocError>
+    ensures { OnOk result (text.new.items
+        ≡ text.old.items ++ flat_map (node_of_form program.now at) nodes.now) }
 {
     for node in nodes {
-        append_node(text, *node, at)?;
+        append_node_of_form(text, alloc, program, *node, at)?;
     }
     Ok(())
 }
 
 // A node, if it comes from this form.
-fn append_node(text: &mut Vec<u8>, node: DrawnNode, at: usize) -> Result<(), AllocError>
-    ensures { OnOk result (text.new.items ≡ text.old.items ++ node_of_form at node) }
+fn append_node_of_form(
+    text: &mut Vec<u8>,
+    alloc: Global,
+    program: &[u8],
+    node: DrawnNode,
+    at: usize,
+) -> Result<(), AllocError>
+    ensures { OnOk result (text.new.items ≡ text.old.items ++ node_of_form program.now at node) }
 {
     if node.at != at {
         return Ok(());
     }
-    append_text(text, "    n")?;
-    append_number(text, node.number)?;
-    append_text(text, " [label=\"")?;
-    append_title(text, node)?;
-    append_text(text, "\"];\n")
+    append_node(text, alloc, program, node)
 }
 
 fn append_edges(text: &mut Vec<u8>, edges: &[DrawnEdge]) -> Result<(), AllocError>
@@ -155,12 +188,12 @@ fn append_edges(text: &mut Vec<u8>, edges: &[DrawnEdge]) -> Result<(), AllocErro
 fn append_edge(text: &mut Vec<u8>, edge: DrawnEdge) -> Result<(), AllocError>
     ensures { OnOk result (text.new.items ≡ text.old.items ++ edge_line edge) }
 {
+    let colour = kind_colour(edge.kind);
     append_arrow(text, edge)?;
-    append_text(text, " [label=\"")?;
-    append_carried(text, edge)?;
+    append_text(text, " [color=\"")?;
+    append_text(text, colour)?;
     append_text(text, "\"")?;
-    append_colours(text, edge.kind)?;
-    append_width(text, edge.messages)?;
+    append_traffic(text, colour, edge.messages)?;
     append_text(text, "];\n")
 }
 
@@ -174,14 +207,57 @@ fn append_arrow(text: &mut Vec<u8>, edge: DrawnEdge) -> Result<(), AllocError>
     append_number(text, edge.edge.reader)
 }
 
-// The colour of an edge and of its label.
-fn append_colours(text: &mut Vec<u8>, kind: Kind) -> Result<(), AllocError>
-    ensures { OnOk result (text.new.items ≡ text.old.items ++ colours kind) }
+// How many messages went over an edge, and how thick it is for them, where that is known.
+fn append_traffic(text: &mut Vec<u8>, colour: &str, messages: Option<u64>) -> Result<(), AllocError>
+    ensures { OnOk result (text.new.items ≡ text.old.items ++ traffic_part colour.now messages) }
 {
-    let colour = kind_colour(kind);
-    append_text(text, ", color=\"")?;
-    append_text(text, colour)?;
-    append_text(text, "\", fontcolor=\"")?;
-    append_text(text, colour)?;
-    append_text(text, "\"")
+    match messages {
+        Some(messages) => {
+            append_text(text, ", label=\" ")?;
+            append_messages(text, messages)?;
+            append_text(text, "\", fontcolor=\"")?;
+            append_text(text, colour)?;
+            append_text(text, "\", penwidth=")?;
+            append_width(text, messages)
+        }
+        None => Ok(()),
+    }
+}
+
+// The colours of the kinds that edges are of, if there are edges.
+fn append_legend(text: &mut Vec<u8>, edges: &[DrawnEdge]) -> Result<(), AllocError>
+    ensures { OnOk result (text.new.items ≡ text.old.items ++ legend edges.now) }
+{
+    if edges.is_empty() {
+        return Ok(());
+    }
+    append_text(
+        text,
+        "  label=<<table border=\"1\" cellborder=\"0\" color=\"#cccccc\"><tr>",
+    )?;
+    append_legend_cell(text, edges, Kind::Unit)?;
+    append_legend_cell(text, edges, Kind::Bool)?;
+    append_legend_cell(text, edges, Kind::Int)?;
+    append_legend_cell(text, edges, Kind::Vec)?;
+    append_text(text, "</tr></table>>; labelloc=b; labeljust=r;\n")
+}
+
+// What a kind is called, in its colour, if some edge is of that kind.
+fn append_legend_cell(text: &mut Vec<u8>, edges: &[DrawnEdge], kind: Kind) -> Result<(), AllocError>
+    ensures { OnOk result (text.new.items ≡ text.old.items ++ legend_cell edges.now kind) }
+{
+    if !has_kind(edges, kind) {
+        return Ok(());
+    }
+    append_text(text, "<td><font color=\"")?;
+    append_text(text, kind_colour(kind))?;
+    append_text(text, "\">")?;
+    append_text(text, kind_word(kind))?;
+    append_text(text, "</font></td>")
+}
+
+fn has_kind(edges: &[DrawnEdge], kind: Kind) -> bool
+    ensures { result ≡ list_any (λ edge. is_kind kind edge.kind) edges.now }
+{
+    edges.iter().any(|edge| is_kind(kind, edge.kind))
 }

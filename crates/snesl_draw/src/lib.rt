@@ -3,15 +3,19 @@
 
 mod dot;
 mod drawing;
+mod forms;
+mod inputs;
 mod lines;
 mod network;
 mod quoting;
+mod reach;
 mod steps;
 mod text;
 mod words;
 
 pub use dot::network_dot;
-pub use drawing::{Drawing, DrawnEdge, DrawnNode};
+pub use drawing::{Drawing, DrawnEdge, DrawnForm, DrawnNode, InputStream};
+pub use forms::drawn_form;
 pub use network::drawing_of;
 pub use quoting::quoted;
 pub use text::network_text;

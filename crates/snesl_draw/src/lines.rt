@@ -1,20 +1,24 @@
 // The parts of a drawing.
 
-ghost use Rattle.std.specs.Prelude.{◌≡◌, ◌++◌, OnOk, decimal};
-ghost use Rattle.snesl_draw.specs.Lines.{edge_label, form_at, line_and_column, width_of, width_part};
-ghost use Rattle.snesl_draw.specs.Texts.{node_title};
+ghost use Rattle.std.specs.Prelude.{◌≡◌, ◌++◌, IfOk, OnOk, decimal, false};
+ghost use Rattle.snesl_draw.specs.Lines.{cut, edge_label, form_title, in_one_line, input_part, line_and_column, node_title, one_blank, part_of_input, width_of};
 
-use crate::drawing::{DrawnEdge, DrawnNode};
+use crate::drawing::{DrawnEdge, DrawnForm, DrawnNode, InputStream};
+use crate::quoting::quoted;
 use crate::words::kind_word;
 use itoa::Buffer;
-use snesl_look::{line_at, position_of};
-use std::alloc::AllocError;
+use snesl_data::is_blank;
+use snesl_look::position_of;
+use std::alloc::{AllocError, Global};
 
 // Of a form so many bytes are shown at most.
 const MOST_SHOWN: usize = 40;
 
+// `…`, which says that more is there.
+const MORE: [u8; 3] = [0xe2, 0x80, 0xa6];
+
 // An edge is no thicker.
-const MOST_WIDTH: usize = 5;
+const MOST_WIDTH: usize = 3;
 
 pub(crate) fn append_text(text: &mut Vec<u8>, more: &str) -> Result<(), AllocError>
     ensures { OnOk result (text.new.items ≡ text.old.items ++ more.now) }
@@ -39,24 +43,103 @@ pub(crate) fn append_place(text: &mut Vec<u8>, program: &[u8], at: usize) -> Res
     append_number(text, position.column)
 }
 
-// What stands at an offset in its line, or a beginning of it.
-pub(crate) fn form_at(program: &[u8], at: usize) -> &[u8]
-    ensures { result.now ≡ form_at program.now at }
+// What a form is called: where it begins, and its text, each in a line that begins at the left.
+pub(crate) fn append_form_title(
+    text: &mut Vec<u8>,
+    alloc: Global,
+    program: &[u8],
+    form: DrawnForm,
+) -> Result<(), AllocError>
+    ensures { OnOk result (text.new.items ≡ text.old.items ++ form_title program.now form) }
 {
-    let line = line_at(program, at);
-    let start = (position_of(program, at).column - 1).min(line.len());
-    let rest = &line[start..];
-    let shown = MOST_SHOWN.min(rest.len());
-    &rest[..shown]
+    let line = in_one_line(alloc, form.piece.spelled(program))?;
+    append_place(text, program, form.piece.at)?;
+    append_text(text, "\\l")?;
+    append_cut(text, alloc, &line)?;
+    append_text(text, "\\l")
+}
+
+// A text in one line.
+fn in_one_line(alloc: Global, text: &[u8]) -> Result<Vec<u8>, AllocError>
+    ensures { IfOk result (λ line. line.items ≡ in_one_line false text.now) }
+{
+    let mut line = Vec::with_capacity(alloc, text.len())?;
+    let mut after_blank = false;
+    for byte in text {
+        append_one_blank(&mut line, after_blank, *byte)?;
+        after_blank = is_blank(*byte);
+    }
+    Ok(line)
+}
+
+// One blank for blanks and line feeds in a row, and another byte itself.
+fn append_one_blank(line: &mut Vec<u8>, after_blank: bool, byte: u8) -> Result<(), AllocError>
+    ensures { OnOk result (line.new.items ≡ line.old.items ++ one_blank after_blank byte) }
+{
+    if !is_blank(byte) {
+        line.push(byte)?;
+    } else if !after_blank {
+        line.push(b' ')?;
+    }
+    Ok(())
+}
+
+// A text, or its beginning and `…`.
+fn append_cut(text: &mut Vec<u8>, alloc: Global, line: &[u8]) -> Result<(), AllocError>
+    ensures { OnOk result (text.new.items ≡ text.old.items ++ cut line.now) }
+{
+    let shown = quoted(alloc, &line[..MOST_SHOWN.min(line.len())])?;
+    text.extend_from_slice(&shown)?;
+    if MOST_SHOWN < line.len() {
+        text.extend_from_slice(&MORE)?;
+    }
+    Ok(())
 }
 
 // The number of a node, and what it is called.
-pub(crate) fn append_title(text: &mut Vec<u8>, node: DrawnNode) -> Result<(), AllocError>
-    ensures { OnOk result (text.new.items ≡ text.old.items ++ node_title node) }
+pub(crate) fn append_title(
+    text: &mut Vec<u8>,
+    alloc: Global,
+    program: &[u8],
+    node: DrawnNode,
+) -> Result<(), AllocError>
+    ensures { OnOk result (text.new.items ≡ text.old.items ++ node_title program.now node) }
 {
     append_number(text, node.number)?;
     append_text(text, " ")?;
-    append_text(text, node.word)
+    append_text(text, node.word)?;
+    append_input(text, alloc, program, node.input)
+}
+
+// The stream of an input, where a node writes one.
+fn append_input(
+    text: &mut Vec<u8>,
+    alloc: Global,
+    program: &[u8],
+    input: Option<InputStream>,
+) -> Result<(), AllocError>
+    ensures { OnOk result (text.new.items ≡ text.old.items ++ input_part program.now input) }
+{
+    match input {
+        Some(input) => {
+            let name = quoted(alloc, input.name.spelled(program))?;
+            append_text(text, " ")?;
+            text.extend_from_slice(&name)?;
+            append_part(text, input.part)
+        }
+        None => Ok(()),
+    }
+}
+
+// Which stream of an input it is, where there are several.
+fn append_part(text: &mut Vec<u8>, part: &str) -> Result<(), AllocError>
+    ensures { OnOk result (text.new.items ≡ text.old.items ++ part_of_input part.now) }
+{
+    if part.is_empty() {
+        return Ok(());
+    }
+    append_text(text, ": ")?;
+    append_text(text, part)
 }
 
 // What goes over an edge.
@@ -66,25 +149,26 @@ pub(crate) fn append_carried(text: &mut Vec<u8>, edge: DrawnEdge) -> Result<(), 
     append_text(text, kind_word(edge.kind))?;
     match edge.messages {
         Some(messages) => {
-            let mut buffer = Buffer::new();
             append_text(text, " ")?;
-            append_text(text, buffer.format(messages))
+            append_messages(text, messages)
         }
         None => Ok(()),
     }
 }
 
-// How thick an edge is, where it is known how many messages went over it.
-pub(crate) fn append_width(text: &mut Vec<u8>, messages: Option<u64>) -> Result<(), AllocError>
-    ensures { OnOk result (text.new.items ≡ text.old.items ++ width_part messages) }
+// How many messages went over an edge.
+pub(crate) fn append_messages(text: &mut Vec<u8>, messages: u64) -> Result<(), AllocError>
+    ensures { OnOk result (text.new.items ≡ text.old.items ++ decimal messages) }
 {
-    match messages {
-        Some(messages) => {
-            append_text(text, ", penwidth=")?;
-            append_number(text, width_of(messages))
-        }
-        None => Ok(()),
-    }
+    let mut buffer = Buffer::new();
+    append_text(text, buffer.format(messages))
+}
+
+// How thick an edge is for its messages.
+pub(crate) fn append_width(text: &mut Vec<u8>, messages: u64) -> Result<(), AllocError>
+    ensures { OnOk result (text.new.items ≡ text.old.items ++ decimal (width_of messages)) }
+{
+    append_number(text, width_of(messages))
 }
 
 fn width_of(messages: u64) -> usize
@@ -92,5 +176,5 @@ fn width_of(messages: u64) -> usize
 {
     let mut buffer = Buffer::new();
     let digits = buffer.format(messages).len();
-    MOST_WIDTH.min(digits)
+    MOST_WIDTH.min((digits + 1) / 2)
 }

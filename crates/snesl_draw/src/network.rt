@@ -3,21 +3,26 @@
 ghost use Rattle.std.specs.Prelude.{◌≡◌, ◌<◌, IfOk, length, map};
 ghost use Rattle.flow_networks.specs.Edges.{edge_at};
 ghost use Rattle.flow_networks.specs.Graphs.{edges_of, states_of};
+ghost use Rattle.snesl_draw.specs.Forms.{forms_of};
 ghost use Rattle.snesl_draw.specs.Networks.{drawn_edge};
+ghost use Rattle.snesl_types.specs.Typed.{program_of};
 
-use crate::drawing::{Drawing, DrawnEdge, DrawnNode};
+use crate::drawing::{Drawing, DrawnEdge, DrawnNode, InputStream};
+use crate::forms::forms_of;
+use crate::inputs::input_streams;
 use crate::steps::steps_of_program;
 use crate::words::operation_word;
 use flow_base::Transducer;
 use flow_networks::{Graph, graph_is_a_network};
 use flow_nodes::StreamNode;
-use flow_plans::Step;
+use flow_plans::{Operation, Step};
 use snesl_data::Refusal;
 use snesl_types::Typed;
 use std::alloc::{AllocError, Global};
 
-/// The drawing of a network of a typed program, as `flatten` and `Plan::with` make it: its nodes in order, and its edges
-/// with the kinds of their items. How many messages go over them is not known.
+/// The drawing of a network of a typed program, as `flatten` and `Plan::with` make it: its nodes in order, its edges
+/// with the kinds of their items, and the forms that nodes come from, but for the outermost one. How many messages go over edges
+/// is not known.
 ///
 /// # Errors
 ///
@@ -32,37 +37,56 @@ pub fn drawing_of(
         ≡ length (states_of graph.now)) }
     ensures edges { IfOk result (λ drawing. drawing.edges.items
         ≡ map (drawn_edge (states_of graph.now)) (edges_of graph.now)) }
+    ensures forms { IfOk result (λ drawing. drawing.forms.items
+        ≡ forms_of (program_of typed.now) drawing.nodes.items) }
 {
     let steps = steps_of_program(alloc, typed)?;
-    let nodes = drawn_nodes(alloc, &steps, graph)?;
+    let inputs = input_streams(alloc, typed.program())?;
+    let nodes = drawn_nodes(alloc, &steps, &inputs, graph)?;
     let edges = drawn_edges(alloc, graph)?;
-    Ok(Drawing { nodes, edges })
+    let forms = forms_of(alloc, typed.program(), &nodes)?;
+    Ok(Drawing {
+        nodes,
+        edges,
+        forms,
+    })
 }
 
 // The nodes: that of each step, and after it those that join what it writes to its readers, which are none of a step.
 fn drawn_nodes(
     alloc: Global,
     steps: &[Step],
+    inputs: &[InputStream],
     graph: &Graph<StreamNode>,
 ) -> Result<Vec<DrawnNode>, AllocError>
     ensures { IfOk result (λ nodes. length nodes.items ≡ length (states_of graph.now)) }
 {
     let mut nodes = Vec::new(alloc);
     let mut later = steps.iter();
+    let mut streams = inputs.iter();
     let mut at = 0;
     for number in 0..graph.nodes() {
+        let mut input = None;
         let word = match graph.node(number) {
             StreamNode::Fork(_) => "Fork",
             StreamNode::Sink(_) => "Sink",
             _ => match later.next() {
                 Some(step) => {
                     at = step.at;
+                    if let Operation::Input(_) = step.operation {
+                        input = streams.next().copied();
+                    }
                     operation_word(&step.operation)
                 }
                 None => "",
             },
         };
-        nodes.push(DrawnNode { number, word, at })?;
+        nodes.push(DrawnNode {
+            number,
+            word,
+            at,
+            input,
+        })?;
     }
     Ok(nodes)
 }

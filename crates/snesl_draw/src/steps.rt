@@ -1,11 +1,11 @@
 // The steps of a program, made as snesl_flatten makes them for its network.
 
 use flow_plans::{Operation, Step};
+use snesl_culprits::first_offset;
 use snesl_data::{Refusal, Ty};
 use snesl_scopes::Scope;
 use snesl_steps::{Binding, Steps};
 use snesl_translator::{ProgramContext, translate};
-use snesl_tree::Expr;
 use snesl_types::Typed;
 use std::alloc::Global;
 
@@ -47,12 +47,4 @@ fn bind_inputs<'a>(
         bindings.push(Binding { name, wires })?;
     }
     Ok(bindings)
-}
-
-// The offset of the first token of an expression.
-fn first_offset(expr: &Expr) -> usize {
-    match expr {
-        Expr::Binary { left, .. } => first_offset(left),
-        _ => expr.at(),
-    }
 }

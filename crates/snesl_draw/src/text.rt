@@ -7,8 +7,8 @@ use crate::drawing::{Drawing, DrawnEdge, DrawnNode};
 use crate::lines::{append_carried, append_number, append_place, append_text, append_title};
 use std::alloc::{AllocError, Global};
 
-/// A line for each node of the network of a program: its number and what it is called, the line and the column of the form
-/// that it comes from, and each edge that it reads and that it writes, with the node at the other end, the kind of its
+/// A line for each node of the network of a program: its number and what it is called, the line and the column of the offset
+/// of the form that it comes from, and each edge that it reads and that it writes, with the node at the other end, the kind of its
 /// items, and how many messages went over it, where that is known. The error is that memory was refused.
 pub fn network_text(alloc: Global, program: &[u8], drawing: &Drawing) -> Result<Vec<u8>, AllocError>
     ensures { IfOk result (λ text. text.items
@@ -16,7 +16,7 @@ pub fn network_text(alloc: Global, program: &[u8], drawing: &Drawing) -> Result<
 {
     let mut text = Vec::new(alloc);
     for node in &drawing.nodes {
-        append_node(&mut text, program, &drawing.edges, *node)?;
+        append_node(&mut text, alloc, program, &drawing.edges, *node)?;
     }
     Ok(text)
 }
@@ -24,13 +24,14 @@ pub fn network_text(alloc: Global, program: &[u8], drawing: &Drawing) -> Result<
 // The line of a node.
 fn append_node(
     text: &mut Vec<u8>,
+    alloc: Global,
     program: &[u8],
     edges: &[DrawnEdge],
     node: DrawnNode,
 ) -> Result<(), AllocError>
     ensures { OnOk result (text.new.items ≡ text.old.items ++ node_text program.now edges.now node) }
 {
-    append_title(text, node)?;
+    append_title(text, alloc, program, node)?;
     append_text(text, " ")?;
     append_place(text, program, node.at)?;
     append_reads(text, edges, node.number)?;

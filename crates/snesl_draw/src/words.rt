@@ -1,7 +1,7 @@
 // What nodes and messages are called.
 
 ghost use Rattle.std.specs.Prelude.{◌≡◌};
-ghost use Rattle.snesl_draw.specs.Words.{binary_word, kind_colour, kind_word, operation_word, reduction_word, unary_word};
+ghost use Rattle.snesl_draw.specs.Words.{binary_word, is_kind, kind_colour, kind_word, operation_word, reduction_word, unary_word};
 
 use flow_messages::Kind;
 use flow_plans::Operation;
@@ -102,4 +102,17 @@ pub fn kind_colour(kind: Kind) -> &'static str
         Kind::Int => "#1a5fb4",
         Kind::Vec => "#26782e",
     }
+}
+
+// Whether two kinds are the same.
+pub(crate) fn is_kind(kind: Kind, other: Kind) -> bool
+    ensures { result ≡ is_kind kind other }
+{
+    matches!(
+        (kind, other),
+        (Kind::Unit, Kind::Unit)
+            | (Kind::Bool, Kind::Bool)
+            | (Kind::Int, Kind::Int)
+            | (Kind::Vec, Kind::Vec)
+    )
 }

@@ -4,10 +4,11 @@ use flow_messages::Kind;
 use flow_networks::Edge;
 use flow_plans::Operation;
 use snesl_draw::{
-    Drawing, DrawnEdge, DrawnNode, kind_colour, kind_word, network_dot, network_text,
-    operation_word, quoted,
+    Drawing, DrawnEdge, DrawnForm, DrawnNode, InputStream, drawn_form, kind_colour, kind_word,
+    network_dot, network_text, operation_word, quoted,
 };
 use snesl_operators::BinaryOperator;
+use snesl_syntax::{Program, Span, parse};
 use std::test::Fail;
 
 #[test]
@@ -29,7 +30,12 @@ fn no_byte_of_a_text_ends_its_string(rt: HostRuntime) -> Result<(), Fail> {
 }
 
 fn node(number: usize, word: &'static str, at: usize) -> DrawnNode {
-    DrawnNode { number, word, at }
+    DrawnNode {
+        number,
+        word,
+        at,
+        input: None,
+    }
 }
 
 fn edge(writer: usize, reader: usize, messages: Option<u64>) -> DrawnEdge {
@@ -55,6 +61,7 @@ fn a_node_has_its_line(rt: HostRuntime) -> Result<(), Fail> {
             node(2, "Print", 6),
         ]?,
         edges: vec![in alloc; edge(0, 1, None), edge(1, 2, Some(12))]?,
+        forms: Vec::new(alloc),
     };
     let text = network_text(alloc, b"let\nx\n-1", &drawing)?;
     let want = b"0 Const 3:2 -> 1 int
@@ -78,23 +85,68 @@ fn nodes_stand_in_the_frames_of_their_forms(rt: HostRuntime) -> Result<(), Fail>
         kind: Kind::Bool,
         messages: Some(480),
     };
-    let drawing = Drawing {
-        nodes: vec![in alloc; node(0, "Const", 1), node(1, "Fork", 0), node(2, "Sink", 1)]?,
-        edges: vec![in alloc; edge]?,
+    let input = DrawnNode {
+        number: 0,
+        word: "Input",
+        at: 0,
+        input: Some(InputStream {
+            name: Span { at: 2, len: 1 },
+            part: "lengths",
+        }),
     };
-    let dot = network_dot(alloc, b"\"\\", &drawing)?;
-    let want = br##"  subgraph cluster_1 {
-    bgcolor="#f4f4f4"; label="1:2  \\";
-    n0 [label="0 Const"];
-    n2 [label="2 Sink"];
+    let form = DrawnForm {
+        at: 1,
+        piece: Span { at: 0, len: 4 },
+    };
+    let drawing = Drawing {
+        nodes: vec![in alloc; input, node(1, "Fork", 1), node(2, "Sink", 1)]?,
+        edges: vec![in alloc; edge]?,
+        forms: vec![in alloc; form]?,
+    };
+    let dot = network_dot(alloc, b"\"\\v\n", &drawing)?;
+    let want = br##"  n0 [label="0 Input v: lengths"];
+  subgraph cluster_1 {
+  color="#cccccc"; bgcolor="#f4f4f4";
+  f1 [shape=plaintext, style="", width=0, margin="0.05,0", label="1:1\l\"\\v \l"];
+  n1 [label="1 Fork"];
+  n2 [label="2 Sink"];
   }
-  subgraph cluster_0 {
-    bgcolor="#f4f4f4"; label="1:1  \"\\";
-    n1 [label="1 Fork"];
-  }
-  n0 -> n1 [label="bool 480", color="#b35900", fontcolor="#b35900", penwidth=3];
+  n0 -> n1 [color="#b35900", label=" 480", fontcolor="#b35900", penwidth=2];
+  label=<<table border="1" cellborder="0" color="#cccccc"><tr><td><font color="#b35900">bool</font></td></tr></table>>; labelloc=b; labeljust=r;
 }
 "##;
     assert!(rt; dot.ends_with(want));
+    Ok(())
+}
+
+// The text of the form that keeps an offset.
+fn form_at(program: &Program, at: usize) -> &[u8] {
+    drawn_form(program, at).piece.spelled(&program.text)
+}
+
+#[test]
+fn a_form_is_its_whole_text(rt: HostRuntime) -> Result<(), Fail> {
+    let alloc = rt.alloc();
+    let text = b"function f(x : int) : int = (x + 1) * 2; {f(y) : y in iota(10) | y < 3}";
+    let program = parse(alloc, text)?;
+    let told = [
+        form_at(&program, 36),
+        form_at(&program, 41),
+        form_at(&program, 42),
+        form_at(&program, 54),
+        form_at(&program, 59),
+        form_at(&program, 67),
+        form_at(&program, 49),
+    ];
+    let want: [&[u8]; 7] = [
+        b"(x + 1) * 2",
+        b"{f(y) : y in iota(10) | y < 3}",
+        b"f(y)",
+        b"iota(10)",
+        b"10",
+        b"y < 3",
+        b"y",
+    ];
+    assert_eq!(rt; told, want);
     Ok(())
 }

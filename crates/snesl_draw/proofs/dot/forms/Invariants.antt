@@ -1,6 +1,0 @@
-use Rattle.std.proofs.Common.{◌≡◌, [], fold, take}
-use Rattle.snesl_draw.specs.Texts.{one_more_form}
-use Rattle.snesl_draw.proofs.dot.forms.Given as goal
-
-abbrev pub invariant-loop-node : goal.invariant-loop-node
-invariant-loop-node l = l.forms.items ≡ fold one_more_form [] (take l.node-index l.nodes)
