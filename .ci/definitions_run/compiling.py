@@ -4,10 +4,10 @@ Each definition becomes a function of as many arguments as its equations have pa
 An equation is a test of its patterns, and what it gives. Constants are computed once.
 """
 
-from .library import CONSTANTS, FUNCTIONS
+from .library import CONSTANTS, FUNCTIONS, WORDS
+from .looping import Function
 from .matching import Match
 from .modules import Definition
-from .terms import parsed
 from .scope import Scope
 from .tokens import FormError
 
@@ -39,36 +39,14 @@ def binder_variables(term):
     return names | {str(term[1])}
 
 
+def listed(given):
+    """Expressions as a tuple."""
+    return f"({''.join(one + ', ' for one in given)})"
+
+
 def type_tag(what):
     """The tag of a type, or of a relation with its arguments."""
     return ("type", *what.key) if isinstance(what, Definition) else ("type", *what)
-
-
-def calls_in(term):
-    """The calls in a term that are made whatever it is given: not those in functions, bindings and alternatives."""
-    if not isinstance(term, tuple) or term[0] in ("lambda", "let", "cases", "name"):
-        return
-    if term[0] == "apply":
-        yield term
-    for part in term[1:]:
-        for one in part if isinstance(part, list) else [part]:
-            yield from calls_in(one[1] if isinstance(one, tuple) and term[0] == "record" and isinstance(part, list) else one)
-
-
-def bound_inside(term):
-    """The names that functions and bindings in a term bind."""
-    if not isinstance(term, (tuple, list)):
-        return set()
-    own = set(term[1]) if term and term[0] == "lambda" else {term[1]} if term and term[0] == "let" else set()
-    return own.union(*(bound_inside(part) for part in term))
-
-
-def repeated_calls(term):
-    """The calls that stand more than once in a term. Some definitions would take exponential time without this."""
-    seen = {}
-    for call in calls_in(term):
-        seen[repr(call)] = seen.get(repr(call), 0) + 1
-    return {key for key, count in seen.items() if count > 1}
 
 
 class Writer:
@@ -106,12 +84,11 @@ class Writer:
 
     def write_apply(self, term, bound):
         """A name or a term with its arguments; where it stands more than once, it is computed once."""
-        key = repr(term)
-        if key in self.repeated:
-            self.repeated.discard(key)
-            self.shared[key] = (self.fresh(), self.write_apply(term, bound))
-        if key in self.shared:
-            return f"{self.shared[key][0]}()"
+        if term in self.repeated:
+            self.repeated.discard(term)
+            self.shared[term] = (self.fresh(), self.write_apply(term, bound))
+        if term in self.shared:
+            return f"{self.shared[term][0]}()"
         given = []
         while term[0] == "apply":
             given.insert(0, term[2])
@@ -122,9 +99,7 @@ class Writer:
 
     def applied(self, function, given):
         """An expression given further arguments, one by one."""
-        for one in given:
-            function = f"apply({function}, {one})"
-        return function
+        return function + "".join(f"({one})" for one in given)
 
     def write_call(self, term, given, bound):
         """A name with its arguments, written as far as it goes as one call."""
@@ -153,13 +128,13 @@ class Writer:
         if found.kind == "proof":
             return "TYPE"
         if found.kind == "type" and not self.is_claim(found.what):
-            return self.applied(f"Built({type_tag(found.what)!r})", given)
+            return f"Built({type_tag(found.what)!r}, {listed(given)})"
         if found.kind == "constant":
             return self.applied(repr(CONSTANTS[found.what]), given)
         if found.kind == "constructor":
-            return f"Built({found.what!r}, ({''.join(one + ', ' for one in given)}))"
+            return f"Built({found.what!r}, {listed(given)})" if given else self.program.constant_of(found.what)
         if found.kind == "word":
-            return self.called(f"FUNCTIONS[{found.what!r}][1]", FUNCTIONS[found.what][0], given)
+            return self.called(WORDS[found.what], FUNCTIONS[found.what][0], given)
         passed = self.passed(found.what, bound)
         return self.called(*self.program.target(found.what), passed + given)
 
@@ -188,7 +163,7 @@ class Writer:
             inner = {**bound, str(test[2][1]): name}
             return f"Claim({'every' if operator == '→' else 'some'!r}, {self.write(test[3], bound)}, lambda {name}: {self.write(rest, inner)})"
         if operator == "→" and test[1] == "≡":
-            return self.write_cases(("cases", test[2], [(test[3], rest), (("name", "_"), ("name", "⊤"))]), bound)
+            return self.write_cases(("cases", test[2], ((test[3], rest), (("name", "_"), ("name", "⊤")))), bound)
         return "TYPE"
 
     def passed(self, definition, bound):
@@ -198,22 +173,29 @@ class Writer:
         return [bound[name] for name in definition.parameters if name in self.definition.parameters]
 
     def called(self, function, count, given):
-        """A function of so many arguments with these: called, or waiting for the others."""
-        if len(given) < count:
-            return f"waiting({function}, {count}, ({''.join(one + ', ' for one in given)}))"
-        return self.applied(f"{function}({', '.join(given[:count])})", given[count:])
+        """A function of so many arguments with these: called, or as one that takes the others one by one."""
+        if len(given) >= count:
+            return self.applied(f"{function}({', '.join(given[:count])})", given[count:])
+        names = [self.fresh() for _ in range(count)]
+        written = f"{function}({', '.join(names)})"
+        for name in names[:len(given) - count - 1:-1]:
+            written = f"lambda {name}: {written}"
+        first = ", ".join(names[:len(given)])
+        return f"(lambda {first}: {written})({', '.join(given)})" if given else f"({written})"
 
     def write_operator(self, term, bound):
         """An operator: both truth values only as far as needed."""
         if term[1] in CLAIMS:
             return self.write_claim(term, bound)
-        if repr(term) in self.wholes:
-            return self.wholes[repr(term)]
+        if term in self.wholes:
+            return self.wholes[term]
         operator, left, right = term[1], self.write(term[2], bound), self.write(term[3], bound)
         if operator in ("&&", "||"):
             return f"({left} {'and' if operator == '&&' else 'or'} {right})"
         if operator in ("+", "*", "=="):
             return f"({left} {operator} {right})"
+        if operator in ("∷", "++"):
+            return f"({f'({left},)' if operator == '∷' else left} + {right})"
         found = self.scope.own(f"◌{operator}◌")
         if found is not None and found.kind == "definition":
             return self.reference(found, [left, right], bound)
@@ -272,33 +254,4 @@ class Writer:
 
     def function(self, name, count):
         """The definition as the text of a function."""
-        names = [f"a{at}" for at in range(count)]
-        lines = [f"def {name}({', '.join(names)}):"]
-        for at, equation in enumerate(self.program.equations(self.definition)):
-            lines += self.equation_lines(at, equation, names)
-        lines.append(f"    missing({name!r})")
-        return "\n".join(lines) + "\n"
-
-    def equation_lines(self, at, equation, names):
-        """The lines of one equation: its test, and what it gives."""
-        module_parameters = self.definition.parameters
-        bound = dict(zip(module_parameters, names))
-        match = Match(self.scope)
-        own = names[len(module_parameters):]
-        for pattern, path in zip(equation.patterns, own):
-            match.take(pattern, path)
-        lines = [f"    if {' and '.join(match.tests) or 'True'}:"]
-        used = {part for token in equation.right for part in (str(token), str(token).split(".")[0])}
-        for name, path in match.bound.items():
-            if path in names:
-                bound[name] = path
-            elif name in used:
-                bound[name] = self.fresh()
-                lines.append(f"        {bound[name]} = {path}")
-        lines.append(f"        REACHED[{self.program.place_of(self.definition, at)}] = 1")
-        term = parsed(equation.right, self.definition.module.path)
-        self.repeated, self.shared = repeated_calls(term), {}
-        self.wholes = {} if bound_inside(term) & match.bound.keys() else match.wholes
-        value = self.applied(self.write(term, bound), own[len(equation.patterns):])
-        lines += [f"        {name} = shared(lambda: {call})" for name, call in self.shared.values()]
-        return lines + [f"        return {value}"]
+        return "\n".join(Function(self, count).lines(name)) + "\n"

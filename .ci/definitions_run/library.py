@@ -1,6 +1,6 @@
 """The words of the kit's library that the definitions use, each with the number of its arguments. What they mean is trusted."""
 
-from .values import Built, apply, dropped, integer, integer_of, plain, taken
+from .values import Built, dropped, integer, integer_of, plain, taken
 
 NONE = Built("None")
 
@@ -14,7 +14,7 @@ def prefix_length(test, items):
     """How many pass the test from the front on."""
     count = 0
     for item in items:
-        if not apply(test, item):
+        if not test(item):
             break
         count += 1
     return count
@@ -34,13 +34,13 @@ def truncated(left, right):
 def folded(step, start, items):
     """A list folded from the left."""
     for item in items:
-        start = apply(apply(step, start), item)
+        start = step(start)(item)
     return start
 
 
 def filtered(function, items):
     """What the function gives of the items, without those where it gives nothing."""
-    found = (apply(function, item) for item in items)
+    found = (function(item) for item in items)
     return tuple(one.given[0] for one in found if one.tag == "Some")
 
 
@@ -56,7 +56,7 @@ def remainder(left, right):
 
 def joined(function, items):
     """The lists that the function gives of the items, joined."""
-    return tuple(one for item in items for one in apply(function, item))
+    return tuple(one for item in items for one in function(item))
 
 
 def at_or(items, at, default):
@@ -77,7 +77,7 @@ def digits_value(base, letters):
 CONSTANTS = {"zero": 0, "true": True, "false": False, "[]": ()}
 CONSTRUCTORS = {"Some", "Ok", "Err", "pos", "negsuc", "None", "tt", "refl"}
 OPERATORS = {
-    "∷": lambda head, rest: (head,) + plain(rest), "++": lambda left, right: plain(left) + plain(right),
+    "∷": lambda head, rest: (head,) + rest, "++": lambda left, right: left + right,
     "+": lambda left, right: left + right, "-": lambda left, right: max(0, left - right),
     "*": lambda left, right: left * right, "/": lambda left, right: left // right if right else 0,
     "%": lambda left, right: left % right if right else left, "^": lambda left, right: left ** right,
@@ -90,16 +90,16 @@ FUNCTIONS = {
     "suc": (1, lambda n: n + 1), "pred": (1, lambda n: max(0, n - 1)), "not": (1, lambda b: not b), "length": (1, len),
     "min": (2, min), "max": (2, max), "nat_le": (2, lambda a, b: a <= b), "nat_lt": (2, lambda a, b: a < b),
     "nat_eq": (2, lambda a, b: a == b), "ltb": (2, lambda a, b: a < b), "eqb": (2, lambda a, b: a == b),
-    "cond": (3, lambda c, a, b: a if c else b), "map": (2, lambda f, xs: tuple([apply(f, x) for x in xs])),
+    "cond": (3, lambda c, a, b: a if c else b), "map": (2, lambda f, xs: tuple([f(x) for x in xs])),
     "take": (2, lambda n, xs: taken(xs, n)), "drop": (2, lambda n, xs: dropped(xs, n)), "replicate": (2, lambda n, x: (x,) * n),
     "reverse": (1, lambda xs: plain(xs)[::-1]), "fold": (3, folded), "flat_map": (2, joined),
     "slice_get": (2, lambda xs, i: some(xs[i]) if i < len(xs) else NONE), "slice_index_or": (3, at_or),
     "slice_index": (2, lambda xs, i: at_or(xs, i, 0)), "slice_set": (3, replaced),
-    "list_all": (2, lambda p, xs: all(apply(p, x) for x in xs)), "list_any": (2, lambda p, xs: any(apply(p, x) for x in xs)),
-    "filter": (2, lambda p, xs: tuple([x for x in xs if apply(p, x)])), "filter_map": (2, filtered),
+    "list_all": (2, lambda p, xs: all(p(x) for x in xs)), "list_any": (2, lambda p, xs: any(p(x) for x in xs)),
+    "filter": (2, lambda p, xs: tuple([x for x in xs if p(x)])), "filter_map": (2, filtered),
     "take_while": (2, lambda p, xs: taken(xs, prefix_length(p, xs))), "prefix_len": (2, prefix_length),
-    "position_or_len": (2, lambda p, xs: prefix_length(lambda x: not apply(p, x), xs)),
-    "count_by": (2, lambda p, xs: sum(1 for x in xs if apply(p, x))),
+    "position_or_len": (2, lambda p, xs: prefix_length(lambda x: not p(x), xs)),
+    "count_by": (2, lambda p, xs: sum(1 for x in xs if p(x))),
     "bytes_eq": (2, lambda a, b: plain(a) == plain(b)), "codes": (1, lambda text: text),
     "decimal": (1, digits), "signed_decimal": (1, lambda i: digits(integer_of(i))),
     "is_ascii_digit": (1, lambda c: 48 <= c <= 57), "is_ascii_alphabetic": (1, lambda c: 65 <= c <= 90 or 97 <= c <= 122),
@@ -110,16 +110,18 @@ FUNCTIONS = {
     "int_le": (2, lambda a, b: integer_of(a) <= integer_of(b)),
     "int_div": (2, lambda a, b: integer(truncated(integer_of(a), integer_of(b)))),
     "int_rem": (2, lambda a, b: integer(remainder(integer_of(a), integer_of(b)))),
-    "option_map": (2, lambda f, o: some(apply(f, o.given[0])) if o.tag == "Some" else NONE),
-    "option_and_then": (2, lambda f, o: apply(f, o.given[0]) if o.tag == "Some" else NONE),
+    "option_map": (2, lambda f, o: some(f(o.given[0])) if o.tag == "Some" else NONE),
+    "option_and_then": (2, lambda f, o: f(o.given[0]) if o.tag == "Some" else NONE),
     "option_to_list": (1, lambda o: o.given), "unwrap_or": (2, lambda o, d: o.given[0] if o.tag == "Some" else d),
     "is_some": (1, lambda o: o.tag == "Some"), "result_ok": (1, lambda r: some(r.given[0]) if r.tag == "Ok" else NONE),
     "last_or": (2, lambda o, xs: some(plain(xs)[-1]) if len(xs) else o), "sum": (1, sum),
-    "sum_by": (2, lambda f, xs: sum(apply(f, x) for x in xs)),
-    "before_first": (2, lambda p, xs: taken(xs, prefix_length(lambda x: not apply(p, x), xs))),
+    "sum_by": (2, lambda f, xs: sum(f(x) for x in xs)),
+    "before_first": (2, lambda p, xs: taken(xs, prefix_length(lambda x: not p(x), xs))),
 }
 for _operator, _meaning in OPERATORS.items():
     FUNCTIONS[f"◌{_operator}◌"] = (2, _meaning)
 TYPES = ("Unit", "⊥", "⊤", "¬", "Type", "ℕ", "ℤ", "Bool", "List", "Option", "Result")
 FUNCTIONS["◌&&◌"] = (2, lambda a, b: a and b)
 FUNCTIONS["◌||◌"] = (2, lambda a, b: a or b)
+# How a word is called in the functions of Python.
+WORDS = {word: f"w{number}" for number, word in enumerate(FUNCTIONS)}

@@ -36,6 +36,60 @@ def equations_of(definition):
     return made
 
 
+class Path(str):
+    """Where a list is, as an expression of Python."""
+
+    def tests(self, count, is_whole):
+        """The tests that the list has so many items, or at least so many."""
+        return [f"len({self}) {'==' if is_whole else '>='} {count}"]
+
+    def item(self, at):
+        """The expression of an item."""
+        return f"{self}[{at}]"
+
+    def rest(self, count):
+        """The expression of the list without its first items."""
+        return f"dropped({self}, {count})"
+
+
+class View(Path):
+    """The list of the items from a place on."""
+
+    def __new__(cls, items, start):
+        view = super().__new__(cls, f"dropped({items}, {start})")
+        view.items, view.start = items, start
+        return view
+
+    def tests(self, count, is_whole):
+        if is_whole:
+            return [f"len({self.items}) == {self.start}{f' + {count}' if count else ''}"]
+        return [f"len({self.items}) > {self.start}{f' + {count - 1}' if count > 1 else ''}"]
+
+    def item(self, at):
+        return f"{self.items}[{self.start}{f' + {at}' if at else ''}]"
+
+    def rest(self, count):
+        return f"dropped({self.items}, {self.start} + {count})"
+
+
+class Walked(Path):
+    """A list that a loop of Python walks: its first item has a name, and whether there is one is known."""
+
+    def tests(self, count, is_whole):
+        return []
+
+    def item(self, at):
+        return str(self)
+
+def list_pattern(pattern):
+    """The patterns of the first items of a list, and that of the rest."""
+    heads = []
+    while pattern[0] == "operator" and pattern[1] == "∷":
+        heads.append(pattern[2])
+        pattern = pattern[3]
+    return heads, pattern
+
+
 class Match:
     """The tests of patterns, and the expressions of the names that they bind."""
 
@@ -80,21 +134,15 @@ class Match:
 
     def take_list(self, pattern, path):
         """The first items of a list, and the rest. Where the right side has the same list, it is not built again."""
-        self.wholes[repr(pattern)] = path
-        count = 0
-        heads = []
-        while pattern[0] == "operator" and pattern[1] == "∷":
-            heads.append((pattern[2], f"{path}[{count}]"))
-            pattern = pattern[3]
-            count += 1
-        if pattern == ("name", "[]"):
-            self.tests.append(f"len({path}) == {count}")
-        else:
-            self.tests.append(f"len({path}) >= {count}")
-        for head, place in heads:
-            self.take(head, place)
-        if pattern != ("name", "[]"):
-            self.take(pattern, f"dropped({path}, {count})")
+        self.wholes[pattern] = path
+        heads, rest = list_pattern(pattern)
+        is_whole = rest == ("name", "[]")
+        path = path if isinstance(path, Path) else Path(path)
+        self.tests += path.tests(len(heads), is_whole)
+        for at, head in enumerate(heads):
+            self.take(head, path.item(at))
+        if not is_whole and not isinstance(path, Walked):
+            self.take(rest, path.rest(len(heads)))
 
     def take_name(self, name, path):
         """A constant, a constructor without arguments, or a new name."""
@@ -106,7 +154,7 @@ class Match:
         elif found.kind == "constructor":
             self.tests.append(f"{path}.tag == {found.what!r}")
         elif name == "[]":
-            self.tests.append(f"len({path}) == 0")
+            self.tests += (path if isinstance(path, Path) else Path(path)).tests(0, True)
         elif name == "zero":
             self.tests.append(f"{path} == 0")
         elif name in ("true", "false"):

@@ -1,6 +1,8 @@
 """The network of a program, stepped: each node by its machine, over edges of a capacity, until none can step."""
 
-from .values import Built, apply
+from collections import deque
+
+from .values import Built
 
 WANT = "Rattle.kahn.specs.declared.want.Want.TheVariants."
 OPERATION = "Rattle.flow_plans.specs.Plans."
@@ -40,20 +42,23 @@ class Node:
     def __init__(self, behaviour, state):
         self.process = behaviour["process"]
         self.state = state
+        self.wanted = None
 
     def want(self):
         """What it wants: to read or write at a port, or nothing, since it has ended or faulted."""
-        want = apply(self.process["want"], self.state)
-        return want.tag[len(WANT):], want.given
+        if self.wanted is None:
+            want = self.process["want"](self.state)
+            self.wanted = want.tag[len(WANT):], want.given
+        return self.wanted
 
     def read(self, message):
         """Takes a message."""
-        self.state = apply(apply(self.process["read"], self.state), message)
+        self.state, self.wanted = self.process["read"](self.state)(message), None
 
     def write(self):
         """Gives the message that it writes."""
-        message = apply(self.process["written"], self.state)
-        self.state = apply(self.process["wrote"], self.state)
+        message = self.process["written"](self.state)
+        self.state, self.wanted = self.process["wrote"](self.state), None
         return message
 
 
@@ -65,8 +70,7 @@ class Network:
         self.capacity = capacity
         self.nodes = [self.opened(placed) for placed in layout]
         self.edges = definitions.call("flow_plans.specs.Layouts", "edges_between", layout)
-        self.queues = [[] for _ in self.edges]
-        self.sent = 0
+        self.queues = [deque() for _ in self.edges]
         self.steps = 0
         self.read_from = {(edge["reader"], edge["reader_port"]): at for at, edge in enumerate(self.edges)}
         self.written_to = {(edge["writer"], edge["writer_port"]): at for at, edge in enumerate(self.edges)}
@@ -96,37 +100,38 @@ class Network:
         return Node(call("flow_base.specs.Nodes", "behaviour_of", machine), state)
 
     def step(self, at, node):
-        """Makes a step of a node, where it can."""
+        """Makes a step of a node, where it can: the node at the other end of the edge, which may go on then; else None."""
         want, given = node.want()
         if want == "Read":
-            queue = self.queues[self.read_from[at, given[0]]]
-            if not queue:
-                return False
-            node.read(queue.pop(0))
-        elif want == "Write":
-            queue = self.queues[self.written_to[at, given[0]]]
-            if len(queue) >= self.capacity:
-                return False
-            queue.append(node.write())
-            self.sent += 1
-        else:
-            return False
-        self.steps += 1
-        return True
+            edge = self.read_from[at, given[0]]
+            if not self.queues[edge]:
+                return None
+            node.read(self.queues[edge].popleft())
+            return self.edges[edge]["writer"]
+        if want == "Write":
+            edge = self.written_to[at, given[0]]
+            if len(self.queues[edge]) >= self.capacity:
+                return None
+            self.queues[edge].append(node.write())
+            return self.edges[edge]["reader"]
+        return None
 
     def run(self, most):
-        """Steps the nodes until none can step; `False` where that takes more than so many steps."""
-        moved = True
-        while moved:
-            moved = False
-            for at, node in enumerate(self.nodes):
-                visit = 0
-                while visit < 16 and self.step(at, node):
-                    visit += 1
-                moved = moved or visit > 0
-            if self.steps > most:
-                return False
-        return True
+        """Steps the nodes that may go on until none can; `False` where that takes more than so many steps."""
+        waiting = deque(range(len(self.nodes)))
+        is_waiting = [True] * len(self.nodes)
+        while waiting and self.steps <= most:
+            at = waiting.popleft()
+            is_waiting[at] = False
+            node = self.nodes[at]
+            other = self.step(at, node)
+            while other is not None:
+                self.steps += 1
+                if not is_waiting[other]:
+                    is_waiting[other] = True
+                    waiting.append(other)
+                other = self.step(at, node)
+        return self.steps <= most
 
     def outcome(self, deriver):
         """How it came out, by `HasOutcome` of kahn: `value` and the printed text, `fault` with its kind and offset, or `stalled`."""
@@ -152,7 +157,7 @@ class Network:
     def holds(self, deriver, outcome, *given):
         """Whether the configuration of the network has this outcome."""
         nodes, edges, queues = self.nodes, self.edges, self.queues
-        process = {"want": lambda node: apply(node.process["want"], node.state)}
+        process = {"want": lambda node: node.process["want"](node.state)}
         net = {"nodes": len(nodes), "edges": len(edges), "writer": lambda edge: edges[edge]["writer"],
                "writer_port": lambda edge: edges[edge]["writer_port"]}
         configuration = {"state": lambda node: nodes[node], "sent": lambda edge: tuple(queues[edge]), "received": lambda edge: ()}

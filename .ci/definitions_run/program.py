@@ -3,11 +3,12 @@
 import os
 
 from .compiling import Writer
-from .library import FUNCTIONS, OPERATORS
+from .library import FUNCTIONS, OPERATORS, WORDS
+from .looping import ended
 from .matching import equations_of
 from .modules import read_modules
 from .scope import Scope
-from .values import Built, Claim, TYPE, apply, dropped, shared, waiting
+from .values import Built, Claim, TYPE, dropped, parted, shared, waiting
 
 
 class NoEquation(Exception):
@@ -31,9 +32,11 @@ class Program:
         self.reached = bytearray()
         self.constants = {}
         self.space = {
-            "Built": Built, "Claim": Claim, "TYPE": TYPE, "apply": apply, "dropped": dropped, "waiting": waiting, "shared": shared, "missing": missing,
-            "FUNCTIONS": FUNCTIONS, "OPERATORS": OPERATORS, "REACHED": self.reached,
+            "Built": Built, "Claim": Claim, "TYPE": TYPE, "dropped": dropped, "parted": parted, "ended": ended, "shared": shared, "missing": missing,
+            "OPERATORS": OPERATORS, "REACHED": self.reached, **{WORDS[word]: meaning for word, (_, meaning) in FUNCTIONS.items()},
         }
+        self.constructors = {}
+        self.called = {}
         self.modules_by_end = {}
 
     @classmethod
@@ -46,6 +49,13 @@ class Program:
         if definition.key not in self.read_equations:
             self.read_equations[definition.key] = equations_of(definition)
         return self.read_equations[definition.key]
+
+    def constant_of(self, tag):
+        """The name of a constructor without arguments, of which there is one."""
+        if tag not in self.constructors:
+            self.constructors[tag] = f"c{len(self.constructors)}"
+            self.space[self.constructors[tag]] = Built(tag)
+        return self.constructors[tag]
 
     def place_of(self, definition, at):
         """The number by which an equation is known to have been reached."""
@@ -111,10 +121,12 @@ class Program:
 
     def call(self, module, name, *given):
         """The definition of a name in a module, given these values."""
-        target, count = self.target(self.definition(module, name))
+        if (module, name) not in self.called:
+            self.called[module, name] = self.target(self.definition(module, name))
+        target, count = self.called[module, name]
         if len(given) < count:
             return waiting(self.space[target], count, given)
         value = self.space[target](*given[:count])
         for one in given[count:]:
-            value = apply(value, one)
+            value = value(one)
         return value

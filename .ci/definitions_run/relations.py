@@ -8,9 +8,9 @@ decided, nor is a conclusion that takes a known list apart at an unknown place.
 from .compiling import Writer, binder_variables, binds, implication_of
 from .matching import Match
 from .modules import explicit_parameters
-from .terms import parsed
+from .terms import names_in, parsed
 from .tokens import binder_names
-from .values import Built, Claim, TYPE, apply, key_of
+from .values import Built, Claim, TYPE, key_of
 
 HOLE = object()
 
@@ -28,7 +28,7 @@ KIT_CLAIMS = {
     "IsNumeral": lambda deriver, base, text: len(text) > 0 and all(is_digit(letter, base) for letter in text),
     "IsInRange": lambda deriver, low, high, number: low <= number <= high,
     "IsSome": lambda deriver, option: option.tag == "Some",
-    "All": lambda deriver, claim, items: all(deriver.decide(apply(claim, item)) for item in items),
+    "All": lambda deriver, claim, items: all(deriver.decide(claim(item)) for item in items),
     "Contains": lambda deriver, items, item: key_of(item) in [key_of(one) for one in items],
 }
 
@@ -59,15 +59,6 @@ def arguments_of(term):
         given.insert(0, term[2])
         term = term[1]
     return term, given
-
-
-def names_in(term):
-    """The names that stand in a term, without the fields that are taken of them."""
-    if not isinstance(term, (tuple, list)):
-        return set()
-    if isinstance(term, tuple) and len(term) == 2 and term[0] == "name":
-        return {str(term[1]), str(term[1]).split(".")[0]}
-    return set().union(set(), *(names_in(part) for part in term))
 
 
 class Relation:

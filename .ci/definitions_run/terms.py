@@ -6,6 +6,7 @@ tuple TERMS | field TERM NAME | record BASE FIELDS | cases TERM ALTERNATIVES | t
 
 import ast
 import re
+from collections import Counter
 
 from .tokens import FormError
 
@@ -104,7 +105,7 @@ class Parser:
             self.want("↦")
             alternatives.append((pattern, self.term()))
             if self.next() == "]":
-                return ("cases", scrutinee, alternatives)
+                return ("cases", scrutinee, tuple(alternatives))
 
     def atom(self):
         """A term that needs no brackets, with the fields that are taken of it."""
@@ -164,7 +165,7 @@ class Parser:
             self.want(")")
             return ("binder", parts[0], written)
         self.want(")")
-        return parts[0] if len(parts) == 1 else ("tuple", parts)
+        return parts[0] if len(parts) == 1 else ("tuple", tuple(parts))
 
     def function(self):
         """`λ a (b : T) c. BODY`."""
@@ -185,7 +186,7 @@ class Parser:
                 break
             else:
                 names.append(str(token))
-        return ("lambda", names, self.term())
+        return ("lambda", tuple(names), self.term())
 
     def skip_type(self):
         """Passes over the type of a binder, up to its bracket."""
@@ -223,7 +224,7 @@ class Parser:
             if self.peek() == ";":
                 self.next()
         self.next()
-        return ("record", base, fields)
+        return ("record", base, tuple(fields))
 
 
 def parsed(tokens, path):
@@ -251,3 +252,49 @@ def equation_parts(tokens, path):
         if token == "=" and depth == 0:
             return tokens[:at], tokens[at + 1:]
     raise FormError(f"{path}:{tokens[0].line}: an equation without `=`")
+
+
+def parts_of(term):
+    """The terms that a term is made of, but for those in functions, bindings and alternatives."""
+    if term[0] == "tuple":
+        return term[1]
+    if term[0] == "record":
+        return ((term[1],) if term[1] else ()) + tuple(value for _, value in term[2])
+    return {"apply": term[1:], "if": term[1:], "operator": term[2:], "field": term[1:2], "binder": term[1:2]}.get(term[0], ())
+
+
+def calls_in(term):
+    """How often each call is made at most: of those in functions, bindings and alternatives nothing is said."""
+    if term[0] == "if":
+        return calls_in(term[1]) + (calls_in(term[2]) | calls_in(term[3]))
+    calls = Counter([term] if term[0] == "apply" else [])
+    for part in parts_of(term):
+        calls += calls_in(part)
+    return calls
+
+
+def repeated_calls(term):
+    """The calls that are made more than once by a term. Some definitions would take exponential time without this."""
+    return {call for call, count in calls_in(term).items() if count > 1}
+
+
+def bound_inside(term):
+    """The names that functions and bindings in a term bind."""
+    if not isinstance(term, tuple):
+        return set()
+    own = set(term[1]) if term and term[0] == "lambda" else {term[1]} if term and term[0] == "let" else set()
+    return own.union(*(bound_inside(part) for part in term))
+
+
+def names_in(term):
+    """The names that stand in a term, without the fields that are taken of them."""
+    if not isinstance(term, tuple):
+        return set()
+    if len(term) == 2 and term[0] == "name":
+        return {str(term[1]), str(term[1]).split(".")[0]}
+    return set().union(set(), *(names_in(part) for part in term))
+
+
+def tokens_used(tokens):
+    """How often each name stands among tokens; a field of it is one."""
+    return Counter(name for token in tokens for name in {str(token), str(token).split(".")[0]})

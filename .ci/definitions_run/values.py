@@ -11,6 +11,9 @@ class Built:
         self.given = given
         self.hashed = None
 
+    def __call__(self, argument):
+        return Built(self.tag, self.given + (argument,))
+
     def __eq__(self, other):
         return isinstance(other, Built) and self.tag == other.tag and self.given == other.given
 
@@ -122,11 +125,9 @@ def taken(items, count):
     return items[:count]
 
 
-def apply(function, argument):
-    """A function, or a constructor, given one argument."""
-    if type(function) is Built:
-        return Built(function.tag, function.given + (argument,))
-    return function(argument)
+def parted(items):
+    """A list as items and the place where it begins among them."""
+    return (items.items, items.start) if type(items) is Rest else (items, 0)
 
 
 def waiting(function, count, given=()):

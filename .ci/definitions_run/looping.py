@@ -1,0 +1,208 @@
+"""Functions of Python for definitions: an equation that ends in a call of its own definition goes round a loop.
+
+Such a call may stand alone, in a choice or a binding, or after `∷`, `++`, `+` or `suc`: what stands before it is gathered. A list that is
+taken apart on the way is not copied: where it begins is counted. An equation with functions inside does not go round, as these would see
+what the next round sets.
+"""
+
+from .matching import Match, View, Walked, list_pattern
+from .terms import bound_inside, names_in, parsed, repeated_calls, tokens_used
+
+LISTS, NUMBERS = "list", "number"
+
+
+def ended(gathered, rest):
+    """What was gathered, and the rest of the list after it."""
+    return tuple(gathered) + rest if gathered else rest
+
+
+def added_to(term):
+    """What stands before the end of a term, as what it adds to and how, or None: `x ∷ end`, `xs ++ end`, `n + end`, `suc end`."""
+    if term[0] == "operator" and term[1] in ("∷", "++"):
+        return LISTS, "append" if term[1] == "∷" else "extend", term[2], term[3]
+    if term[0] == "operator" and term[1] == "+":
+        return NUMBERS, "", term[2], term[3]
+    if term[0] == "apply" and term[1] == ("name", "suc"):
+        return NUMBERS, "", ("number", 1), term[2]
+    return None
+
+
+class Function:
+    """Writes the function of a definition."""
+
+    def __init__(self, writer, count):
+        self.writer = writer
+        self.names = [f"a{at}" for at in range(count)]
+        self.own = self.names[len(writer.definition.parameters):]
+        self.equations = writer.program.equations(writer.definition)
+        self.terms = [parsed(one.right, writer.definition.module.path) for one in self.equations]
+        ends = [end for term in self.terms for end in self.ends(term)]
+        kinds = set().union(*(kinds for _, kinds in ends))
+        self.loops = bool(ends) and len(kinds) < 2
+        self.gathers = next(iter(kinds), None) if self.loops else None
+        self.is_walk = False
+        self.walked = {at for equation, term in zip(self.equations, self.terms) if self.loops
+                       for given, _ in self.ends(term) for at in self.steps(equation, given)}
+        self.is_walk = len(self.walked) == 1 and all(map(self.is_walked_by, self.equations, self.terms))
+
+    def ends(self, term):
+        """The calls of the definition in which a term ends: their arguments, each with what is gathered before it."""
+        if term[0] == "if":
+            return self.ends(term[2]) + self.ends(term[3])
+        if term[0] == "let":
+            return self.ends(term[3])
+        added = added_to(term)
+        if added:
+            return [(given, kinds | {added[0]}) for given, kinds in self.ends(added[3])]
+        given = self.call(term)
+        return [] if given is None else [(given, frozenset())]
+
+    def call(self, term):
+        """The arguments of a call of the definition with all of them, or None."""
+        given = []
+        while term[0] == "apply":
+            given.insert(0, term[2])
+            term = term[1]
+        if term[0] != "name" or len(given) != len(self.own) or not given:
+            return None
+        found = self.writer.scope.own(str(term[1]))
+        return given if found is not None and found.what is self.writer.definition else None
+
+    def steps(self, equation, given):
+        """The places of arguments that are the rest of the list at their place, and how many items are before it."""
+        found = {}
+        for at, (pattern, argument) in enumerate(zip(equation.patterns, given)):
+            heads, rest = list_pattern(pattern)
+            if heads and rest == argument and rest[0] == "name":
+                found[at] = len(heads)
+        return found
+
+    def is_walked_by(self, equation, term):
+        """Whether an equation takes no item or one off the list, and gives the rest of it to its own definition alone."""
+        at, = self.walked
+        heads, rest = list_pattern(equation.patterns[at])
+        if not heads:
+            return rest == ("name", "[]")
+        ends = self.ends(term)
+        others = tokens_used(equation.right) - self.only_walked(equation, term)
+        return (len(heads) == 1 and rest[0] == "name" and rest[1] not in others and all(at in self.steps(equation, given) for given, _ in ends)
+                and (not ends or self.equation(self.equations.index(equation), "", True) is not None))
+
+    def lines(self, name):
+        """The lines of the function."""
+        lines = [f"def {name}({', '.join(self.names)}):"]
+        if self.gathers:
+            lines.append("    gathered = []" if self.gathers == LISTS else "    gathered = 0")
+        if self.is_walk:
+            return lines + self.walk() + [f"    missing({name!r})"]
+        lines += [f"    {self.own[at]}, i{at} = parted({self.own[at]})" for at in sorted(self.walked)]
+        if self.loops:
+            lines.append("    while True:")
+        indent = "        " if self.loops else "    "
+        for at in range(len(self.equations)):
+            lines += self.equation(at, indent, True) or self.equation(at, indent, False)
+        return lines + [f"{indent}missing({name!r})"]
+
+    def walk(self):
+        """The lines of a loop over the items of a list, and of what is given at its end."""
+        place, = self.walked
+        ends = [list_pattern(one.patterns[place])[0] == [] for one in self.equations]
+        lines = [f"    for item in {self.own[place]}:"]
+        for at, is_end in enumerate(ends):
+            if not is_end:
+                lines += self.equation(at, "        ", True) or self.equation(at, "        ", False)
+        lines.append("        missing('an item')")
+        for at, is_end in enumerate(ends):
+            if is_end:
+                lines += self.equation(at, "    ", False)
+        return lines
+
+    def equation(self, at, indent, goes_round):
+        """The lines of one equation: its test, and what it gives; None where it should go round and may not."""
+        if goes_round and not (self.loops and self.ends(self.terms[at])):
+            return None
+        writer, equation, term = self.writer, self.equations[at], self.terms[at]
+        match = Match(writer.scope)
+        for place, (pattern, path) in enumerate(zip(equation.patterns, self.own)):
+            match.take(pattern, self.path(path, place))
+        lines = [f"{indent}if {' and '.join(match.tests) or 'True'}:"]
+        indent += "    "
+        bound = dict(zip(writer.definition.parameters, self.names))
+        inside = bound_inside(term)
+        used = tokens_used(equation.right)
+        if goes_round:
+            used -= self.only_walked(equation, term)
+        for name, path in match.bound.items():
+            if path in self.names or (used[name] == 1 and not inside):
+                bound[name] = path
+            elif used[name]:
+                bound[name] = writer.fresh()
+                lines.append(f"{indent}{bound[name]} = {path}")
+        lines.append(f"{indent}REACHED[{writer.program.place_of(writer.definition, at)}] = 1")
+        writer.repeated, writer.shared = {call for call in repeated_calls(term) if not inside & names_in(call)}, {}
+        writer.wholes = {} if inside & match.bound.keys() else match.wholes
+        further = self.own[len(equation.patterns):]
+        ending = self.ending(equation, term, bound, indent) if goes_round else [self.result(writer.applied(writer.write(term, bound), further), indent)]
+        lines += [f"{indent}{name} = shared(lambda: {call})" for name, call in writer.shared.values()] + ending
+        if goes_round and any("lambda" in line and not line.lstrip().startswith("return ") for line in lines):
+            return None
+        return lines
+
+    def path(self, name, place):
+        """Where an argument is found in a round."""
+        if place not in self.walked:
+            return name
+        return Walked("item") if self.is_walk else View(name, f"i{place}")
+
+    def only_walked(self, equation, term):
+        """How often each name stands where only the place in its list is counted on."""
+        return tokens_used([equation_rest(equation, at) for given, _ in self.ends(term) for at in self.steps(equation, given)])
+
+    def result(self, value, indent):
+        """The line that ends the function."""
+        if self.gathers:
+            value = f"ended(gathered, {value})" if self.gathers == LISTS else f"gathered + {value}"
+        return f"{indent}return {value}"
+
+    def ending(self, equation, term, bound, indent):
+        """The lines of a term at the end of an equation."""
+        writer = self.writer
+        given = self.call(term)
+        if given is not None:
+            return self.round(equation, given, bound, indent)
+        if not self.ends(term):
+            return [self.result(writer.write(term, bound), indent)]
+        if term[0] == "if":
+            return ([f"{indent}if {writer.write(term[1], bound)}:"] + self.ending(equation, term[2], bound, indent + "    ")
+                    + [f"{indent}else:"] + self.ending(equation, term[3], bound, indent + "    "))
+        if term[0] == "let":
+            name = writer.fresh()
+            return [f"{indent}{name} = {writer.write(term[2], bound)}"] + self.ending(equation, term[3], {**bound, term[1]: name}, indent)
+        kind, how, first, end = added_to(term)
+        added = writer.write(first, bound)
+        return [f"{indent}gathered.{how}({added})" if kind == LISTS else f"{indent}gathered += {added}"] + self.ending(equation, end, bound, indent)
+
+    def round(self, equation, given, bound, indent):
+        """The lines that set the arguments anew and go round."""
+        steps = self.steps(equation, given)
+        targets, values = [], []
+        for at, (name, term) in enumerate(zip(self.own, given)):
+            if self.is_walk and at in self.walked:
+                continue
+            if at in steps and at in self.walked:
+                targets.append(f"i{at}")
+                values.append(f"i{at} + {steps[at]}")
+                continue
+            value = self.writer.write(term, bound)
+            if at in self.walked:
+                targets.append(f"({name}, i{at})")
+                values.append(f"parted({value})")
+            elif value != name:
+                targets.append(name)
+                values.append(value)
+        return ([f"{indent}{', '.join(targets)} = {', '.join(values)}"] if targets else []) + [f"{indent}continue"]
+
+
+def equation_rest(equation, at):
+    """The name of the rest of the list at a place."""
+    return list_pattern(equation.patterns[at])[1][1]
