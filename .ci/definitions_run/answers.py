@@ -18,7 +18,7 @@ from .relations import Deriver
 from .values import plain
 
 CRATES = os.path.join(os.path.dirname(os.path.abspath(__file__)), "..", "..", "crates")
-MOST_STEPS = 20_000
+MOST_STEPS = 100_000
 _programs = {}
 
 

@@ -20,6 +20,8 @@ REASONS = os.path.join(os.path.dirname(os.path.abspath(__file__)), "..", "defini
 MOST_SECONDS = 20
 DEAREST = 1.5
 ROWS_EACH = 60
+# Each so many rows are answered before the first change, so that what they need is compiled once.
+WARMING = 15
 # Tables whose rows are much like one another: some of them are tried last.
 LIKE_OTHERS = ("brackets", "bytes", "second_dialect")
 FEW_BYTES, MOST_BYTES = 300, 2500
@@ -103,7 +105,7 @@ def reasons():
         return {line.partition(" -- ")[0] for line in file.read().split("\n") if line and not line.startswith("#")}
 
 
-def run(seed, seconds):
+def run(seed, seconds, processes):
     """Tries changes for so many seconds, and prints those that live without a reason; 1 where there are such."""
     program = definitions()
     unknown_forms(program, whole_headline(program.modules, os.path.abspath(CRATES)))
@@ -111,17 +113,19 @@ def run(seed, seconds):
     rows = [row for row in all_short if len(row.job) <= FEW_BYTES and not row.place.startswith(LIKE_OTHERS)]
     others = [row for row in all_short if row not in rows]
     trial = Trial(program)
-    answers, _ = in_processes(lambda item: answered(program, trial, *item), list(enumerate(rows)))
+    answers, _ = in_processes(lambda item: answered(program, trial, *item), list(enumerate(rows)), processes)
     reached = sorted((one for one in answers if one is not None and one.seconds < DEAREST), key=lambda one: one.seconds)
     changes = changes_reached(program, reached)
     random.Random(seed).shuffle(changes)
     print(f"seed {seed}: {len(changes)} changes that {len(reached)} rows reach", flush=True)
-    known, end = reasons(), time.time() + seconds
+    known, end, warmed = reasons(), time.time() + seconds, []
 
     def tried(change):
         """What becomes of a change, or None where the time is over."""
         if time.time() > end:
             return None
+        if not warmed:
+            warmed.extend(trial.differs(row) for row in rows[::WARMING])
         place = (change.definition.key, change.at)
         near = [rows[one.number] for one in reached if place in one.places]
         chance = random.Random(seed)
@@ -131,7 +135,7 @@ def run(seed, seconds):
             print(f"lives: {change.name}", flush=True)
         return status
 
-    found, _ = in_processes(tried, changes)
+    found, _ = in_processes(tried, changes, processes)
     return summed(changes, found, known)
 
 

@@ -11,6 +11,7 @@ from .modules import Definition
 from .scope import Scope
 from .tokens import FormError
 
+NEVER = ("name", "⊥")
 CLAIMS = ("→", "↔", "⊎", "×", "≡", "≢", "<", "≤")
 
 
@@ -24,7 +25,7 @@ def binds(term):
 def implication_of(term):
     """`¬ P` as what it stands for: `P → ⊥`."""
     if term[0] == "apply" and term[1] == ("name", "¬"):
-        return ("operator", "→", term[2], ("name", "⊥"))
+        return ("operator", "→", term[2], NEVER)
     return term
 
 

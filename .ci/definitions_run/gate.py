@@ -30,7 +30,7 @@ def rows_to_try():
     return tried, passed_over
 
 
-def tried(program, rows):
+def tried(program, rows, processes):
     """What is said of each row, and the places of the equations that any reached."""
     trial = Trial(program)
 
@@ -51,7 +51,7 @@ def tried(program, rows):
         places = {place for place, number in program.places.items() if program.reached[number]}
         return places, trial.by_evaluation_alone, sum(os.times()[:2])
 
-    answers, ends = in_processes(said, rows, reached)
+    answers, ends = in_processes(said, rows, processes, reached)
     return answers, set().union(*(end[0] for end in ends)), sum(end[1] for end in ends), sum(end[2] for end in ends)
 
 
@@ -79,16 +79,28 @@ def other_names(names, listed):
         f"it is run, or no longer there, and .ci/definitions_unread has it: {name}" for name in sorted(set(listed) - set(names))]
 
 
+def listed():
+    """The names of .ci/definitions_unread."""
+    with open(UNREAD, encoding="utf-8") as file:
+        return [line for line in file.read().split("\n") if line and not line.startswith("#")]
+
+
 def list_differs(names, write):
     """What is said where the list of what is not run is another."""
     if write:
         with open(UNREAD, "w", encoding="utf-8") as file:
             file.write("# What the headline rests on and no row runs.\n" + "".join(name + "\n" for name in names))
-    with open(UNREAD, encoding="utf-8") as file:
-        return other_names(names, [line for line in file.read().split("\n") if line and not line.startswith("#")])
+    return other_names(names, listed())
 
 
-def run(write):
+def page():
+    """Whether the page has the numbers of the definitions as they stand; 1 where it has not."""
+    said = page_differs(definitions().modules, os.path.abspath(CRATES), len(listed()), False)
+    print(*said, f"{int(not said)} passed, {len(said)} failed", sep="\n")
+    return 1 if said else 0
+
+
+def run(write, processes):
     """Tries all, and prints what failed; 1 where something did."""
     started = time.process_time()
     program = definitions()
@@ -96,7 +108,7 @@ def run(write):
     closure = whole_headline(program.modules, root)
     forms = unknown_forms(program, closure)
     rows, passed_over = rows_to_try()
-    answers, reached, alone, seconds = tried(program, rows)
+    answers, reached, alone, seconds = tried(program, rows, processes)
     failures = [f"{row.place}: {said}" for row, said in zip(rows, answers) if said]
     names = unread(closure, reached, root)
     lists = list_differs(names, write)

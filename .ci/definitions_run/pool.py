@@ -8,22 +8,37 @@ import tempfile
 from .answers import on_large_stack
 
 
-def share_of(function, items, at, count):
-    """What the function gives of each item of one share."""
-    return [(number, function(item)) for number, item in enumerate(items) if number % count == at]
+NUMBER = 4
 
 
-def in_processes(function, items, finish=None, count=None):
-    """What the function gives of each item, in order, and what `finish` gives in each process at its end."""
-    count = count or os.cpu_count() or 1
-    started = []
-    for at in range(count):
+def share_of(function, items, numbers):
+    """What the function gives of the items whose numbers this process takes out of the pipe, until there are none."""
+    found = []
+    while taken := os.read(numbers, NUMBER):
+        number = int.from_bytes(taken, "big")
+        found.append((number, function(items[number])))
+    return found
+
+
+def pipe_of(count):
+    """A pipe with the numbers below the count, each of which one process takes: so many as go into a pipe."""
+    numbers, numbered = os.pipe()
+    os.set_blocking(numbered, False)
+    os.write(numbered, b"".join(number.to_bytes(NUMBER, "big") for number in range(count)))
+    os.close(numbered)
+    return numbers
+
+
+def in_processes(function, items, count, finish=None):
+    """What the function gives of each item, in order, by so many processes, and what `finish` gives in each of them at its end."""
+    started, numbers = [], pipe_of(len(items))
+    for _ in range(count):
         file = tempfile.TemporaryFile()
         child = os.fork()
         if child == 0:
             status = 1
             try:
-                done = on_large_stack(lambda: (share_of(function, items, at, count), finish() if finish else None))
+                done = on_large_stack(lambda: (share_of(function, items, numbers), finish() if finish else None))
                 pickle.dump(done, file)
                 file.flush()
                 status = 0
@@ -31,6 +46,7 @@ def in_processes(function, items, finish=None, count=None):
                 sys.stdout.flush()
                 os._exit(status)
         started.append((child, file))
+    os.close(numbers)
     return collected(started, len(items))
 
 

@@ -67,6 +67,7 @@ class Relation:
     def __init__(self, program, definition):
         self.definition = definition
         self.parameters = definition.parameters + explicit_parameters(header_of(definition))
+        self.names = [("name", name) for name in self.parameters]
         self.rules = [Rule(definition, name, tokens) for name, tokens in definition.parts.items()]
         self.writer = Writer(program, definition)
 
@@ -90,6 +91,9 @@ class Deriver:
         self.expressions = {}
         self.patterns = {}
         self.names = {}
+        self.heads = {}
+        self.passed_on = {}
+        self.forms = {}
         self.found = {}
         self.open = set()
 
@@ -101,6 +105,8 @@ class Deriver:
 
     def value(self, relation, term, bound):
         """The value of a term, where names have these values."""
+        if term[0] == "name" and term[1] in bound:
+            return bound[term[1]]
         names = sorted(self.names_of(term) & bound.keys())
         key = (relation.definition.key, id(term), tuple(names))
         if key not in self.expressions:
@@ -111,6 +117,8 @@ class Deriver:
 
     def is_known(self, term, rule, bound):
         """Whether all variables in a term have values."""
+        if term[0] == "name" and term[1] in bound:
+            return True
         return not (self.names_of(term) & rule.variables) - bound.keys()
 
     def names_of(self, term):
@@ -118,6 +126,21 @@ class Deriver:
         if id(term) not in self.names:
             self.names[id(term)] = term, frozenset(names_in(term))
         return self.names[id(term)][1]
+
+    def head_of(self, relation, term):
+        """What a premise begins with, and its arguments, which are looked for once."""
+        if id(term) not in self.heads:
+            head, given = arguments_of(term)
+            found = relation.writer.scope.find(str(head[1]))[0] if head[0] == "name" else None
+            self.heads[id(term)] = term, (found, given)
+        return self.heads[id(term)][1]
+
+    def is_form(self, relation, rule, term):
+        """Whether a term is made of constructors and variables alone, which is looked for once."""
+        key = id(term), id(rule), len(rule.variables)
+        if key not in self.forms:
+            self.forms[key] = term, is_pattern(term, relation.writer.scope, rule)
+        return self.forms[key][1]
 
     def derive(self, definition, given):
         """The arguments of an instance whose known ones are these, or None. Holes ask for the others."""
@@ -161,14 +184,14 @@ class Deriver:
             return None
         if any(key_of(self.value(relation, term, bound)) != key_of(one) for term, one in later):
             return None
-        terms = [("name", name) for name in relation.parameters] + rule.conclusion[len(rule.conclusion) - len(given) + count:]
+        terms = relation.names + rule.conclusion[len(rule.conclusion) - len(given) + count:]
         return tuple(self.value(relation, term, bound) if one is HOLE else one for term, one in zip(terms, given))
 
     def take(self, relation, rule, term, value, bound, later):
         """Compares a term with a known value: by its form, or, where it is computed, once its variables are known."""
         if self.is_known(term, rule, bound):
             return key_of(self.value(relation, term, bound)) == key_of(value)
-        if not is_pattern(term, relation.writer.scope, rule):
+        if not self.is_form(relation, rule, term):
             later.append((term, value))
             return True
         return self.match(relation, rule, term, value, bound)
@@ -218,8 +241,7 @@ class Deriver:
             return self.every(relation, rule, term, bound)
         if term[0] == "operator":
             return self.decide(self.value(relation, term, bound)) if self.is_known(term, rule, bound) else None
-        head, given = arguments_of(term)
-        found = relation.writer.scope.find(str(head[1]))[0] if head[0] == "name" else None
+        found, given = self.head_of(relation, term)
         if found is None or found.kind != "type" or getattr(found.what, "kind", None) not in ("data", "record"):
             return self.decide(self.value(relation, term, bound)) if self.is_known(term, rule, bound) else None
         return self.instance(relation, rule, found.what, given, bound)
@@ -234,7 +256,7 @@ class Deriver:
         value = self.value(relation, left, bound)
         if self.is_known(right, rule, bound):
             return key_of(self.value(relation, right, bound)) == key_of(value)
-        return self.match(relation, rule, right, value, bound) if is_pattern(right, relation.writer.scope, rule) else None
+        return self.match(relation, rule, right, value, bound) if self.is_form(relation, rule, right) else None
 
     def every(self, relation, rule, term, bound):
         """Whether a claim holds of all values that make an equation true: those of which a known value is made, if it is."""
@@ -248,12 +270,11 @@ class Deriver:
 
     def instance(self, relation, rule, definition, given, bound):
         """Whether there is an instance of a relation; what is not known of it is found, where it is a pattern."""
-        passed = [("name", name) for name in definition.parameters] if definition.module is relation.definition.module else []
-        asked, terms = [], passed + given
+        asked, terms = [], self.passed(relation, definition) + given
         for term in terms:
             if self.is_known(term, rule, bound):
                 asked.append(self.value(relation, term, bound))
-            elif is_pattern(term, relation.writer.scope, rule):
+            elif self.is_form(relation, rule, term):
                 asked.append(HOLE)
             else:
                 return None
@@ -263,6 +284,14 @@ class Deriver:
         if answer is None:
             return False
         return all(self.match(relation, rule, term, one, bound) for term, one, was in zip(terms, answer, asked) if was is HOLE)
+
+    def passed(self, relation, definition):
+        """The parameters of a module, which its relations pass on to one another, as terms."""
+        key = relation.definition.key, definition.key
+        if key not in self.passed_on:
+            names = definition.parameters if definition.module is relation.definition.module else []
+            self.passed_on[key] = [("name", name) for name in names]
+        return self.passed_on[key]
 
     def by_record(self, definition, given):
         """An instance of a record whose fields are claims: each in turn."""
@@ -275,6 +304,7 @@ class Deriver:
             relation = Relation.__new__(Relation)
             relation.definition = definition
             relation.parameters = definition.parameters + explicit_parameters(header_of(definition))
+            relation.names = [("name", name) for name in relation.parameters]
             rule = Rule.__new__(Rule)
             rule.name, rule.variables, rule.conclusion = "fields", set(), []
             rule.premises = [parsed(tokens, definition.module.path) for tokens in definition.parts.values()]
