@@ -20,7 +20,7 @@ REASONS = os.path.join(os.path.dirname(os.path.abspath(__file__)), "..", "defini
 MOST_SECONDS = 20
 DEAREST = 1.5
 ROWS_EACH = 60
-# Each so many rows are answered before the first change, so that what they need is compiled once.
+# So many rows apart stand those that are answered before the first change.
 WARMING = 15
 # Tables whose rows are much like one another: some of them are tried last.
 LIKE_OTHERS = ("brackets", "bytes", "second_dialect")
@@ -105,37 +105,54 @@ def reasons():
         return {line.partition(" -- ")[0] for line in file.read().split("\n") if line and not line.startswith("#")}
 
 
-def run(seed, seconds, processes):
-    """Tries changes for so many seconds, and prints those that live without a reason; 1 where there are such."""
+class Rows:
+    """The rows by which changes are told: short ones, of which is known what they reach, and others."""
+
+    def __init__(self, program, processes):
+        self.trial = Trial(program)
+        all_short = [row for row in rows_to_try()[0] if len(row.job) <= MOST_BYTES]
+        self.short = [row for row in all_short if len(row.job) <= FEW_BYTES and not row.place.startswith(LIKE_OTHERS)]
+        self.others = [row for row in all_short if row not in self.short]
+        answers, _ = in_processes(lambda item: answered(program, self.trial, *item), list(enumerate(self.short)), processes)
+        self.reached = sorted((one for one in answers if one is not None and one.seconds < DEAREST), key=lambda one: one.seconds)
+        self.is_warm = False
+
+    def warm(self):
+        """Answers some rows, so that what they need is compiled before each change has a process of its own."""
+        if not self.is_warm:
+            self.is_warm = True
+            for row in self.short[::WARMING]:
+                self.trial.differs(row)
+
+    def for_change(self, change, seed):
+        """The rows to try of a change: cheap ones that reach it, some of the others that do, and some of those that are like others."""
+        place, chance = (change.definition.key, change.at), random.Random(seed)
+        near = [self.short[one.number] for one in self.reached if place in one.places]
+        further = chance.sample(near, min(len(near), ROWS_EACH // 2))
+        return near[:ROWS_EACH // 2] + further + chance.sample(self.others, min(len(self.others), ROWS_EACH))
+
+
+def run(seed, most, seconds, processes):
+    """Tries so many changes at most, for so many seconds, and prints those that live without a reason; 1 where there are such."""
     program = definitions()
     unknown_forms(program, whole_headline(program.modules, os.path.abspath(CRATES)))
-    all_short = [row for row in rows_to_try()[0] if len(row.job) <= MOST_BYTES]
-    rows = [row for row in all_short if len(row.job) <= FEW_BYTES and not row.place.startswith(LIKE_OTHERS)]
-    others = [row for row in all_short if row not in rows]
-    trial = Trial(program)
-    answers, _ = in_processes(lambda item: answered(program, trial, *item), list(enumerate(rows)), processes)
-    reached = sorted((one for one in answers if one is not None and one.seconds < DEAREST), key=lambda one: one.seconds)
-    changes = changes_reached(program, reached)
+    rows = Rows(program, processes)
+    changes = changes_reached(program, rows.reached)
     random.Random(seed).shuffle(changes)
-    print(f"seed {seed}: {len(changes)} changes that {len(reached)} rows reach", flush=True)
-    known, end, warmed = reasons(), time.time() + seconds, []
+    print(f"seed {seed}: {len(changes)} changes that {len(rows.reached)} rows reach", flush=True)
+    known, end = reasons(), time.time() + seconds
 
     def tried(change):
         """What becomes of a change, or None where the time is over."""
         if time.time() > end:
             return None
-        if not warmed:
-            warmed.extend(trial.differs(row) for row in rows[::WARMING])
-        place = (change.definition.key, change.at)
-        near = [rows[one.number] for one in reached if place in one.places]
-        chance = random.Random(seed)
-        spread = near[:ROWS_EACH // 2] + chance.sample(near, min(len(near), ROWS_EACH // 2)) + chance.sample(others, min(len(others), ROWS_EACH))
-        status = verdict_apart(program, change, spread)
+        rows.warm()
+        status = verdict_apart(program, change, rows.for_change(change, seed))
         if status == LIVES and change.name not in known:
             print(f"lives: {change.name}", flush=True)
         return status
 
-    found, _ = in_processes(tried, changes, processes)
+    found, _ = in_processes(tried, changes[:most], processes)
     return summed(changes, found, known)
 
 

@@ -1,6 +1,5 @@
 """Changes of one definition: of a number, a truth value, a text, an operator, a constructor, an argument's place, or a whole answer."""
 
-from .matching import Equation
 from .modules import explicit_parameters
 from .relations import header_of
 from .scope import NameMissing, Scope
@@ -105,9 +104,9 @@ def changes_of(program, definition):
     equations = program.equations(definition)
     for number, equation in enumerate(equations):
         for what, right in changed_sides(scope, equation.right):
-            yield Change(definition, number, what, Equation(equation.patterns, right, equation.number))
+            yield Change(definition, number, what, equation.with_right(right))
         if number + 1 < len(equations) and equations[number + 1].right != equation.right:
-            yield Change(definition, number, "the answer of the next case", Equation(equation.patterns, equations[number + 1].right, equation.number))
+            yield Change(definition, number, "the answer of the next case", equation.with_right(equations[number + 1].right))
 
 
 def changed_sides(scope, right, parameters=()):

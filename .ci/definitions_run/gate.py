@@ -6,7 +6,7 @@ import time
 from . import planted
 from .answers import CRATES, definitions
 from .headline import short_path, whole_headline
-from .page import page_differs
+from .page import Pages, texts, write_page
 from .pool import in_processes
 from .tables import all_rows
 from .tokens import FormError
@@ -95,7 +95,8 @@ def list_differs(names, write):
 
 def page():
     """Whether the page has the numbers of the definitions as they stand; 1 where it has not."""
-    said = page_differs(definitions().modules, os.path.abspath(CRATES), len(listed()), False)
+    pages = Pages(definitions().modules, os.path.abspath(CRATES), len(listed()))
+    said = pages.differ(*texts()) + planted.page_failures(pages)
     print(*said, f"{int(not said)} passed, {len(said)} failed", sep="\n")
     return 1 if said else 0
 
@@ -112,13 +113,15 @@ def run(write, processes):
     failures = [f"{row.place}: {said}" for row, said in zip(rows, answers) if said]
     names = unread(closure, reached, root)
     lists = list_differs(names, write)
-    mistakes = planted.failures(other_names)
-    pages = page_differs(program.modules, root, len(names), write)
-    for line in failures + forms + lists + mistakes + pages:
+    pages = Pages(program.modules, root, len(names))
+    if write:
+        write_page(pages)
+    mistakes = planted.failures(other_names) + planted.page_failures(pages) + pages.differ(*texts())
+    for line in failures + forms + lists + mistakes:
         print(line)
     print(f"{len(rows)} rows, {alone} of them by evaluation alone, {len(passed_over)} passed over:", *[row.place for row in passed_over])
     print(f"{len(closure.found)} definitions of the headline, {len(closure.found) - len(names)} run, {len(names)} listed")
     print(f"{seconds + time.process_time() - started:.0f} processor seconds")
-    failed = len(failures) + len(forms) + len(lists) + len(mistakes) + len(pages)
+    failed = len(failures) + len(forms) + len(lists) + len(mistakes)
     print(f"{len(rows) - len(failures) + len(closure.found) - len(names)} passed, {failed} failed")
     return 1 if failed else 0

@@ -36,14 +36,18 @@ class Function:
         self.own = self.names[len(writer.definition.parameters):]
         self.equations = writer.program.equations(writer.definition)
         self.terms = [parsed(one.right, writer.definition.module.path) for one in self.equations]
-        ends = [end for term in self.terms for end in self.ends(term)]
-        kinds = set().union(*(kinds for _, kinds in ends))
-        self.loops = bool(ends) and len(kinds) < 2
+        self.rounds = [self.ends(term) if self.is_seen(one, term) else [] for one, term in zip(self.equations, self.terms)]
+        kinds = set().union(*(kinds for ends in self.rounds for _, kinds in ends))
+        self.loops = any(self.rounds) and len(kinds) < 2
         self.gathers = next(iter(kinds), None) if self.loops else None
-        self.is_walk = False
-        self.walked = {at for equation, term in zip(self.equations, self.terms) if self.loops
-                       for given, _ in self.ends(term) for at in self.steps(equation, given)}
-        self.is_walk = len(self.walked) == 1 and all(map(self.is_walked_by, self.equations, self.terms))
+        places = {at for number in range(len(self.equations)) for given, _ in self.rounds[number] for at in self.steps(number, given)}
+        self.walked, self.is_walk = places if self.loops else set(), False
+        self.is_walk = len(self.walked) == 1 and all(map(self.is_walked_by, range(len(self.equations))))
+
+    def is_seen(self, equation, term):
+        """Whether the name of the definition stands for it in an equation."""
+        others = bound_inside(term).union(*map(names_in, equation.patterns))
+        return self.writer.definition.name not in others
 
     def ends(self, term):
         """The calls of the definition in which a term ends: their arguments, each with what is gathered before it."""
@@ -68,25 +72,33 @@ class Function:
         found = self.writer.scope.own(str(term[1]))
         return given if found is not None and found.what is self.writer.definition else None
 
-    def steps(self, equation, given):
+    def steps(self, number, given):
         """The places of arguments that are the rest of the list at their place, and how many items are before it."""
         found = {}
-        for at, (pattern, argument) in enumerate(zip(equation.patterns, given)):
+        for at, (pattern, argument) in enumerate(zip(self.equations[number].patterns, given)):
             heads, rest = list_pattern(pattern)
             if heads and rest == argument and rest[0] == "name":
                 found[at] = len(heads)
         return found
 
-    def is_walked_by(self, equation, term):
+    def is_walked_by(self, number):
         """Whether an equation takes no item or one off the list, and gives the rest of it to its own definition alone."""
         at, = self.walked
-        heads, rest = list_pattern(equation.patterns[at])
+        heads, rest = list_pattern(self.equations[number].patterns[at])
         if not heads:
             return rest == ("name", "[]")
-        ends = self.ends(term)
-        others = tokens_used(equation.right) - self.only_walked(equation, term)
-        return (len(heads) == 1 and rest[0] == "name" and rest[1] not in others and all(at in self.steps(equation, given) for given, _ in ends)
-                and (not ends or self.equation(self.equations.index(equation), "", True) is not None))
+        if len(heads) > 1 or rest[0] != "name" or self.used(number, True)[rest[1]]:
+            return False
+        ends = self.rounds[number]
+        return all(at in self.steps(number, given) for given, _ in ends) and (not ends or self.equation(number, "", True) is not None)
+
+    def used(self, number, goes_round):
+        """How often each name stands on the right side, where only the place in its list is counted on aside."""
+        used = tokens_used(self.equations[number].right)
+        if goes_round:
+            steps = [at for given, _ in self.rounds[number] for at in self.steps(number, given)]
+            used -= tokens_used([list_pattern(self.equations[number].patterns[at])[1][1] for at in steps])
+        return used
 
     def lines(self, name):
         """The lines of the function."""
@@ -117,36 +129,46 @@ class Function:
                 lines += self.equation(at, "    ", False)
         return lines
 
-    def equation(self, at, indent, goes_round):
+    def equation(self, number, indent, goes_round):
         """The lines of one equation: its test, and what it gives; None where it should go round and may not."""
-        if goes_round and not (self.loops and self.ends(self.terms[at])):
+        if goes_round and not (self.loops and self.rounds[number]):
             return None
-        writer, equation, term = self.writer, self.equations[at], self.terms[at]
+        writer, equation, term = self.writer, self.equations[number], self.terms[number]
         match = Match(writer.scope)
         for place, (pattern, path) in enumerate(zip(equation.patterns, self.own)):
             match.take(pattern, self.path(path, place))
         lines = [f"{indent}if {' and '.join(match.tests) or 'True'}:"]
         indent += "    "
-        bound = dict(zip(writer.definition.parameters, self.names))
         inside = bound_inside(term)
-        used = tokens_used(equation.right)
-        if goes_round:
-            used -= self.only_walked(equation, term)
-        for name, path in match.bound.items():
-            if path in self.names or (used[name] == 1 and not inside):
-                bound[name] = path
-            elif used[name]:
-                bound[name] = writer.fresh()
-                lines.append(f"{indent}{bound[name]} = {path}")
-        lines.append(f"{indent}REACHED[{writer.program.place_of(writer.definition, at)}] = 1")
+        bound = self.implicit(equation) | self.bound(match, self.used(number, goes_round), inside, lines, indent)
+        lines.append(f"{indent}REACHED[{writer.program.place_of(writer.definition, number)}] = 1")
         writer.repeated, writer.shared = {call for call in repeated_calls(term) if not inside & names_in(call)}, {}
         writer.wholes = {} if inside & match.bound.keys() else match.wholes
-        further = self.own[len(equation.patterns):]
-        ending = self.ending(equation, term, bound, indent) if goes_round else [self.result(writer.applied(writer.write(term, bound), further), indent)]
+        if goes_round:
+            ending = self.ending(number, term, bound, indent)
+        else:
+            ending = [self.result(writer.applied(writer.write(term, bound), self.own[len(equation.patterns):]), indent)]
         lines += [f"{indent}{name} = shared(lambda: {call})" for name, call in writer.shared.values()] + ending
         if goes_round and any("lambda" in line and not line.lstrip().startswith("return ") for line in lines):
             return None
         return lines
+
+    def implicit(self, equation):
+        """What the names stand for that are bound in braces: types, of which nothing is computed, and values, which are not known here."""
+        names = self.writer.definition.implicit
+        renamed = {here: names.get(name, False) for here, name in equation.implicit.items()}
+        return {name: "TYPE" if is_type else f"implicit({name!r})" for name, is_type in {**names, **renamed}.items()}
+
+    def bound(self, match, used, inside, lines, indent):
+        """What the names of an equation stand for: names of Python, which lines set, or what is asked for once alone."""
+        bound = dict(zip(self.writer.definition.parameters, self.names))
+        for name, path in match.bound.items():
+            if path in self.names or (used[name] == 1 and not inside):
+                bound[name] = path
+            elif used[name]:
+                bound[name] = self.writer.fresh()
+                lines.append(f"{indent}{bound[name]} = {path}")
+        return bound
 
     def path(self, name, place):
         """Where an argument is found in a round."""
@@ -154,37 +176,34 @@ class Function:
             return name
         return Walked("item") if self.is_walk else View(name, f"i{place}")
 
-    def only_walked(self, equation, term):
-        """How often each name stands where only the place in its list is counted on."""
-        return tokens_used([equation_rest(equation, at) for given, _ in self.ends(term) for at in self.steps(equation, given)])
-
     def result(self, value, indent):
         """The line that ends the function."""
         if self.gathers:
             value = f"ended(gathered, {value})" if self.gathers == LISTS else f"gathered + {value}"
         return f"{indent}return {value}"
 
-    def ending(self, equation, term, bound, indent):
+    def ending(self, number, term, bound, indent):
         """The lines of a term at the end of an equation."""
         writer = self.writer
         given = self.call(term)
         if given is not None:
-            return self.round(equation, given, bound, indent)
+            return self.round(number, given, bound, indent)
         if not self.ends(term):
             return [self.result(writer.write(term, bound), indent)]
         if term[0] == "if":
-            return ([f"{indent}if {writer.write(term[1], bound)}:"] + self.ending(equation, term[2], bound, indent + "    ")
-                    + [f"{indent}else:"] + self.ending(equation, term[3], bound, indent + "    "))
+            return ([f"{indent}if {writer.write(term[1], bound)}:"] + self.ending(number, term[2], bound, indent + "    ")
+                    + [f"{indent}else:"] + self.ending(number, term[3], bound, indent + "    "))
         if term[0] == "let":
             name = writer.fresh()
-            return [f"{indent}{name} = {writer.write(term[2], bound)}"] + self.ending(equation, term[3], {**bound, term[1]: name}, indent)
+            return [f"{indent}{name} = {writer.write(term[2], bound)}"] + self.ending(number, term[3], {**bound, term[1]: name}, indent)
         kind, how, first, end = added_to(term)
         added = writer.write(first, bound)
-        return [f"{indent}gathered.{how}({added})" if kind == LISTS else f"{indent}gathered += {added}"] + self.ending(equation, end, bound, indent)
+        gathering = f"gathered.{how}({added})" if kind == LISTS else f"gathered += {added}"
+        return [indent + gathering] + self.ending(number, end, bound, indent)
 
-    def round(self, equation, given, bound, indent):
+    def round(self, number, given, bound, indent):
         """The lines that set the arguments anew and go round."""
-        steps = self.steps(equation, given)
+        steps = self.steps(number, given)
         targets, values = [], []
         for at, (name, term) in enumerate(zip(self.own, given)):
             if self.is_walk and at in self.walked:
@@ -201,8 +220,3 @@ class Function:
                 targets.append(name)
                 values.append(value)
         return ([f"{indent}{', '.join(targets)} = {', '.join(values)}"] if targets else []) + [f"{indent}continue"]
-
-
-def equation_rest(equation, at):
-    """The name of the rest of the list at a place."""
-    return list_pattern(equation.patterns[at])[1][1]

@@ -5,12 +5,16 @@ from .tokens import FormError
 
 
 class Equation:
-    """The patterns of one equation, and its right side as tokens."""
+    """The patterns of one equation, its right side as tokens, and what it calls arguments in braces: `{A = B}`."""
 
-    def __init__(self, patterns_given, right, number):
+    def __init__(self, patterns_given, right, implicit=()):
         self.patterns = patterns_given
         self.right = right
-        self.number = number
+        self.implicit = dict(implicit)
+
+    def with_right(self, right):
+        """The equation with another right side."""
+        return Equation(self.patterns, right, self.implicit)
 
 
 def operator_patterns(left, definition):
@@ -32,7 +36,8 @@ def equations_of(definition):
             left = operator_patterns(left, definition)
         else:
             left = left[1:]
-        made.append(Equation(patterns(left, definition.module.path), right, tokens[0].line))
+        implicit = {str(left[at + 3]): str(left[at + 1]) for at, token in enumerate(left[:-4]) if token == "{" and left[at + 2] == "="}
+        made.append(Equation(patterns(left, definition.module.path), right, implicit))
     return made
 
 

@@ -42,6 +42,11 @@ class Definition:
         return "Type" in [str(token) for token in self.signature[-2:]]
 
     @property
+    def implicit(self):
+        """The names that it and its modules bind in braces, each with whether it is a type."""
+        return {**implicit_names(self.headers), **implicit_names(self.signature)}
+
+    @property
     def place(self):
         """The file and line of it."""
         return f"{self.module.path}:{self.line}"
@@ -73,6 +78,20 @@ def explicit_parameters(tokens):
             is_open = False
         elif is_open and depth == 1:
             names.append(str(token))
+    return names
+
+
+def implicit_names(tokens):
+    """The names that a header or a signature binds in braces, each with whether it is a type."""
+    names, start = {}, None
+    for at, token in enumerate(tokens):
+        if token == "{":
+            start = at + 1
+        elif token == ":" and start is not None:
+            names.update({str(name): tokens[at + 1] == "Type" for name in tokens[start:at]})
+            start = None
+        elif token in ("(", "}"):
+            start = None
     return names
 
 

@@ -39,23 +39,33 @@ def written(modules, root, unread):
     return "\n".join(lines) + "\n"
 
 
-def readme_differs(modules, root):
-    """What is said where README.md has another number of what `wrote` rests on."""
-    number = counts(rests_on(modules, root, "snesl_run", "run", ("wrote",)))
-    with open(README, encoding="utf-8") as file:
-        return [] if number in " ".join(file.read().split()) else [f"README.md says otherwise of `wrote`: it rests on {number}"]
+class Pages:
+    """docs/TRUST.md and README.md as they have to be, where so many definitions are not run."""
+
+    def __init__(self, modules, root, unread):
+        self.lists = written(modules, root, unread)
+        self.number = counts(rests_on(modules, root, "snesl_run", "run", ("wrote",)))
+
+    def rewritten(self, page):
+        """The text of the page with its lists written anew."""
+        before, _, rest = page.partition(BEGIN)
+        return before + BEGIN + "\n" + self.lists + "\n" + END + rest.partition(END)[2]
+
+    def differ(self, page, readme):
+        """What is said of the texts of both pages."""
+        said = [] if page == self.rewritten(page) else ["docs/TRUST.md says otherwise: .ci/definitions --write writes it anew"]
+        if self.number not in " ".join(readme.split()):
+            said.append(f"README.md says otherwise of `wrote`: it rests on {self.number}")
+        return said
 
 
-def page_differs(modules, root, unread, write):
-    """What is said where the page says otherwise."""
-    with open(PAGE, encoding="utf-8") as file:
-        text = file.read()
-    before, _, rest = text.partition(BEGIN)
-    middle, _, after = rest.partition(END)
-    wanted = "\n" + written(modules, root, unread) + "\n"
-    if write:
-        with open(PAGE, "w", encoding="utf-8") as file:
-            file.write(before + BEGIN + wanted + END + after)
-    elif middle != wanted:
-        return ["docs/TRUST.md says otherwise: .ci/definitions --write writes it anew"]
-    return readme_differs(modules, root)
+def texts():
+    """The texts of both pages."""
+    return [open(path, encoding="utf-8").read() for path in (PAGE, README)]
+
+
+def write_page(pages):
+    """Writes the lists of the page anew."""
+    text = pages.rewritten(texts()[0])
+    with open(PAGE, "w", encoding="utf-8") as file:
+        file.write(text)

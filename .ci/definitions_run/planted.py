@@ -1,9 +1,10 @@
-"""Planted mistakes that `.ci/definitions` has to tell: a form that is not known, a name that is not known, and a list with other names."""
+"""Planted mistakes that `.ci/definitions` has to tell: a form or name that is not known, a list with other names, and a stale page."""
 
 import os
 import tempfile
 
 from .modules import read_modules
+from .page import BEGIN
 from .program import Program
 from .tokens import FormError
 
@@ -12,6 +13,7 @@ SIGNATURE = "abbrev pub planted : ℕ → ℕ\n"
 # Each case: the lines after the head, and what is said, after the file's name.
 FORMS = [
     (SIGNATURE + "planted n = n\n", None),
+    ("module _ {n : ℕ} where\n  " + SIGNATURE + "  planted m = n\n", None),
     (SIGNATURE + "other n = n\n", ":5: an equation of no name"),
     (SIGNATURE + "planted n\n", ":5: an equation without `=`"),
     (SIGNATURE + "planted n = (n\n", ":5: a term that ends too early"),
@@ -34,6 +36,14 @@ def said_of(lines):
         except FormError as error:
             return str(error).partition("Planted.antt")[2]
     return None
+
+
+def page_failures(pages):
+    """The planted mistakes of docs/TRUST.md and README.md that are not told."""
+    page, readme = pages.rewritten(BEGIN), pages.number
+    cases = [(page, readme, 0), (page, readme.replace(" files", "9 files"), 1), (page.replace(" lines", "9 lines", 1), readme, 1),
+             (page.replace("`WroteFor`, ", ""), readme, 1), ("", "", 2)]
+    return [f"planted page of {len(text)} letters and README {other!r}: not told" for text, other, count in cases if len(pages.differ(text, other)) != count]
 
 
 def failures(differs):

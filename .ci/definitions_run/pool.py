@@ -1,5 +1,6 @@
 """Work in several processes, each with a stack for deep recursion."""
 
+import gc
 import os
 import pickle
 import sys
@@ -9,6 +10,12 @@ from .answers import on_large_stack
 
 
 NUMBER = 4
+
+
+def collect_seldom():
+    """Has Python look seldom for values that hold each other: few do."""
+    gc.freeze()
+    gc.set_threshold(200_000, 20, 100)
 
 
 def share_of(function, items, numbers):
@@ -37,6 +44,7 @@ def in_processes(function, items, count, finish=None):
         child = os.fork()
         if child == 0:
             status = 1
+            collect_seldom()
             try:
                 done = on_large_stack(lambda: (share_of(function, items, numbers), finish() if finish else None))
                 pickle.dump(done, file)

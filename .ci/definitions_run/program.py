@@ -20,6 +20,11 @@ def missing(name="an elimination"):
     raise NoEquation(name)
 
 
+def implicit(name):
+    """Says that a definition is not run, as it takes a value in braces, which only its type tells."""
+    raise NoEquation(f"the value in braces `{name}`")
+
+
 class Program:
     """The definitions of the modules, ready to be called by name."""
 
@@ -32,7 +37,7 @@ class Program:
         self.reached = bytearray()
         self.constants = {}
         self.space = {
-            "Built": Built, "Claim": Claim, "TYPE": TYPE, "dropped": dropped, "parted": parted, "ended": ended, "shared": shared, "missing": missing,
+            "Built": Built, "Claim": Claim, "TYPE": TYPE, "dropped": dropped, "parted": parted, "ended": ended, "shared": shared, "missing": missing, "implicit": implicit,
             "OPERATORS": OPERATORS, "REACHED": self.reached, **{WORDS[word]: meaning for word, (_, meaning) in FUNCTIONS.items()},
         }
         self.constructors = {}

@@ -4,6 +4,10 @@ from .library import CONSTANTS, CONSTRUCTORS, FUNCTIONS, TYPES
 from .modules import PROOF
 
 
+# How the constructors of the rows of a type of Rattle begin.
+ROWS = ("end_of-", "more_of-")
+
+
 class NameMissing(Exception):
     """A name that stands for nothing that is known."""
 
@@ -46,7 +50,8 @@ class Scope:
         module = self.modules.get(path)
         if module is None:
             if ".declared." in path:
-                return Found("constructor", f"{path}.{name}") if path.endswith(".TheVariants") else Found("type", (path, name))
+                is_constructor = path.endswith(".TheVariants") or name.startswith(ROWS)
+                return Found("constructor", f"{path}.{name}") if is_constructor else Found("type", (path, name))
             return library_word(name) or Found("type", (path, name))
         if name in module.definitions:
             return of_definition(module.definitions[name])
