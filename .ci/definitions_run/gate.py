@@ -5,7 +5,7 @@ import time
 
 from . import planted
 from .answers import CRATES, definitions
-from .headline import short_path, whole_headline
+from .headline import one_name, whole_headline
 from .page import Pages, texts, write_page
 from .pool import in_processes
 from .tables import all_rows
@@ -70,7 +70,7 @@ def unknown_forms(program, closure):
 def unread(closure, reached, root):
     """What the headline rests on and no row runs, one name a line, with its file."""
     run = {key for key, _ in reached}
-    return sorted(f"{short_path(one.module.path, root)} {one.name}" for one in closure.found.values() if one.key not in run)
+    return sorted(one_name(one, root) for one in closure.found.values() if one.key not in run)
 
 
 def other_names(names, listed):
@@ -95,7 +95,7 @@ def list_differs(names, write):
 
 def page():
     """Whether the page has the numbers of the definitions as they stand; 1 where it has not."""
-    pages = Pages(definitions().modules, os.path.abspath(CRATES), len(listed()))
+    pages = Pages(definitions().modules, os.path.abspath(CRATES), set(listed()))
     said = pages.differ(*texts()) + planted.page_failures(pages)
     print(*said, f"{int(not said)} passed, {len(said)} failed", sep="\n")
     return 1 if said else 0
@@ -113,7 +113,7 @@ def run(write, processes):
     failures = [f"{row.place}: {said}" for row, said in zip(rows, answers) if said]
     names = unread(closure, reached, root)
     lists = list_differs(names, write)
-    pages = Pages(program.modules, root, len(names))
+    pages = Pages(program.modules, root, set(names))
     if write:
         write_page(pages)
     mistakes = planted.failures(other_names) + planted.page_failures(pages) + pages.differ(*texts())

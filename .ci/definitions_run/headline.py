@@ -29,6 +29,11 @@ def counts(closure):
     return f"{len(closure.found):,} definitions, {closure.lines:,} lines, {files} files"
 
 
+def one_name(definition, root):
+    """A definition by its file and name."""
+    return f"{short_path(definition.module.path, root)} {definition.name}"
+
+
 def short_path(path, root):
     """A path from the folder of the crates."""
     return os.path.relpath(path, root)

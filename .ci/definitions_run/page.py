@@ -2,20 +2,21 @@
 
 import os
 
-from .headline import HEADLINE, clauses, counts, rests_on, short_path
+from .headline import HEADLINE, clauses, counts, one_name, rests_on, short_path
 
 BEGIN, END = "<!-- .ci/definitions writes this -->\n", "<!-- up to here -->\n"
 TOP = os.path.join(os.path.dirname(os.path.abspath(__file__)), "..", "..")
 PAGE, README = os.path.join(TOP, "docs", "TRUST.md"), os.path.join(TOP, "README.md")
 
 
-def count_rows(modules, root):
-    """The lines of the table that counts what each clause rests on."""
-    lines = ["| function | clause | it rests on |", "|---|---|---|"]
+def count_rows(modules, root, unread):
+    """The lines of the table that counts what each clause rests on, and how many of these rows run."""
+    lines = ["| function | clause | it rests on | rows run |", "|---|---|---|---|"]
     for crate, function in HEADLINE:
-        for clause in clauses(modules, root, crate, function):
-            lines.append(f"| `{function}` | `{clause.name}` | {counts(rests_on(modules, root, crate, function, (clause.name,)))} |")
-        lines.append(f"| `{function}` | all | {counts(rests_on(modules, root, crate, function))} |")
+        for name in [clause.name for clause in clauses(modules, root, crate, function)] + [None]:
+            closure = rests_on(modules, root, crate, function, (name,) if name else ())
+            run = sum(one_name(one, root) not in unread for one in closure.found.values())
+            lines.append(f"| `{function}` | {f'`{name}`' if name else 'all'} | {counts(closure)} | {run} |")
     return lines
 
 
@@ -33,14 +34,14 @@ def file_rows(closure, root):
 
 def written(modules, root, unread):
     """The part of the page that is written by the command."""
-    lines = count_rows(modules, root)
-    lines += ["", f"Of all of these {unread} are not run by any row; .ci/definitions_unread names them."]
+    lines = count_rows(modules, root, unread)
+    lines += ["", "`.ci/definitions_unread` names those that no row runs: types, claims that are not decided, and what these cite."]
     lines += ["", "What `wrote` rests on:", ""] + file_rows(rests_on(modules, root, "snesl_run", "run", ("wrote",)), root)
     return "\n".join(lines) + "\n"
 
 
 class Pages:
-    """docs/TRUST.md and README.md as they have to be, where so many definitions are not run."""
+    """docs/TRUST.md and README.md as they have to be, where these definitions are not run."""
 
     def __init__(self, modules, root, unread):
         self.lists = written(modules, root, unread)
