@@ -136,9 +136,10 @@ piece_of text reach =
     let least = reach.last + prefix_len is_word (drop reach.last text) - reach.first in
     record { at = reach.first; len = closed_len 0 least (drop reach.first text) }
 
--- a form by the offset that it keeps
-abbrev pub drawn_form : Program → ℕ → DrawnForm
-drawn_form program at = record { at = at; piece = piece_of program.text.items (reach_at program at) }
+-- the form that a node comes from, as the first of its nodes
+abbrev pub drawn_form : Program → DrawnNode → DrawnForm
+drawn_form program node =
+    record { at = node.at; first = node.number; piece = piece_of program.text.items (reach_at program node.at) }
 
 -- whether the outermost form keeps the offset, or begins there
 abbrev pub is_outermost : Tree → ℕ → Bool
@@ -150,7 +151,7 @@ has_form forms at = list_any (λ form. form.at == at) forms
 -- the forms that nodes come from, each once, but for the outermost one
 abbrev pub one_more_form : Program → List DrawnForm → DrawnNode → List DrawnForm
 one_more_form program forms node =
-    if is_outermost (tree_of program.expr) node.at || has_form forms node.at then forms else forms ++ drawn_form program node.at ∷ []
+    if is_outermost (tree_of program.expr) node.at || has_form forms node.at then forms else forms ++ drawn_form program node ∷ []
 
 abbrev pub forms_of : Program → List DrawnNode → List DrawnForm
 forms_of program nodes = fold (one_more_form program) [] nodes

@@ -42,11 +42,15 @@ free_node program forms node = if has_form forms node.at then [] else node_line 
 abbrev pub node_of_form : List ℕ → ℕ → DrawnNode → List ℕ
 node_of_form program at node = if node.at == at then node_line program node else []
 
--- the beginning of a form's frame, with its title beside its first nodes, where no edge crosses it
+-- that a form's title stands beside the first of its nodes
+abbrev pub title_place : DrawnForm → List ℕ
+title_place form = codes "  {rank=same; f" ++ decimal form.at ++ codes "; n" ++ decimal form.first ++ codes "}\n"
+
+-- the beginning of a form's frame, with its title beside the first of its nodes, where no edge crosses it
 abbrev pub frame_head : List ℕ → DrawnForm → List ℕ
 frame_head program form =
     codes "  subgraph cluster_" ++ decimal form.at ++ codes " {\n  color=\"#cccccc\"; bgcolor=\"#f4f4f4\";\n  f" ++ decimal form.at
-    ++ codes " [shape=plaintext, style=\"\", width=0, margin=\"0.05,0\", label=\"" ++ form_title program form ++ codes "\"];\n"
+    ++ codes " [shape=plaintext, style=\"\", width=0, margin=\"0.05,0\", label=\"" ++ form_title program form ++ codes "\"];\n" ++ title_place form
 
 -- the nodes of a form, in a frame
 abbrev pub frame : List ℕ → List DrawnNode → DrawnForm → List ℕ
@@ -86,7 +90,7 @@ legend (edge ∷ edges) =
 abbrev pub head : List ℕ
 head =
     codes "digraph network {\n"
-    ++ codes "  nodesep=0.25; ranksep=0.3; fontname=\"Helvetica\"; fontsize=10; bgcolor=white;\n"
+    ++ codes "  newrank=true; nodesep=0.25; ranksep=0.3; fontname=\"Helvetica\"; fontsize=10; bgcolor=white;\n"
     ++ codes "  node [shape=box, style=\"rounded,filled\", fillcolor=white, height=0.25, margin=\"0.08,0.04\",\n"
     ++ codes "    fontname=\"Helvetica\", fontsize=10];\n"
     ++ codes "  edge [arrowsize=0.6, fontname=\"Helvetica\", fontsize=8];\n"

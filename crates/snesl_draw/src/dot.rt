@@ -2,7 +2,7 @@
 
 ghost use Rattle.std.specs.Prelude.{◌≡◌, ◌++◌, IfOk, OnOk, flat_map};
 ghost use Rattle.std.specs.List.{list_any};
-ghost use Rattle.snesl_draw.specs.Texts.{arrow, edge_line, frame, frame_head, free_node, legend, legend_cell, network_dot, node_line, node_of_form, traffic_part};
+ghost use Rattle.snesl_draw.specs.Texts.{arrow, edge_line, frame, frame_head, free_node, legend, legend_cell, network_dot, node_line, node_of_form, title_place, traffic_part};
 ghost use Rattle.snesl_draw.specs.Words.{is_kind};
 
 use crate::drawing::{Drawing, DrawnEdge, DrawnForm, DrawnNode};
@@ -16,7 +16,7 @@ use std::alloc::{AllocError, Global};
 
 // The settings of the picture.
 const HEAD: &str = "digraph network {
-  nodesep=0.25; ranksep=0.3; fontname=\"Helvetica\"; fontsize=10; bgcolor=white;
+  newrank=true; nodesep=0.25; ranksep=0.3; fontname=\"Helvetica\"; fontsize=10; bgcolor=white;
   node [shape=box, style=\"rounded,filled\", fillcolor=white, height=0.25, margin=\"0.08,0.04\",
     fontname=\"Helvetica\", fontsize=10];
   edge [arrowsize=0.6, fontname=\"Helvetica\", fontsize=8];
@@ -125,7 +125,7 @@ fn append_frame(
     append_text(text, "  }\n")
 }
 
-// Its beginning, with its title beside its first nodes, where no edge crosses it.
+// Its beginning, with its title beside the first of its nodes, where no edge crosses it.
 fn append_frame_head(
     text: &mut Vec<u8>,
     alloc: Global,
@@ -140,7 +140,19 @@ fn append_frame_head(
     append_number(text, form.at)?;
     append_text(text, TITLE)?;
     append_form_title(text, alloc, program, form)?;
-    append_text(text, "\"];\n")
+    append_text(text, "\"];\n")?;
+    append_place_of_title(text, form)
+}
+
+// That the title stands beside the first node.
+fn append_place_of_title(text: &mut Vec<u8>, form: DrawnForm) -> Result<(), AllocError>
+    ensures { OnOk result (text.new.items ≡ text.old.items ++ title_place form) }
+{
+    append_text(text, "  {rank=same; f")?;
+    append_number(text, form.at)?;
+    append_text(text, "; n")?;
+    append_number(text, form.first)?;
+    append_text(text, "}\n")
 }
 
 // The nodes of a form.

@@ -37,9 +37,11 @@ pub struct DrawnEdge {
     pub messages: Option<u64>,
 }
 
-/// A form that nodes come from: the offset that it keeps, and which piece of the program it is.
+/// A form that nodes come from: the offset that it keeps, the number of the first of its nodes, and which piece of the program it
+/// is.
 #[derive(Clone, Copy, Debug, PartialEq, Eq)]
 pub struct DrawnForm {
     pub at: usize,
+    pub first: usize,
     pub piece: Span,
 }

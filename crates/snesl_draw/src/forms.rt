@@ -38,7 +38,7 @@ fn add_form(
     if is_outermost(&program.expr, node.at) || has_form(forms, node.at) {
         return Ok(());
     }
-    forms.push(drawn_form(program, node.at))?;
+    forms.push(drawn_form(program, node))?;
     Ok(())
 }
 
@@ -56,14 +56,15 @@ pub(crate) fn has_form(forms: &[DrawnForm], at: usize) -> bool
     forms.iter().any(|form| form.at == at)
 }
 
-/// The form of a program that keeps an offset: its piece goes from its first word to its last, and on until no bracket of it is
-/// open. Where no form keeps the offset, it is that of the word there.
-pub fn drawn_form(program: &Program, at: usize) -> DrawnForm
-    ensures { result ≡ drawn_form program.now at }
+/// The form of a program that a node comes from, as the first of its nodes. The form's piece goes from its first word to its last,
+/// and on until no bracket of it is open. Where no form keeps the node's offset, it is that of the word there.
+pub fn drawn_form(program: &Program, node: DrawnNode) -> DrawnForm
+    ensures { result ≡ drawn_form program.now node }
 {
     DrawnForm {
-        at,
-        piece: piece_of(&program.text, reach_at(program, at)),
+        at: node.at,
+        first: node.number,
+        piece: piece_of(&program.text, reach_at(program, node.at)),
     }
 }
 

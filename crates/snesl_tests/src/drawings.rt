@@ -96,6 +96,7 @@ fn nodes_stand_in_the_frames_of_their_forms(rt: HostRuntime) -> Result<(), Fail>
     };
     let form = DrawnForm {
         at: 1,
+        first: 1,
         piece: Span { at: 0, len: 4 },
     };
     let drawing = Drawing {
@@ -108,6 +109,7 @@ fn nodes_stand_in_the_frames_of_their_forms(rt: HostRuntime) -> Result<(), Fail>
   subgraph cluster_1 {
   color="#cccccc"; bgcolor="#f4f4f4";
   f1 [shape=plaintext, style="", width=0, margin="0.05,0", label="1:1\l\"\\v \l"];
+  {rank=same; f1; n1}
   n1 [label="1 Fork"];
   n2 [label="2 Sink"];
   }
@@ -121,7 +123,9 @@ fn nodes_stand_in_the_frames_of_their_forms(rt: HostRuntime) -> Result<(), Fail>
 
 // The text of the form that keeps an offset.
 fn form_at(program: &Program, at: usize) -> &[u8] {
-    drawn_form(program, at).piece.spelled(&program.text)
+    drawn_form(program, node(0, "", at))
+        .piece
+        .spelled(&program.text)
 }
 
 #[test]
