@@ -3,7 +3,7 @@
 from .modules import explicit_parameters
 from .relations import header_of
 from .scope import NameMissing, Scope
-from .tokens import Token
+from .tokens import Token, binder_names
 
 OTHERS = {
     "true": "false", "false": "true", "+": "-", "-": "+", "*": "+", "&&": "||", "||": "&&", "+ℤ": "-ℤ", "-ℤ": "+ℤ", "*ℤ": "+ℤ",
@@ -74,6 +74,11 @@ def same_type_imports(scope, name):
     return [other for other in scope.module.imports if owner(other) is owner(name)]
 
 
+def are_bound_for_once(tokens, names):
+    """Whether a rule binds these names and has each in one place: then it is the same rule where they are exchanged."""
+    return all(list(tokens).count(name) == 2 for name in names) and binder_names(tokens, ("{",)).issuperset(names)
+
+
 def exchanged(tokens, at, parameters):
     """The tokens with two names that follow each other exchanged, where both are arguments; else None.
 
@@ -85,7 +90,7 @@ def exchanged(tokens, at, parameters):
     words = (before, first, second)
     if any(not (word[0].isalpha() or word[0].isdigit()) or word in ("if", "then", "else", "let", "in", "record", "λ") for word in words):
         return None
-    if first in parameters or second in parameters:
+    if first in parameters or second in parameters or are_bound_for_once(tokens, (first, second)):
         return None
     if first == second or first.endswith(".") or second.endswith("."):
         return None
