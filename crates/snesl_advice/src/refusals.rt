@@ -1,6 +1,8 @@
 // What is said of a refusal.
 
 ghost use Rattle.std.specs.Prelude.{IfOk};
+ghost use Rattle.snesl_grammar.specs.View.{program_of};
+ghost use Rattle.snesl_types.specs.Clashes.{ProgramClashes, clash_of};
 ghost use Rattle.snesl_advice.specs.Advice.{IsMismatchAdvice, IsShown, IsToldOfRefusal};
 ghost use Rattle.snesl_advice.specs.Told.{IsToldAt};
 
@@ -13,9 +15,10 @@ use crate::syntax::{shown_place, syntax_message};
 use crate::telling::tell;
 use snesl_culprits::culprit_of;
 use snesl_data::Refusal;
+use snesl_grammar::Program;
 use snesl_look::{refusal_message, refusal_sentence};
 use snesl_syntax::parse;
-use snesl_types::clash_at;
+use snesl_types::{Clash, clash_at};
 use std::alloc::{AllocError, Global};
 
 /// What a person is told of a refusal, and where.
@@ -41,34 +44,70 @@ pub fn advice_on(
         IsToldOfRefusal advice.shown program.now input.now advice.message.items) }
     ensures shown { IfOk result (IsShown refusal program.now) }
 {
-    let (message, shown) = match refusal {
-        Refusal::Lex(at) => (lexical_message(alloc, program, at)?, refusal),
-        Refusal::Syntax(at) => (
-            syntax_message(alloc, program, at)?,
-            Refusal::Syntax(shown_place(program, at)),
-        ),
-        Refusal::Name(at) => (name_advice(alloc, program, at)?, refusal),
-        Refusal::Mismatch(at) => return mismatch_advice(alloc, program, at),
-        Refusal::Streamed(at) => (streamed_message(alloc, program, at)?, refusal),
-        Refusal::BadInput(at) => (input_message(alloc, program, input, at)?, refusal),
-        _ => (refusal_message(alloc, refusal, program, input)?, refusal),
-    };
-    Ok(Advice { message, shown })
+    match refusal {
+        Refusal::Lex(at) => Ok(Advice {
+            message: lexical_message(alloc, program, at)?,
+            shown: refusal,
+        }),
+        Refusal::Syntax(at) => Ok(Advice {
+            message: syntax_message(alloc, program, at)?,
+            shown: Refusal::Syntax(shown_place(program, at)),
+        }),
+        Refusal::Name(at) => Ok(Advice {
+            message: name_advice(alloc, program, at)?,
+            shown: refusal,
+        }),
+        Refusal::Mismatch(at) => mismatch_advice(alloc, program, at),
+        Refusal::Streamed(at) => Ok(Advice {
+            message: streamed_message(alloc, program, at)?,
+            shown: refusal,
+        }),
+        Refusal::BadInput(at) => Ok(Advice {
+            message: input_message(alloc, program, input, at)?,
+            shown: refusal,
+        }),
+        _ => Ok(Advice {
+            message: refusal_message(alloc, refusal, program, input)?,
+            shown: refusal,
+        }),
+    }
 }
 
-// What is said of types that do not fit.
+// What is said of types that do not fit, by the tree of the program.
 fn mismatch_advice(alloc: Global, program: &[u8], at: usize) -> Result<Advice, AllocError>
     ensures { IfOk result (IsMismatchAdvice program.now at) }
 {
-    if let Ok(parsed) = parse(alloc, program)
-        && let Some(clash) = clash_at(alloc, &parsed, at)?
-    {
-        let place = culprit_of(&parsed, at, &clash).unwrap_or(at);
-        return Ok(Advice {
-            message: mismatch_message(alloc, program, at, &clash, place)?,
-            shown: Refusal::Mismatch(place),
-        });
+    match parse(alloc, program) {
+        Ok(parsed) => match clash_at(alloc, &parsed, at)? {
+            Some(clash) => clash_advice(alloc, &parsed, at, &clash),
+            None => plain_advice(alloc, program, at),
+        },
+        Err(_) => plain_advice(alloc, program, at),
     }
+}
+
+// What is said of types that clash: at the part that is at fault, if there is one.
+fn clash_advice(
+    alloc: Global,
+    program: &Program,
+    at: usize,
+    clash: &Clash,
+) -> Result<Advice, AllocError>
+    requires { ProgramClashes program.now.text.items (program_of program.now) at
+        (clash_of clash.now) }
+    ensures { IfOk result (IsMismatchAdvice program.now.text.items at) }
+{
+    let place = culprit_of(program, at, clash).unwrap_or(at);
+    Ok(Advice {
+        message: mismatch_message(alloc, &program.text, at, clash, place)?,
+        shown: Refusal::Mismatch(place),
+    })
+}
+
+// What is said where it was not found which types they are.
+fn plain_advice(alloc: Global, program: &[u8], at: usize) -> Result<Advice, AllocError>
+    ensures { IfOk result (IsMismatchAdvice program.now at) }
+{
     let shown = Refusal::Mismatch(at);
     Ok(Advice {
         message: refusal_message(alloc, shown, program, &[])?,
