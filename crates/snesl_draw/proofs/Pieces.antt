@@ -1,7 +1,9 @@
 -- Texts that are made piece by piece.
-use Rattle.std.proofs.Common.{◌≡◌, ◌∙◌, ℕ, ◌+◌, ◌<◌, List, [], ◌∷◌, ◌++◌, ap, append-nil, append_assoc, flat_map, arith, drop, get_or, length, min, ◌-◌, refl, sym, take}
-use Rattle.snesl_look.proofs.Offsets.{rest_is}
-use Rattle.std.proofs.lemmas.List.{drop_all, take_min, take_more}
+use Rattle.std.proofs.Common.{◌≡◌, ◌∙◌, ℕ, ◌+◌, ◌-◌, ◌<◌, ◌≤◌, List, [], ◌∷◌, ◌++◌, Bool, true, false, ap, append-nil, append_assoc, flat_map, drop, get_or, if◌then◌else◌, length, refl, sym, take}
+use Rattle.std.proofs.lemmas.List.{at_drop_all, at_drop_more, take_more}
+use Rattle.snesl_data.specs.Blanks.{is_blank}
+use Rattle.snesl_draw.specs.Forms.{closed_len, is_closed, open_after}
+use Rattle.snesl_draw.specs.Lines.{in_one_line, one_blank}
 
 module _ {X : Type 0} (h : X → List ℕ) where
   flat_map-push : (xs : List X) (x : X) → flat_map h (xs ++ x ∷ []) ≡ flat_map h xs ++ h x
@@ -18,13 +20,28 @@ module _ {X : Type 0} (h : X → List ℕ) where
       made ∙ ap (λ t. t ++ h (get_or xs i d)) before ∙ append_assoc old (flat_map h (take i xs)) (h (get_or xs i d))
       ∙ ap (λ t. old ++ t) (sym (flat_map_more xs i d within))
 
--- after an offset that counts as the end stands what stands after the end
-drop_min : (n : ℕ) (xs : List ℕ) → drop (min n (length xs)) xs ≡ drop n xs
-drop_min n xs = grind (arith, drop_all)
+-- the next byte of a text whose brackets are open, or which is too short
+pub closed_next : (text : List ℕ) (i depth left : ℕ) → i < length text → is_closed depth left ≡ false
+    → closed_len depth left (drop i text) ≡ 1 + closed_len (open_after depth (get_or text i 0)) (left - 1) (drop (i + 1) text)
+closed_next text i depth left l e =
+    at_drop_more (closed_len depth left) text i 0 l
+    ∙ ap (λ (t : Bool). if t then 0 else 1 + closed_len (open_after depth (get_or text i 0)) (left - 1) (drop (i + 1) text)) e
 
--- a beginning of the part of a line that begins at an offset
-pub part_is : (line : List ℕ) (from start shown : ℕ) → start ≡ min from (length line)
-    → shown ≡ min 40 (length (take (length line - start) (drop start line)))
-    → take shown (take (length line - start) (drop start line)) ≡ take 40 (drop from line)
-part_is line from start shown begins ends =
-    rw (ends, take_min 40 (take (length line - start) (drop start line)), rest_is line start, begins, drop_min from line) refl
+closed_before : (text : List ℕ) (depth left : ℕ) → is_closed depth left ≡ true → closed_len depth left text ≡ 0
+closed_before [] depth left e = refl
+closed_before (b ∷ text) depth left e = ap (λ (t : Bool). if t then 0 else 1 + closed_len (open_after depth b) (left - 1) text) e
+
+-- one whose brackets are closed, and which is long enough
+pub closed_here : (text : List ℕ) (i depth left : ℕ) → is_closed depth left ≡ true → closed_len depth left (drop i text) ≡ 0
+closed_here text i depth left e = closed_before (drop i text) depth left e
+
+-- the next byte of a text in one line
+pub in_line_next : (text line : List ℕ) (i : ℕ) (after : Bool) → i < length text
+    → line ++ in_one_line after (drop i text)
+    ≡ (line ++ one_blank after (get_or text i 0)) ++ in_one_line (is_blank (get_or text i 0)) (drop (i + 1) text)
+in_line_next text line i after l =
+    ap (λ t. line ++ t) (at_drop_more (in_one_line after) text i 0 l)
+    ∙ sym (append_assoc line (one_blank after (get_or text i 0)) (in_one_line (is_blank (get_or text i 0)) (drop (i + 1) text)))
+
+pub in_line_end : (text line : List ℕ) (i : ℕ) (after : Bool) → length text ≤ i → line ++ in_one_line after (drop i text) ≡ line
+in_line_end text line i after l = ap (λ t. line ++ t) (at_drop_all (in_one_line after) text i l) ∙ append-nil line

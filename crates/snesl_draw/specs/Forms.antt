@@ -130,11 +130,14 @@ closed_len depth least [] = 0
 closed_len depth least (byte ∷ bytes) =
     if is_closed depth least then 0 else 1 + closed_len (open_after depth byte) (least - 1) bytes
 
+-- where the word at an offset ends
+abbrev pub word_end : List ℕ → ℕ → ℕ
+word_end text at = at + prefix_len is_word (drop at text)
+
 -- from the first word to the end of the last, and on until no bracket of it is open
 abbrev pub piece_of : List ℕ → Reach → Span
 piece_of text reach =
-    let least = reach.last + prefix_len is_word (drop reach.last text) - reach.first in
-    record { at = reach.first; len = closed_len 0 least (drop reach.first text) }
+    record { at = reach.first; len = closed_len 0 (word_end text reach.last - reach.first) (drop reach.first text) }
 
 -- the form that a node comes from, as the first of its nodes
 abbrev pub drawn_form : Program → DrawnNode → DrawnForm

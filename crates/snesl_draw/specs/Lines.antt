@@ -1,5 +1,5 @@
 -- The parts of a drawing.
-use Rattle.std.specs.Prelude.{ℕ, ◌+◌, ◌/◌, ◌++◌, List, [], ◌∷◌, Bool, true, false, nat_lt, if◌then◌else◌, Option, Some, None, codes, decimal, length, min, take}
+use Rattle.std.specs.Prelude.{ℕ, ◌+◌, ◌/◌, ◌++◌, List, [], ◌∷◌, Bool, true, false, ◌==◌, nat_lt, if◌then◌else◌, Option, Some, None, codes, decimal, length, min, take}
 use Rattle.snesl_data.specs.Blanks.{is_blank}
 use Rattle.snesl_look.specs.Places.{column_of, line_of}
 use Rattle.snesl_tree.specs.Spelling.{spelling}
@@ -24,7 +24,7 @@ in_one_line after (byte ∷ bytes) = one_blank after byte ++ in_one_line (is_bla
 
 -- a text, or its first 40 bytes and `…`
 abbrev pub cut : List ℕ → List ℕ
-cut text = quoted (take 40 text) ++ (if nat_lt 40 (length text) then 226 ∷ 128 ∷ 166 ∷ [] else [])
+cut text = if nat_lt 40 (length text) then quoted (take 40 text) ++ 226 ∷ 128 ∷ 166 ∷ [] else quoted text
 
 -- what a form is called: where it begins, and its text, each in a line that begins at the left
 abbrev pub form_title : List ℕ → DrawnForm → List ℕ
@@ -33,8 +33,7 @@ form_title program form =
 
 -- ` rows: lengths`: the name of an input, and which of its streams
 abbrev pub part_of_input : List ℕ → List ℕ
-part_of_input [] = []
-part_of_input part = codes ": " ++ part
+part_of_input part = if length part == 0 then [] else codes ": " ++ part
 
 abbrev pub input_part : List ℕ → Option InputStream → List ℕ
 input_part program None = []

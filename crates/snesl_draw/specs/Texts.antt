@@ -1,5 +1,5 @@
 -- A network as a text, and as a picture in DOT.
-use Rattle.std.specs.Prelude.{ℕ, ◌++◌, ◌==◌, List, [], ◌∷◌, Bool, true, false, Option, Some, None, codes, decimal, flat_map, if◌then◌else◌}
+use Rattle.std.specs.Prelude.{ℕ, ◌++◌, ◌==◌, List, [], ◌∷◌, Bool, true, false, Option, Some, None, codes, decimal, flat_map, length, if◌then◌else◌}
 use Rattle.std.specs.List.{list_any}
 use Rattle.flow_messages.specs.declared.message.Kind.{Kind}
 use Rattle.flow_messages.specs.declared.message.Kind.TheVariants as kind
@@ -79,11 +79,9 @@ legend_cell edges k =
 
 -- the colours of the kinds that edges are of, in a corner
 abbrev pub legend : List DrawnEdge → List ℕ
-legend [] = []
-legend (edge ∷ edges) =
-    codes "  label=<<table border=\"1\" cellborder=\"0\" color=\"#cccccc\"><tr>"
-    ++ legend_cell (edge ∷ edges) kind.Unit ++ legend_cell (edge ∷ edges) kind.Bool
-    ++ legend_cell (edge ∷ edges) kind.Int ++ legend_cell (edge ∷ edges) kind.Vec
+legend edges =
+    if length edges == 0 then [] else codes "  label=<<table border=\"1\" cellborder=\"0\" color=\"#cccccc\"><tr>"
+    ++ legend_cell edges kind.Unit ++ legend_cell edges kind.Bool ++ legend_cell edges kind.Int ++ legend_cell edges kind.Vec
     ++ codes "</tr></table>>; labelloc=b; labeljust=r;\n"
 
 -- the settings of the picture

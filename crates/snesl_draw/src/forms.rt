@@ -1,8 +1,8 @@
 // Which piece of a program a form is.
 
-ghost use Rattle.std.specs.Prelude.{◌≡◌, ◌<◌, IfOk, OnOk};
+ghost use Rattle.std.specs.Prelude.{◌≡◌, ◌<◌, IfOk, OnOk, drop};
 ghost use Rattle.snesl_tree.specs.View.{tree_of};
-ghost use Rattle.snesl_draw.specs.Forms.{closed_len, closes, drawn_form, forms_of, has_form, is_closed, is_outermost, one_more_form, open_after, opens, piece_of};
+ghost use Rattle.snesl_draw.specs.Forms.{closed_len, closes, drawn_form, forms_of, has_form, is_closed, is_outermost, one_more_form, open_after, opens, piece_of, word_end};
 
 use crate::drawing::{DrawnForm, DrawnNode};
 use crate::reach::{Reach, reach_at};
@@ -72,12 +72,25 @@ pub fn drawn_form(program: &Program, node: DrawnNode) -> DrawnForm
 fn piece_of(text: &[u8], reach: Reach) -> Span
     ensures { result ≡ piece_of text.now reach }
 {
-    let last = word_len(&text[reach.last.min(text.len())..]);
-    let least = reach.last.saturating_add(last).saturating_sub(reach.first);
+    let least = word_end(text, reach.last).saturating_sub(reach.first);
     Span {
         at: reach.first,
-        len: closed_len(&text[reach.first.min(text.len())..], least),
+        len: closed_len(from(text, reach.first), least),
     }
+}
+
+// Where the word at an offset ends.
+fn word_end(text: &[u8], at: usize) -> usize
+    ensures { result ≡ word_end text.now at }
+{
+    at + word_len(from(text, at))
+}
+
+// What stands from an offset on.
+fn from(text: &[u8], at: usize) -> &[u8]
+    ensures { result.now ≡ drop at text.now }
+{
+    &text[at.min(text.len())..]
 }
 
 // The length of the shortest beginning of a text that has so many bytes and leaves no bracket open.

@@ -1,6 +1,7 @@
 // The parts of a drawing.
 
 ghost use Rattle.std.specs.Prelude.{◌≡◌, ◌++◌, IfOk, OnOk, decimal, false};
+ghost use Rattle.snesl_draw.specs.Quoting.{quoted};
 ghost use Rattle.snesl_draw.specs.Lines.{cut, edge_label, form_title, in_one_line, input_part, line_and_column, node_title, one_blank, part_of_input, width_of};
 
 use crate::drawing::{DrawnEdge, DrawnForm, DrawnNode, InputStream};
@@ -88,12 +89,18 @@ fn append_one_blank(line: &mut Vec<u8>, after_blank: bool, byte: u8) -> Result<(
 fn append_cut(text: &mut Vec<u8>, alloc: Global, line: &[u8]) -> Result<(), AllocError>
     ensures { OnOk result (text.new.items ≡ text.old.items ++ cut line.now) }
 {
-    let shown = quoted(alloc, &line[..MOST_SHOWN.min(line.len())])?;
-    text.extend_from_slice(&shown)?;
     if MOST_SHOWN < line.len() {
-        text.extend_from_slice(&MORE)?;
+        append_quoted(text, alloc, &line[..MOST_SHOWN])?;
+        return text.extend_from_slice(&MORE);
     }
-    Ok(())
+    append_quoted(text, alloc, line)
+}
+
+fn append_quoted(text: &mut Vec<u8>, alloc: Global, more: &[u8]) -> Result<(), AllocError>
+    ensures { OnOk result (text.new.items ≡ text.old.items ++ quoted more.now) }
+{
+    let made = quoted(alloc, more)?;
+    text.extend_from_slice(&made)
 }
 
 // The number of a node, and what it is called.
@@ -122,9 +129,8 @@ fn append_input(
 {
     match input {
         Some(input) => {
-            let name = quoted(alloc, input.name.spelled(program))?;
             append_text(text, " ")?;
-            text.extend_from_slice(&name)?;
+            append_quoted(text, alloc, input.name.spelled(program))?;
             append_part(text, input.part)
         }
         None => Ok(()),
