@@ -20,11 +20,14 @@ abbrev pub written_by : ℕ → DrawnEdge → List ℕ
 written_by number edge =
     if edge.edge.writer == number then codes " -> " ++ decimal edge.edge.reader ++ codes " " ++ edge_label edge else []
 
+-- a node's title and its place
+abbrev pub node_head : List ℕ → DrawnNode → List ℕ
+node_head program node = node_title program node ++ codes " " ++ line_and_column program node.at
+
 -- a node's line: its title, its place, the edges that it reads, and those that it writes
 abbrev pub node_text : List ℕ → List DrawnEdge → DrawnNode → List ℕ
 node_text program edges node =
-    node_title program node ++ codes " " ++ line_and_column program node.at ++ flat_map (read_by node.number) edges
-    ++ flat_map (written_by node.number) edges ++ codes "\n"
+    node_head program node ++ flat_map (read_by node.number) edges ++ flat_map (written_by node.number) edges ++ codes "\n"
 
 -- a line for each node
 abbrev pub network_text : List ℕ → List DrawnNode → List DrawnEdge → List ℕ
@@ -43,14 +46,23 @@ abbrev pub node_of_form : List ℕ → ℕ → DrawnNode → List ℕ
 node_of_form program at node = if node.at == at then node_line program node else []
 
 -- that a form's title stands beside the first of its nodes
+abbrev pub beside_first : DrawnForm → List ℕ
+beside_first form = codes "; n" ++ decimal form.first ++ codes "}\n"
+
 abbrev pub title_place : DrawnForm → List ℕ
-title_place form = codes "  {rank=same; f" ++ decimal form.at ++ codes "; n" ++ decimal form.first ++ codes "}\n"
+title_place form = codes "  {rank=same; f" ++ decimal form.at ++ beside_first form
+
+-- its title, which is a node to DOT
+abbrev pub title_line : List ℕ → DrawnForm → List ℕ
+title_line program form =
+    codes "  f" ++ decimal form.at ++ codes " [shape=plaintext, style=\"\", width=0, margin=\"0.05,0\", label=\""
+    ++ form_title program form ++ codes "\"];\n"
 
 -- the beginning of a form's frame, with its title beside the first of its nodes, where no edge crosses it
 abbrev pub frame_head : List ℕ → DrawnForm → List ℕ
 frame_head program form =
-    codes "  subgraph cluster_" ++ decimal form.at ++ codes " {\n  color=\"#cccccc\"; bgcolor=\"#f4f4f4\";\n  f" ++ decimal form.at
-    ++ codes " [shape=plaintext, style=\"\", width=0, margin=\"0.05,0\", label=\"" ++ form_title program form ++ codes "\"];\n" ++ title_place form
+    codes "  subgraph cluster_" ++ decimal form.at ++ codes " {\n  color=\"#cccccc\"; bgcolor=\"#f4f4f4\";\n"
+    ++ title_line program form ++ title_place form
 
 -- the nodes of a form, in a frame
 abbrev pub frame : List ℕ → List DrawnNode → DrawnForm → List ℕ
@@ -71,18 +83,23 @@ abbrev pub edge_line : DrawnEdge → List ℕ
 edge_line edge =
     arrow edge ++ codes " [color=\"" ++ kind_colour edge.kind ++ codes "\"" ++ traffic_part (kind_colour edge.kind) edge.messages ++ codes "];\n"
 
--- what a kind is called, in its colour, where some edge is of that kind
-abbrev pub legend_cell : List DrawnEdge → Kind → List ℕ
-legend_cell edges k =
-    if list_any (λ edge. is_kind k edge.kind) edges
-    then codes "<td><font color=\"" ++ kind_colour k ++ codes "\">" ++ kind_word k ++ codes "</font></td>" else []
+-- what a kind is called, in its colour
+abbrev pub kind_cell : Kind → List ℕ
+kind_cell k = codes "<td><font color=\"" ++ kind_colour k ++ codes "\">" ++ kind_word k ++ codes "</font></td>"
 
--- the colours of the kinds that edges are of, in a corner
+-- where some edge is of that kind
+abbrev pub legend_cell : List DrawnEdge → Kind → List ℕ
+legend_cell edges k = if list_any (λ edge. is_kind k edge.kind) edges then kind_cell k else []
+
+abbrev pub legend_cells : List DrawnEdge → List ℕ
+legend_cells edges =
+    legend_cell edges kind.Unit ++ legend_cell edges kind.Bool ++ legend_cell edges kind.Int ++ legend_cell edges kind.Vec
+
+-- the colours of the kinds that edges are of, in a corner, if there are edges
 abbrev pub legend : List DrawnEdge → List ℕ
 legend edges =
     if length edges == 0 then [] else codes "  label=<<table border=\"1\" cellborder=\"0\" color=\"#cccccc\"><tr>"
-    ++ legend_cell edges kind.Unit ++ legend_cell edges kind.Bool ++ legend_cell edges kind.Int ++ legend_cell edges kind.Vec
-    ++ codes "</tr></table>>; labelloc=b; labeljust=r;\n"
+    ++ legend_cells edges ++ codes "</tr></table>>; labelloc=b; labeljust=r;\n"
 
 -- the settings of the picture
 abbrev pub head : List ℕ

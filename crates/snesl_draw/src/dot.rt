@@ -2,7 +2,7 @@
 
 ghost use Rattle.std.specs.Prelude.{◌≡◌, ◌++◌, IfOk, OnOk, flat_map};
 ghost use Rattle.std.specs.List.{list_any};
-ghost use Rattle.snesl_draw.specs.Texts.{arrow, edge_line, frame, frame_head, free_node, legend, legend_cell, network_dot, node_line, node_of_form, title_place, traffic_part};
+ghost use Rattle.snesl_draw.specs.Texts.{arrow, beside_first, edge_line, frame, frame_head, free_node, kind_cell, legend, legend_cell, legend_cells, network_dot, node_line, node_of_form, title_line, title_place, traffic_part};
 ghost use Rattle.snesl_draw.specs.Words.{is_kind};
 
 use crate::drawing::{Drawing, DrawnEdge, DrawnForm, DrawnNode};
@@ -23,9 +23,12 @@ const HEAD: &str = "digraph network {
 ";
 
 // Those of a frame, and of its title.
-const FRAME: &str = " {\n  color=\"#cccccc\"; bgcolor=\"#f4f4f4\";\n  f";
+const FRAME: &str = " {\n  color=\"#cccccc\"; bgcolor=\"#f4f4f4\";\n";
 
 const TITLE: &str = " [shape=plaintext, style=\"\", width=0, margin=\"0.05,0\", label=\"";
+
+// The beginning of the legend.
+const LEGEND: &str = "  label=<<table border=\"1\" cellborder=\"0\" color=\"#cccccc\"><tr>";
 
 /// The network of a program as a picture in DOT. It has a box for each node: in a frame for each of the forms, or free. It has
 /// an arrow for each edge, in the colour of the kind of its items, with how many messages went over it, where that is known, and
@@ -137,19 +140,38 @@ fn append_frame_head(
     append_text(text, "  subgraph cluster_")?;
     append_number(text, form.at)?;
     append_text(text, FRAME)?;
+    append_title_line(text, alloc, program, form)?;
+    append_title_place(text, form)
+}
+
+// Its title, which is a node to DOT.
+fn append_title_line(
+    text: &mut Vec<u8>,
+    alloc: Global,
+    program: &[u8],
+    form: DrawnForm,
+) -> Result<(), AllocError>
+    ensures { OnOk result (text.new.items ≡ text.old.items ++ title_line program.now form) }
+{
+    append_text(text, "  f")?;
     append_number(text, form.at)?;
     append_text(text, TITLE)?;
     append_form_title(text, alloc, program, form)?;
-    append_text(text, "\"];\n")?;
-    append_place_of_title(text, form)
+    append_text(text, "\"];\n")
 }
 
 // That the title stands beside the first node.
-fn append_place_of_title(text: &mut Vec<u8>, form: DrawnForm) -> Result<(), AllocError>
+fn append_title_place(text: &mut Vec<u8>, form: DrawnForm) -> Result<(), AllocError>
     ensures { OnOk result (text.new.items ≡ text.old.items ++ title_place form) }
 {
     append_text(text, "  {rank=same; f")?;
     append_number(text, form.at)?;
+    append_beside_first(text, form)
+}
+
+fn append_beside_first(text: &mut Vec<u8>, form: DrawnForm) -> Result<(), AllocError>
+    ensures { OnOk result (text.new.items ≡ text.old.items ++ beside_first form) }
+{
     append_text(text, "; n")?;
     append_number(text, form.first)?;
     append_text(text, "}\n")
@@ -243,24 +265,34 @@ fn append_legend(text: &mut Vec<u8>, edges: &[DrawnEdge]) -> Result<(), AllocErr
     if edges.is_empty() {
         return Ok(());
     }
-    append_text(
-        text,
-        "  label=<<table border=\"1\" cellborder=\"0\" color=\"#cccccc\"><tr>",
-    )?;
-    append_legend_cell(text, edges, Kind::Unit)?;
-    append_legend_cell(text, edges, Kind::Bool)?;
-    append_legend_cell(text, edges, Kind::Int)?;
-    append_legend_cell(text, edges, Kind::Vec)?;
+    append_text(text, LEGEND)?;
+    append_legend_cells(text, edges)?;
     append_text(text, "</tr></table>>; labelloc=b; labeljust=r;\n")
 }
 
-// What a kind is called, in its colour, if some edge is of that kind.
+fn append_legend_cells(text: &mut Vec<u8>, edges: &[DrawnEdge]) -> Result<(), AllocError>
+    ensures { OnOk result (text.new.items ≡ text.old.items ++ legend_cells edges.now) }
+{
+    append_legend_cell(text, edges, Kind::Unit)?;
+    append_legend_cell(text, edges, Kind::Bool)?;
+    append_legend_cell(text, edges, Kind::Int)?;
+    append_legend_cell(text, edges, Kind::Vec)
+}
+
+// That of a kind, if some edge is of it.
 fn append_legend_cell(text: &mut Vec<u8>, edges: &[DrawnEdge], kind: Kind) -> Result<(), AllocError>
     ensures { OnOk result (text.new.items ≡ text.old.items ++ legend_cell edges.now kind) }
 {
-    if !has_kind(edges, kind) {
-        return Ok(());
+    if has_kind(edges, kind) {
+        return append_kind_cell(text, kind);
     }
+    Ok(())
+}
+
+// What a kind is called, in its colour.
+fn append_kind_cell(text: &mut Vec<u8>, kind: Kind) -> Result<(), AllocError>
+    ensures { OnOk result (text.new.items ≡ text.old.items ++ kind_cell kind) }
+{
     append_text(text, "<td><font color=\"")?;
     append_text(text, kind_colour(kind))?;
     append_text(text, "\">")?;

@@ -90,7 +90,8 @@ fn append_cut(text: &mut Vec<u8>, alloc: Global, line: &[u8]) -> Result<(), Allo
     ensures { OnOk result (text.new.items ≡ text.old.items ++ cut line.now) }
 {
     if MOST_SHOWN < line.len() {
-        append_quoted(text, alloc, &line[..MOST_SHOWN])?;
+        let shown = &line[..MOST_SHOWN];
+        append_quoted(text, alloc, shown)?;
         return text.extend_from_slice(&MORE);
     }
     append_quoted(text, alloc, line)

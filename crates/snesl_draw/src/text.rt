@@ -1,7 +1,7 @@
 // A network as a text.
 
 ghost use Rattle.std.specs.Prelude.{◌≡◌, ◌++◌, IfOk, OnOk, flat_map};
-ghost use Rattle.snesl_draw.specs.Texts.{network_text, node_text, read_by, written_by};
+ghost use Rattle.snesl_draw.specs.Texts.{network_text, node_head, node_text, read_by, written_by};
 
 use crate::drawing::{Drawing, DrawnEdge, DrawnNode};
 use crate::lines::{append_carried, append_number, append_place, append_text, append_title};
@@ -31,12 +31,24 @@ fn append_node(
 ) -> Result<(), AllocError>
     ensures { OnOk result (text.new.items ≡ text.old.items ++ node_text program.now edges.now node) }
 {
-    append_title(text, alloc, program, node)?;
-    append_text(text, " ")?;
-    append_place(text, program, node.at)?;
+    append_head(text, alloc, program, node)?;
     append_reads(text, edges, node.number)?;
     append_writes(text, edges, node.number)?;
     append_text(text, "\n")
+}
+
+// Its title and its place.
+fn append_head(
+    text: &mut Vec<u8>,
+    alloc: Global,
+    program: &[u8],
+    node: DrawnNode,
+) -> Result<(), AllocError>
+    ensures { OnOk result (text.new.items ≡ text.old.items ++ node_head program.now node) }
+{
+    append_title(text, alloc, program, node)?;
+    append_text(text, " ")?;
+    append_place(text, program, node.at)
 }
 
 // The edges that a node reads.
