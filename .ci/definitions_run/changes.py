@@ -14,6 +14,7 @@ from .edits import changes_of
 from .gate import rows_to_try, unknown_forms
 from .headline import whole_headline
 from .pool import in_processes
+from .taken import sides_of, taken_fields
 from .trials import Trial
 
 REASONS = os.path.join(os.path.dirname(os.path.abspath(__file__)), "..", "definitions_alike")
@@ -92,11 +93,12 @@ def verdict_apart(program, change, rows):
 
 
 def changes_reached(program, reached):
-    """The changes of equations of the headline that some row reaches."""
+    """The changes of equations of the headline that some row reaches, but for those of fields that are not taken."""
     places = set().union(*(one.places for one in reached))
+    fields = taken_fields(sides_of(program, places)) | {None}
     closure = whole_headline(program.modules, os.path.abspath(CRATES))
     return [change for one in closure.found.values()
-            for change in changes_of(program, one) if (one.key, change.at) in places]
+            for change in changes_of(program, one) if (one.key, change.at) in places and change.field in fields]
 
 
 def reasons():

@@ -1,8 +1,11 @@
 """Changes of one definition: of a number, a truth value, a text, an operator, a constructor, an argument's place, or a whole answer."""
 
+from collections import Counter
+
 from .modules import explicit_parameters
 from .relations import header_of
 from .scope import NameMissing, Scope
+from .taken import fields_of
 from .tokens import Token, binder_names
 
 OTHERS = {
@@ -13,13 +16,14 @@ OTHERS = {
 
 
 class Change:
-    """An equation of a definition, and what stands in its place."""
+    """An equation of a definition, and what stands in its place; the field of the record that is changed, where there is one."""
 
-    def __init__(self, definition, at, what, equation):
+    def __init__(self, definition, at, what, equation, field=None):
         self.definition = definition
         self.at = at
         self.what = what
         self.equation = equation
+        self.field = field
 
     @property
     def name(self):
@@ -103,23 +107,30 @@ def changes_of(program, definition):
     if definition.kind in ("data", "record"):
         for number, (name, tokens) in enumerate(definition.parts.items()):
             at = number if definition.kind == "data" else 0
-            for what, changed in changed_sides(scope, tokens, explicit_parameters(header_of(definition))):
+            for what, changed, _ in changed_sides(scope, tokens, explicit_parameters(header_of(definition))):
                 yield Change(definition, at, f"in `{name}` {what}", (name, changed))
         return
     equations = program.equations(definition)
     for number, equation in enumerate(equations):
-        for what, right in changed_sides(scope, equation.right):
-            yield Change(definition, number, what, equation.with_right(right))
+        fields = fields_of(equation.right)
+        for what, right, place in changed_sides(scope, equation.right):
+            yield Change(definition, number, what, equation.with_right(right), fields[place])
         if number + 1 < len(equations) and equations[number + 1].right != equation.right:
             yield Change(definition, number, "the answer of the next case", equation.with_right(equations[number + 1].right))
 
 
 def changed_sides(scope, right, parameters=()):
-    """The changed right sides of an equation, each with what was changed."""
+    """The changed right sides of an equation, each with what was changed, which is told from others of its name, and where."""
+    names = Counter()
     for at, token in enumerate(right):
-        word = changed_word(token) or siblings(scope, token)
-        if word is not None and word != token:
-            yield f"`{token}` is `{word}`", with_token(right, at, word)
-        other = exchanged(right, at, parameters)
-        if other is not None:
-            yield f"`{token}` and `{right[at + 1]}` exchanged", other
+        word, other = changed_word(token) or siblings(scope, token), exchanged(right, at, parameters)
+        sides = [] if word in (None, token) or is_level(right, at) else [(f"`{token}` is `{word}`", with_token(right, at, word))]
+        sides += [] if other is None else [(f"`{token}` and `{right[at + 1]}` exchanged", other)]
+        for name, changed in sides:
+            names[name] += 1
+            yield name + (f" ({names[name]})" if names[name] > 1 else ""), changed, at
+
+
+def is_level(tokens, at):
+    """Whether a number alone in braces stands there: the level of a type."""
+    return 0 < at < len(tokens) - 1 and tokens[at - 1] == "{" and tokens[at + 1] == "}"
