@@ -25,6 +25,8 @@ ROWS_EACH = 60
 WARMING = 15
 # Tables whose rows are much like one another: some of them are tried last.
 LIKE_OTHERS = ("brackets", "bytes", "second_dialect")
+# Tables whose rows are each about another limit: all of them are tried, at last.
+LIMITS = ("limits", "depth")
 FEW_BYTES, MOST_BYTES = 300, 2500
 TOLD, STOPPED, LIVES = 10, 11, 12
 
@@ -73,6 +75,7 @@ def verdict(program, change, rows):
         with_change(program, change)
         trial = Trial(program)
         for row in rows:
+            resource.setrlimit(resource.RLIMIT_CPU, (int(time.process_time()) + MOST_SECONDS, resource.RLIM_INFINITY))
             if trial.differs(row) is not None:
                 return TOLD
         return LIVES
@@ -81,10 +84,9 @@ def verdict(program, change, rows):
 
 
 def verdict_apart(program, change, rows):
-    """The same in a process of its own, which ends after some seconds."""
+    """The same in a process of its own, which ends where a row takes many seconds."""
     child = os.fork()
     if child == 0:
-        resource.setrlimit(resource.RLIMIT_CPU, (MOST_SECONDS, MOST_SECONDS))
         resource.setrlimit(resource.RLIMIT_AS, (6 << 30, 6 << 30))
         os._exit(verdict(program, change, rows))
     _, status = os.waitpid(child, 0)
@@ -127,11 +129,12 @@ class Rows:
                 self.trial.differs(row)
 
     def for_change(self, change, seed):
-        """The rows to try of a change: cheap ones that reach it, some of the others that do, and some of those that are like others."""
+        """The rows to try of a change: cheap ones that reach it, some of the others that do, some longer ones, and those about limits."""
         place, chance = (change.definition.key, change.at), random.Random(seed)
         near = [self.short[one.number] for one in self.reached if place in one.places]
         further = chance.sample(near, min(len(near), ROWS_EACH // 2))
-        return near[:ROWS_EACH // 2] + further + chance.sample(self.others, min(len(self.others), ROWS_EACH))
+        others = chance.sample(self.others, min(len(self.others), ROWS_EACH))
+        return near[:ROWS_EACH // 2] + further + others + [row for row in self.others if row.place.startswith(LIMITS)]
 
 
 def run(seed, most, seconds, processes):
