@@ -129,11 +129,13 @@ class Rows:
                 self.trial.differs(row)
 
     def for_change(self, change, seed):
-        """The rows to try of a change: cheap ones that reach it, some of the others that do, some longer ones, and those about limits."""
+        """The rows to try of a change: cheap ones that reach it, some of the others that do, some longer ones, those that have the
+        text that is changed, and those about limits."""
         place, chance = (change.definition.key, change.at), random.Random(seed)
         near = [self.short[one.number] for one in self.reached if place in one.places]
         further = chance.sample(near, min(len(near), ROWS_EACH // 2))
         others = chance.sample(self.others, min(len(self.others), ROWS_EACH))
+        others += [row for row in self.short + self.others if change.text and change.text in row.job][:ROWS_EACH]
         return near[:ROWS_EACH // 2] + further + others + [row for row in self.others if row.place.startswith(LIMITS)]
 
 

@@ -24,12 +24,18 @@ class Change:
         self.what = what
         self.equation = equation
         self.field = field
+        self.text = text_in(what)
 
     @property
     def name(self):
         """The definition, its case from 1, and what is changed."""
         module = self.definition.module.name.removeprefix("Rattle.").replace(".specs.", "/")
         return f"{module} {self.definition.name} {self.at + 1}: {self.what}"
+
+
+def text_in(what):
+    """The bytes of the text that is changed, or None."""
+    return what.split('"')[1].encode() if what.startswith('`"') else None
 
 
 def with_token(tokens, at, word):

@@ -17,15 +17,15 @@ UNREAD = os.path.join(HERE, "definitions_unread")
 TABLES = (os.path.join(CRATES, "tool_runs", "data"), os.path.join(HERE, "definitions_rows"))
 LONGEST = 20_000
 DEAR = 4
-# How the jobs begin that are passed over for the time that they take: 68 sequences in each other, and a type of 128 parts.
-PASSED_OVER = ("let p=\\[58:{\\]7", "input x : {(((((((int,int),(int,int))", "input x : [(((((((int,int),(int,int))")
+# What is answered of a text that is too long as a whole, which is not read.
+TOO_LONG = (b"refused 1", b"refused 8 at 16777216")
 
 
 def rows_to_try():
-    """The rows of all tables, and those that are passed over: those over 20,000 bytes are about the limits of a text."""
+    """The rows of all tables, and those that are passed over for the time that they take: those over 20,000 bytes that are read."""
     tried, passed_over = [], []
     for row in all_rows(TABLES):
-        is_dear = row.lines[0].startswith(PASSED_OVER) or len(row.job) > LONGEST
+        is_dear = len(row.job) > LONGEST and row.line_of("prints") not in TOO_LONG
         (passed_over if is_dear else tried).append(row)
     return tried, passed_over
 

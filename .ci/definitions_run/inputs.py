@@ -27,6 +27,9 @@ class InputReader:
         self.found = []
         self.end = 0
         self.token = None
+        limit = self.call("snesl_values.specs.Inputs", "greatest_input_length")
+        if len(self.text) > limit:
+            raise refusal("BadInput", limit)
         self.advance(0)
 
     def call(self, module, name, *given):
@@ -116,9 +119,6 @@ class InputReader:
 
     def environment(self, declarations):
         """The values of the declared inputs, by name."""
-        limit = self.call("snesl_values.specs.Inputs", "greatest_input_length")
-        if len(self.text) > limit:
-            raise refusal("BadInput", limit)
         entries = []
         for name, ty in declarations:
             if entries:
