@@ -97,10 +97,10 @@ def verdict_apart(program, change, rows):
 def changes_reached(program, reached):
     """The changes of equations of the headline that some row reaches, but for those of fields that are not taken."""
     places = set().union(*(one.places for one in reached))
-    fields = taken_fields(sides_of(program, places)) | {None}
+    fields = taken_fields(sides_of(program, places))
     closure = whole_headline(program.modules, os.path.abspath(CRATES))
     return [change for one in closure.found.values()
-            for change in changes_of(program, one) if (one.key, change.at) in places and change.field in fields]
+            for change in changes_of(program, one) if (one.key, change.at) in places and change.fields <= fields]
 
 
 def reasons():
@@ -136,7 +136,7 @@ class Rows:
         further = chance.sample(near, min(len(near), ROWS_EACH // 2))
         others = chance.sample(self.others, min(len(self.others), ROWS_EACH))
         others += [row for row in self.short + self.others if change.text and change.text in row.job][:ROWS_EACH]
-        return near[:ROWS_EACH // 2] + further + others + [row for row in self.others if row.place.startswith(LIMITS)]
+        return near[:ROWS_EACH // 2] + further + others + [row for row in self.short + self.others if row.place.startswith(LIMITS)]
 
 
 def run(seed, most, seconds, processes):

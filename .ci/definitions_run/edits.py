@@ -16,14 +16,14 @@ OTHERS = {
 
 
 class Change:
-    """An equation of a definition, and what stands in its place; the field of the record that is changed, where there is one."""
+    """An equation of a definition, and what stands in its place; the fields of records in which it is changed."""
 
-    def __init__(self, definition, at, what, equation, field=None):
+    def __init__(self, definition, at, what, equation, fields=frozenset()):
         self.definition = definition
         self.at = at
         self.what = what
         self.equation = equation
-        self.field = field
+        self.fields = fields
         self.text = text_in(what)
 
     @property

@@ -8,13 +8,16 @@ DRIVEN = {
 
 
 def fields_of(tokens):
-    """For each token the field of the record in which it stands, where the tokens are a record; else None."""
-    found, depth, field = [], 0, None
+    """For each token the fields of the records in which it stands, where the tokens are a record."""
+    found, opened = [], []
     for at, token in enumerate(tokens):
-        depth += {"{": 1, "(": 1, "}": -1, ")": -1}.get(token, 0)
-        if depth == 1 and tokens[0] == "record" and at + 1 < len(tokens) and tokens[at + 1] == "=":
-            field = str(token)
-        found.append(field if depth else None)
+        if token in ("{", "("):
+            opened.append(None)
+        elif token in ("}", ")"):
+            opened.pop()
+        elif opened and tokens[0] == "record" and tokens[at + 1] == "=":
+            opened[-1] = str(token)
+        found.append({field for field in opened if field})
     return found
 
 
@@ -25,8 +28,8 @@ def taken_fields(sides):
     while taken != known:
         known = set(taken)
         for side in sides:
-            for field, token in side:
-                if field is None or field in known:
+            for fields, token in side:
+                if fields <= known:
                     taken.update(str(token).split(".")[1:])
     return taken
 
