@@ -25,3 +25,13 @@ closed_before (b ∷ text) depth left e = ap (λ (t : Bool). if t then 0 else 1 
 
 pub closed_here : (text : List ℕ) (i depth left : ℕ) → is_closed depth left ≡ true → closed_len depth left (drop i text) ≡ 0
 closed_here text i depth left e = closed_before (drop i text) depth left e
+
+-- texts one after another
+pub three : (o a b c : List ℕ) → ((o ++ a) ++ b) ++ c ≡ o ++ ((a ++ b) ++ c)
+three o a b c = simp append_assoc
+
+pub four : (o a b c d : List ℕ) → (((o ++ a) ++ b) ++ c) ++ d ≡ o ++ (((a ++ b) ++ c) ++ d)
+four o a b c d = simp append_assoc
+
+pub five : (o a b c d e : List ℕ) → ((((o ++ a) ++ b) ++ c) ++ d) ++ e ≡ o ++ ((((a ++ b) ++ c) ++ d) ++ e)
+five o a b c d e = simp append_assoc

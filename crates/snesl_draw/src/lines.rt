@@ -1,6 +1,6 @@
 // The parts of a drawing.
 
-ghost use Rattle.std.specs.Prelude.{◌≡◌, ◌++◌, IfOk, OnOk, decimal, false};
+ghost use Rattle.std.specs.Prelude.{◌≡◌, ◌++◌, IfOk, OnOk, decimal, false, take};
 ghost use Rattle.snesl_draw.specs.Quoting.{quoted};
 ghost use Rattle.snesl_draw.specs.Lines.{cut, edge_label, form_title, in_one_line, input_part, line_and_column, node_title, one_blank, part_of_input, width_of};
 
@@ -90,11 +90,18 @@ fn append_cut(text: &mut Vec<u8>, alloc: Global, line: &[u8]) -> Result<(), Allo
     ensures { OnOk result (text.new.items ≡ text.old.items ++ cut line.now) }
 {
     if MOST_SHOWN < line.len() {
-        let shown = &line[..MOST_SHOWN];
-        append_quoted(text, alloc, shown)?;
+        append_quoted(text, alloc, beginning(line))?;
         return text.extend_from_slice(&MORE);
     }
     append_quoted(text, alloc, line)
+}
+
+// As much of a text as is shown.
+fn beginning(line: &[u8]) -> &[u8]
+    ensures { result.now ≡ take 40 line.now }
+{
+    let most = MOST_SHOWN.min(line.len());
+    &line[..most]
 }
 
 fn append_quoted(text: &mut Vec<u8>, alloc: Global, more: &[u8]) -> Result<(), AllocError>
