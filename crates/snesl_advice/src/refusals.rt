@@ -82,6 +82,7 @@ fn mismatch_advice(alloc: Global, program: &[u8], at: usize) -> Result<Advice, A
             Some(clash) => clash_advice(alloc, &parsed, at, &clash),
             None => plain_advice(alloc, program, at),
         },
+        Err(Refusal::NoMemory) => Err(AllocError),
         Err(_) => plain_advice(alloc, program, at),
     }
 }
@@ -115,12 +116,13 @@ fn plain_advice(alloc: Global, program: &[u8], at: usize) -> Result<Advice, Allo
     })
 }
 
-// What is said of a name. Where memory was refused to the program's tree, it is the sentence alone.
+// What is said of a name; of one in what is no program it is the sentence alone.
 fn name_advice(alloc: Global, program: &[u8], at: usize) -> Result<Vec<u8>, AllocError>
     ensures { IfOk result (λ message. IsToldAt program.now at message.items) }
 {
     match parse(alloc, program) {
         Ok(parsed) => name_message(alloc, &parsed, at),
+        Err(Refusal::NoMemory) => Err(AllocError),
         Err(_) => {
             let sentence = refusal_sentence(Refusal::Name(at));
             tell(alloc, program, at, sentence.as_bytes(), &[], b"")
