@@ -1,5 +1,5 @@
-use Rattle.std.proofs.Common.{List, ◌∷◌, None, Some, sym, ap, ◌∙◌}
-use Rattle.snesl_data.specs.Values.{Value, a_vec, value_of, values_of}
+use Rattle.std.proofs.Common.{List, ◌∷◌, None, sym, ap, ◌∙◌}
+use Rattle.snesl_data.specs.Values.{Value, value_of}
 use Rattle.snesl_data.specs.Builders.{built_in}
 use Rattle.snesl_values.specs.declared.builder.Pending.TheVariants.{Vector}
 use Rattle.snesl_values.specs.declared.marks.Bracket.TheVariants.{Square}

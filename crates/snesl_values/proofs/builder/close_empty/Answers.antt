@@ -7,8 +7,8 @@ use Rattle.snesl_values.specs.Pendings.{frames_of}
 use Rattle.snesl_values.proofs.Pendings.{popped, empties}
 use Rattle.snesl_values.proofs.builder.close_empty.Goals as goal
 
-pub returns-in_ok-vector-in-Some-Vector : goal.returns-in_ok-vector-in-Some-Vector
-returns-in_ok-vector-in-Some-Vector c =
+pub returns-in-Some-Vector : goal.returns-in-Some-Vector
+returns-in-Some-Vector c =
     ap (λ (v : Value). let r : Reading = (frames_of c.pop.new.self.items, Some v) in r) c.in_ok-vector-in-Some-Vector.ensures
     ∙ ap close_none (popped c.args.pending.now.items c.pop.new.self.items c.in-Some-Vector.field-0 (Vector c.in-Some-Vector.elements) c.in-Some-Vector.ensures.items c.in-Some-Vector.field-0-is)
 
