@@ -1,6 +1,7 @@
 -- What is due where a vector is written element by element.
 use Rattle.std.proofs.Common.{◌≡◌, ℕ, zero, suc, ◌+◌, ◌<◌, ◌≤◌, Bool, true, cond, List, [], ◌∷◌, ◌++◌, length, drop, get_or, nat_lt, Option, Some, None, refl, sym, ap, ◌∙◌, subst, append_assoc, arith}
 use Rattle.std.specs.List.{slice_get}
+use Rattle.std.specs.Option.{IsSome}
 use Rattle.std.proofs.lemmas.Option.{slice_get-get_or}
 use Rattle.snesl_data.specs.declared.datum.Elements.{Elements}
 use Rattle.snesl_data.specs.Types.{Ty, seq}
@@ -10,6 +11,7 @@ use Rattle.flow_base.specs.declared.worker.Ask.{Ask}
 use Rattle.flow_base.specs.declared.worker.Ask.TheVariants.{Give}
 use Rattle.flow_base.specs.Flags.{F, T}
 use Rattle.flow_base.specs.Machines.{ask_of, written_cell, state_after_write}
+use Rattle.flow_base.specs.Workers.{IsWriting}
 use Rattle.flow_base.specs.Segments.{concatenation_by}
 use Rattle.flow_values.specs.Flats.{width}
 use Rattle.flow_values.specs.Dues.{DueCell, due, element_dues, dues_of, segment_dues}
@@ -51,6 +53,15 @@ pub asks_flag : (item : Ty) (ds : List Value) → ask_of (seq_move item (segment
 asks_flag item [] = ap Give (first_output (nat_lt 0 (width (seq item))))
 asks_flag item (d ∷ ds) = ap Give (first_output (nat_lt 0 (width (seq item))))
 
+-- where something is written and nothing is due of an element, a vector is held
+pub holds_vector : (item : Ty) (old : List DueCell) (held : Option Elements) (begun : ℕ) → old ≡ [] → IsWriting (ask_of (seq_move item (old ++ left_dues item held begun))) → IsSome held
+holds_vector item old (Some e) begun none writes = refl
+holds_vector item old None begun none writes = absurd (subst (λ l. IsWriting (ask_of (seq_move item (l ++ left_dues item None begun)))) none writes)
+
+-- a state with its parameter
+abbrev pub paired : Ty → List DueCell → Ty × List DueCell
+paired item ds = (item, ds)
+
 -- nothing is due of the element that was begun last, and a vector is held
 module _ (item : Ty) (old : List DueCell) (held : Option Elements) (e : Elements) (place : ℕ) (none : old ≡ []) (is : held ≡ Some e) where
   abbrev state : List DueCell
@@ -60,11 +71,11 @@ module _ (item : Ty) (old : List DueCell) (held : Option Elements) (e : Elements
   left = sym (ap (λ l. l ++ left_dues item held place) none ∙ ap (λ h. left_dues item h place) is)
 
   -- the last flag, after which nothing is due
-  pub last_flag : length (entries e) ≤ place → (T ≡ written_cell (seq_move item state)) × ((item, old ++ left_dues item None place) ≡ (item, state_after_write state (seq_move item state)))
+  pub last_flag : length (entries e) ≤ place → (T ≡ written_cell (seq_move item state)) × (paired item (old ++ left_dues item None place) ≡ paired item (state_after_write state (seq_move item state)))
   last_flag past =
       let all : due 0 T ∷ [] ≡ state = sym (ap (segment_dues item 0) (none_left (entries e) place past)) ∙ left in (
         ap (λ ds. written_cell (seq_move item ds)) all,
-        ap (λ ds. (item, ds ++ left_dues item None place)) none ∙ ap (λ ds. (item, state_after_write ds (seq_move item ds))) all,
+        ap (λ ds. paired item (ds ++ left_dues item None place)) none ∙ ap (λ ds. paired item (state_after_write ds (seq_move item ds))) all,
       )
 
   laid : (d : Value) → Some d ≡ slice_get (entries e) place → due 0 F ∷ (dues_of item 1 d ++ left_dues item (Some e) (place + 1)) ≡ state
@@ -72,13 +83,13 @@ module _ (item : Ty) (old : List DueCell) (held : Option Elements) (e : Elements
 
   -- the flag before an element, which is due after it
   pub flag_before : (d : Value) (new : List DueCell) → Some d ≡ slice_get (entries e) place → new ≡ old ++ dues_of item 1 d
-      → (F ≡ written_cell (seq_move item state)) × ((item, new ++ left_dues item held (place + 1)) ≡ (item, state_after_write state (seq_move item state)))
+      → (F ≡ written_cell (seq_move item state)) × (paired item (new ++ left_dues item held (place + 1)) ≡ paired item (state_after_write state (seq_move item state)))
   flag_before d new at added =
       let all = laid d at in (
         ap (λ ds. written_cell (seq_move item ds)) all,
-        ap (λ ds. (item, ds ++ left_dues item held (place + 1))) (added ∙ ap (λ l. l ++ dues_of item 1 d) none)
-            ∙ ap (λ h. (item, dues_of item 1 d ++ left_dues item h (place + 1))) is
-            ∙ ap (λ ds. (item, state_after_write ds (seq_move item ds))) all,
+        ap (λ ds. paired item (ds ++ left_dues item held (place + 1))) (added ∙ ap (λ l. l ++ dues_of item 1 d) none)
+            ∙ ap (λ h. paired item (dues_of item 1 d ++ left_dues item h (place + 1))) is
+            ∙ ap (λ ds. paired item (state_after_write ds (seq_move item ds))) all,
       )
 
   -- memory may be refused before an element

@@ -159,9 +159,12 @@ impl Worker for Seq {
 
     #[inline(always)]
     fn give(&mut self) -> Result<Item, AllocError> {
+        if self.dues.is_empty() {
+            return self.flag();
+        }
         match self.dues.pop_front() {
             Some(due) => Ok(due.item),
-            None => self.flag(),
+            None => unreachable!(),
         }
     }
 }
