@@ -1,5 +1,5 @@
 -- What is due where a vector is written element by element.
-use Rattle.std.proofs.Common.{◌≡◌, ℕ, zero, suc, ◌+◌, ◌<◌, ◌≤◌, Bool, true, cond, List, [], ◌∷◌, ◌++◌, length, drop, get_or, nat_lt, Option, Some, None, refl, sym, ap, ◌∙◌, subst, append_assoc, arith}
+use Rattle.std.proofs.Common.{◌≡◌, ℕ, zero, suc, ◌+◌, ◌<◌, ◌≤◌, Bool, true, cond, List, [], ◌∷◌, ◌++◌, length, drop, map, get_or, nat_lt, Option, Some, None, Result, Ok, Err, OnOk, is_ok, refl, sym, ap, ◌∙◌, subst, append_assoc, arith}
 use Rattle.std.specs.List.{slice_get}
 use Rattle.std.specs.Option.{IsSome}
 use Rattle.std.proofs.lemmas.Option.{slice_get-get_or}
@@ -14,7 +14,8 @@ use Rattle.flow_base.specs.Machines.{ask_of, written_cell, state_after_write}
 use Rattle.flow_base.specs.Workers.{IsWriting}
 use Rattle.flow_base.specs.Segments.{concatenation_by}
 use Rattle.flow_values.specs.Flats.{width}
-use Rattle.flow_values.specs.Dues.{DueCell, due, element_dues, dues_of, segment_dues}
+use Rattle.flow_values.specs.declared.dues.Due.{Due}
+use Rattle.flow_values.specs.Dues.{DueCell, due, due_cell, element_dues, dues_of, segment_dues}
 use Rattle.flow_values.specs.SeqMachine.{seq_move, seq_takes_memory, left_dues}
 
 -- where there is an element at a place, it is the first of those from there on
@@ -44,7 +45,7 @@ segment-first : (item : Ty) (d : Value) (ds : List Value) → segment_dues item 
 segment-first item d ds = ap (λ l. due 0 F ∷ l) (append_assoc (dues_of item 1 d) (concatenation_by (element_dues 0 (λ e. dues_of item 1 e)) ds) (due 0 T ∷ []))
 
 -- the first output, however many there are
-first_output : (b : Bool) → cond b 0 0 ≡ 0
+first_output : (b : Bool) → ◌≡◌ {A = ℕ} (cond b 0 0) 0
 first_output true = refl
 first_output _ = refl
 
@@ -52,6 +53,17 @@ first_output _ = refl
 pub asks_flag : (item : Ty) (ds : List Value) → ask_of (seq_move item (segment_dues item 0 ds)) ≡ Give 0
 asks_flag item [] = ap Give (first_output (nat_lt 0 (width (seq item))))
 asks_flag item (d ∷ ds) = ap Give (first_output (nat_lt 0 (width (seq item))))
+
+-- the same where a vector is held
+pub asks_for_flag : (item : Ty) (dues : List Due) (size : ℕ) (held : Option Elements) (e : Elements) (begun : ℕ) → size ≡ length dues → (0 < size → ⊥) → held ≡ Some e
+    → Give 0 ≡ ask_of (seq_move item (map due_cell dues ++ left_dues item held begun))
+asks_for_flag item [] size held e begun sized none is = sym (ap (λ h. ask_of (seq_move item (left_dues item h begun))) is ∙ asks_flag item (drop begun (entries e)))
+asks_for_flag item (d ∷ dues) size held e begun sized none is = absurd (none (omega arith))
+
+-- what a call ensures that ends well
+pub on_ok : {E P : Type 0} (r : Result (Unit {0}) E) → is_ok r ≡ true → OnOk r P → P
+on_ok (Ok u) well holds = holds
+on_ok (Err e) well holds = absurd (cc)
 
 -- where something is written and nothing is due of an element, a vector is held
 pub holds_vector : (item : Ty) (old : List DueCell) (held : Option Elements) (begun : ℕ) → old ≡ [] → IsWriting (ask_of (seq_move item (old ++ left_dues item held begun))) → IsSome held

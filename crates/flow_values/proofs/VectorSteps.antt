@@ -1,8 +1,5 @@
 -- What an item leads to, whether it is a vector of such elements or not.
-use Rattle.std.proofs.Common.{◌≡◌, ℕ, ◌≤ℤ◌, ℤ, pos, negsuc, List, [], ◌∷◌, ◌++◌, Ok, Err, Option, Some, None, true, false, refl, sym, ap, ◌∙◌, subst, cond, length, drop, arith}
-use Rattle.std.proofs.Math.IntN.{nat_abs}
-use Rattle.std.proofs.lemmas.Int.{ints}
-use Rattle.std.proofs.lemmas.Option.{slice_get_past}
+use Rattle.std.proofs.Common.{◌≡◌, ℕ, ℤ, [], ◌∷◌, ◌++◌, List, Ok, Err, Option, Some, None, true, false, refl, sym, ap, ◌∙◌, subst, cond, drop}
 use Rattle.snesl_data.specs.declared.datum.Elements.{Elements}
 use Rattle.snesl_data.specs.declared.fault.FaultKind.TheVariants.{Shape}
 use Rattle.snesl_data.specs.Types.{Ty, seq}
@@ -40,8 +37,8 @@ index_refuses item [] (int n) none = refl
 index_refuses item (d ∷ ds) x none = refl
 
 -- a vector of such elements is taken where one may begin
-pub seq_takes : (item : Ty) (old : List DueCell) (held : Option Elements) (begun : ℕ) (all : Elements) (x : Cell) → IsReading (ask_of (seq_move item (old ++ left_dues item held begun))) → x ≡ datum (a_vec (elements_of all)) → all_are item (elements_of all) ≡ true →
-    Takes (with_parameters item (state_after_read (seq_move item (old ++ left_dues item held begun)) x)) (item, old ++ left_dues item held begun) (Ok (tt {0})) (item, old ++ left_dues item (Some all) 0)
+pub seq_takes : (item : Ty) (old : List DueCell) (kept : Option Elements) (begun : ℕ) (all : Elements) (x : Cell) → IsReading (ask_of (seq_move item (old ++ left_dues item kept begun))) → x ≡ datum (a_vec (elements_of all)) → all_are item (elements_of all) ≡ true →
+    Takes (with_parameters item (state_after_read (seq_move item (old ++ left_dues item kept begun)) x)) (item, old ++ left_dues item kept begun) (Ok (tt {0})) (item, old ++ left_dues item (Some all) 0)
 seq_takes item [] None begun all x reading is e =
     let vs = elements_of all in
     let leads : with_parameters item (state_after_read (seq_move item []) x) ≡ Ok (item, segment_dues item 0 (list_of vs)) =
@@ -49,7 +46,7 @@ seq_takes item [] None begun all x reading is e =
     ∙ ap (λ b. with_parameters item (cond b (Ok (dues_of (seq item) 0 (a_vec vs))) (Err Shape))) e in
     subst (λ r. Takes r (item, []) (Ok (tt {0})) (item, segment_dues item 0 (list_of vs))) (sym leads) refl
 seq_takes item [] (Some other) begun all x reading is e = absurd (subst IsReading (asks_flag item (drop begun (entries other))) reading)
-seq_takes item (d ∷ ds) held begun all x reading is e = absurd reading
+seq_takes item (d ∷ ds) kept begun all x reading is e = absurd reading
 
 pub index_takes : (item : Ty) (dues : List DueCell) (x : Cell) (vs : Values) → IsReading (ask_of (index_move item (writing dues))) → x ≡ datum (a_vec vs) → all_are item vs ≡ true →
     with_parameters item (state_after_read (index_move item (writing dues)) x) ≡ Ok (item, held vs)
@@ -63,13 +60,3 @@ same_vector item us vs e not = let same : us ≡ vs = cc in ap (all_are item) (s
 -- an element that was found in a vector that is held is of the type
 pub held_element : (item : Ty) (vs : Values) (z : ℤ) (e : Value) → Some e ≡ element_at vs z → all_are item vs ≡ true → is_a item e ≡ true
 held_element item vs z e found are = element_is item vs z e (sym found) are
-
--- an index that is not negative and below the length is that of an element
-pub within_vector : (vs : Values) (z : ℤ) (n : ℕ) → pos 0 ≤ℤ z → n ≡ nat_abs z → z ≡ pos n
-within_vector vs (pos m) n from is = ap pos (sym is)
-within_vector vs (negsuc m) n from is = absurd (omega (arith, ints))
-
--- nothing is found elsewhere
-pub not_found : (vs : Values) (z : ℤ) → (pos 0 ≤ℤ z → pos (length (list_of vs)) ≤ℤ z) → None ≡ element_at vs z
-not_found vs (pos n) past = sym (slice_get_past (list_of vs) n (omega (arith, ints, past (omega (arith, ints)))))
-not_found vs (negsuc n) past = refl
