@@ -1,5 +1,4 @@
 pub mod Building
-pub mod Layings
 pub mod Members
 pub mod Printing
 pub mod Segments

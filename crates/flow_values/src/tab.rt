@@ -3,7 +3,6 @@
 ghost use Rattle.std.specs.Prelude.{◌≡◌, [], map, List, IfOk, false};
 ghost use Rattle.snesl_data.specs.Types.{Ty as ElementType, ty_of, seq};
 ghost use Rattle.snesl_data.specs.Values.{Value, value_of, a_pair};
-ghost use Rattle.snesl_data.specs.Builders.{built_in};
 ghost use Rattle.flow_messages.specs.Cells.{cell_of};
 ghost use Rattle.flow_base.specs.Workers.{Takes};
 ghost use Rattle.flow_values.specs.Shapes.{kinds_of};
@@ -11,10 +10,10 @@ ghost use Rattle.flow_values.specs.Parts.{built, PartsFit};
 ghost use Rattle.flow_base.specs.Machines.{state_after_item, with_parameters};
 ghost use Rattle.flow_values.specs.TabMachine.{TabState, start, tab_state, staged, flag_taking, grown, item_given, item_port, MakesDatum};
 
-use crate::shapes::{add_kinds, are_elements, kind_at, part_fits};
+use crate::shapes::{add_kinds, is_value, kind_at, part_fits};
 use flow_base::{Ask, Stop, Worker};
 use flow_messages::{Flat, Item, Kind};
-use snesl_data::{Builder, Datum, FaultKind, Ty};
+use snesl_data::{Datum, FaultKind, Ty};
 use std::alloc::{AllocError, Global};
 use std::collections::VecDeque;
 use std::mem;
@@ -35,7 +34,7 @@ pub struct Tab {
     // Of the inputs.
     kinds: Vec<Kind>,
     // The elements of the sequence so far, and the items of the next one.
-    elements: Builder,
+    elements: Vec<Datum>,
     items: Vec<Item>,
     stage: Stage,
     ghost kinds_are: { kinds.items ≡ kinds_of (seq (ty_of element)) },
@@ -67,7 +66,7 @@ impl Tab {
             alloc,
             element,
             kinds,
-            elements: Builder::Empty,
+            elements: Vec::new(alloc),
             items: Vec::new(alloc),
             stage: Stage::Start,
         })
@@ -106,7 +105,7 @@ impl Tab {
     fn close(&mut self) -> Result<(), Stop>
         requires { self.old.stage ≡ Stage.Item }
         ensures state { Takes (with_parameters (ty_of self.old.element)
-            (grown (ty_of self.old.element) (built_in self.old.elements)
+            (grown (ty_of self.old.element) (map value_of self.old.elements.items)
             (map cell_of self.old.items.items))) (⟦<Tab as Worker>⟧.state self.old) result
             (⟦<Tab as Worker>⟧.state self.new) }
         ensures items { self.new.items.items ≡ self.old.items.items }
@@ -119,7 +118,7 @@ impl Tab {
         if !items.is_empty() {
             return Err(Stop::Faulted(FaultKind::Shape));
         }
-        if self.elements.push(self.alloc, datum).is_err() {
+        if self.elements.push(datum).is_err() {
             return Err(Stop::OutOfMemory);
         }
         self.stage = Stage::Flag;
@@ -130,7 +129,7 @@ impl Tab {
     fn take_item(&mut self, item: Item) -> Result<(), Stop>
         requires { self.old.stage ≡ Stage.Item }
         ensures { Takes (with_parameters (ty_of self.old.element)
-            (item_given (ty_of self.old.element) (built_in self.old.elements)
+            (item_given (ty_of self.old.element) (map value_of self.old.elements.items)
             (map cell_of self.old.items.items) (cell_of item)))
             (⟦<Tab as Worker>⟧.state self.old) result (⟦<Tab as Worker>⟧.state self.new) }
     {
@@ -156,7 +155,7 @@ fn copies(alloc: Global, items: &[Item]) -> Result<VecDeque<Item>, AllocError>
 {
     let mut all = VecDeque::new(alloc);
     for item in items {
-        all.push_back(item.copy()?)?;
+        all.push_back(item.copy(alloc)?)?;
     }
     Ok(all)
 }
@@ -180,10 +179,10 @@ fn build(alloc: Global, ty: &Ty, items: &mut VecDeque<Item>) -> Result<Datum, St
             Some(Item::Bool(truth)) => Ok(Datum::Bool(truth)),
             _ => Err(Stop::Faulted(FaultKind::Shape)),
         },
-        Ty::Vec(element) => match items.pop_front() {
-            Some(Item::Vec(all)) => {
-                if are_elements(element, &all) {
-                    Ok(Datum::Vec(all))
+        Ty::Vec(_) => match items.pop_front() {
+            Some(Item::Vec(datum)) => {
+                if is_value(ty, &datum) {
+                    Ok(Box::into_inner(datum))
                 } else {
                     Err(Stop::Faulted(FaultKind::Shape))
                 }
@@ -209,7 +208,7 @@ impl Worker for Tab {
 
     ghost state = { λ n. (
       ty_of n.element,
-      tab_state n.stage (built_in n.elements) (map cell_of n.items.items),
+      tab_state n.stage (map value_of n.elements.items) (map cell_of n.items.items),
     ) };
 
     ghost machine = { tab_machine };
@@ -258,7 +257,7 @@ impl Worker for Tab {
         match self.stage {
             Stage::Start => {
                 let stage = self.at_flag(&item)?;
-                self.elements = Builder::Empty;
+                self.elements = Vec::new(self.alloc);
                 self.items = Vec::new(self.alloc);
                 self.stage = stage;
                 Ok(())
@@ -278,17 +277,12 @@ impl Worker for Tab {
     fn give(&mut self) -> Result<Item, AllocError> {
         match self.stage {
             Stage::End => {
-                let elements = mem::replace(&mut self.elements, Builder::Empty);
-                match elements.finish(self.alloc) {
-                    Ok(all) => {
-                        self.stage = Stage::Start;
-                        Ok(Item::of_elements(all))
-                    }
-                    Err(same) => {
-                        self.elements = same;
-                        Err(AllocError)
-                    }
-                }
+                // The box is asked for first, so that nothing has changed where it is refused.
+                let mut vector = Box::new(self.alloc, Datum::Vec(Vec::new(self.alloc)))?;
+                let elements = mem::replace(&mut self.elements, Vec::new(self.alloc));
+                *vector = Datum::Vec(elements);
+                self.stage = Stage::Start;
+                Ok(Item::Vec(vector))
             }
             _ => unreachable!(),
         }

@@ -1,5 +1,3 @@
 pub mod Data
-pub mod Places
 pub mod SameTypes
-pub mod Sends
 pub mod Texts

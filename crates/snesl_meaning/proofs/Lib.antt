@@ -1,2 +1,3 @@
+pub mod InRange
 pub mod Meanings
 pub mod SomeMeaning

@@ -51,6 +51,4 @@ mod threads;
 #[cfg(test)]
 mod types;
 #[cfg(test)]
-mod vectors;
-#[cfg(test)]
 mod writing;
