@@ -157,7 +157,7 @@ impl Network {
             self.attach(sink, stream)?;
             return Ok(());
         }
-        let fork = fork_of(self.alloc, at, kind, outputs);
+        let fork = fork_of(at, kind, outputs);
         let node = self.attach(fork, stream)?;
         self.supply[stream] = Port { node, port: 0 };
         Ok(())

@@ -35,8 +35,8 @@ pub fn node_of(
     ensures { IfOk result (λ node. Opens at (operation_of dialect operation.now) (state_of node)) }
 {
     match operation {
-        Operation::Control => Ok(StreamNode::Source(Source::new(alloc, Stream::Units(1)))),
-        Operation::Input(kind) => Ok(StreamNode::Source(Source::new(alloc, empty(alloc, *kind)))),
+        Operation::Control => Ok(StreamNode::Source(Source::new(Stream::Units(1)))),
+        Operation::Input(kind) => Ok(StreamNode::Source(Source::new(empty(alloc, *kind)))),
         Operation::Const(scalar) => Ok(StreamNode::Const(Node::new(Const::new(*scalar), at))),
         Operation::Unary(operator) => {
             Ok(StreamNode::Unary(Node::new(Unary::new(dialect, *operator), at)))
@@ -51,7 +51,7 @@ pub fn node_of(
             Ok(StreamNode::Reduce(Node::new(Reduce::new(dialect, *reduction), at)))
         }
         Operation::Length => Ok(StreamNode::Length(Node::new(Length::new(dialect), at))),
-        Operation::Dist(kind) => Ok(StreamNode::Dist(Node::new(Dist::new(alloc, *kind), at))),
+        Operation::Dist(kind) => Ok(StreamNode::Dist(Node::new(Dist::new(*kind), at))),
         Operation::Pack(kind) => Ok(StreamNode::Pack(Node::new(Pack::new(*kind), at))),
         Operation::Interleave(kind) => {
             Ok(StreamNode::Interleave(Node::new(Interleave::new(*kind), at)))
@@ -97,11 +97,11 @@ pub fn sink_of(at: usize, kind: Kind) -> StreamNode
 }
 
 /// A stream to several readers, in its opening state.
-pub fn fork_of(alloc: Global, at: usize, kind: Kind, outputs: usize) -> StreamNode
+pub fn fork_of(at: usize, kind: Kind, outputs: usize) -> StreamNode
     requires { 2 ≤ outputs }
     ensures { Opens at (fork kind outputs) (state_of result) }
 {
-    StreamNode::Fork(Node::new(Fork::new(alloc, kind, outputs), at))
+    StreamNode::Fork(Node::new(Fork::new(kind, outputs), at))
 }
 
 // A stream of no items of this kind.

@@ -23,7 +23,7 @@ use Rattle.flow_inputs.specs.declared.turns.Mode.TheVariants.{Value as ValueNext
 use Rattle.flow_inputs.specs.declared.turns.Piece.TheVariants.{Flag, Int, VectorAt}
 use Rattle.flow_inputs.specs.Turns.{Turn, turn, state, writes_nothing, at_leaf, at_value, turn_after_value, passed, made}
 use Rattle.snesl_values.specs.Marks.{mark_of}
-use Rattle.flow_inputs.specs.Left.{left, cell}
+use Rattle.flow_inputs.specs.Left.{left, elements_in, cell}
 use Rattle.flow_inputs.specs.Ways.{items_on_edge, LeadsToEdge, to_int, to_bool, to_vector, to_flags, by_elements, by_first, by_second, Ahead, TellsValues}
 use Rattle.snesl_values.proofs.Spots.{unread}
 use Rattle.snesl_values.proofs.Readings.{reads-split, ends_inside}
@@ -117,7 +117,7 @@ vector_law dialect a vector {text = text} tells way level ahead vs typed {from =
     let all = reads-split (items_tokens vs) _ opening.rest in
     let closing = turned (ends_inside (items_tokens vs) opening.inside all.1) all.2 in
     then_wrote vector way Vectors (state level ValueNext) (VectorAt from) level (Within 0) opening (ap (λ o. at_value o Vectors level (Open Square) from) ahead)
-    ∙ ap (λ v. datum v ∷ cells vector text way Vectors opening.at (state level (Within 0))) (tells dialect (vec a) from end (a_vec vs) typed inside r)
+    ∙ ap (λ v. datum (a_vec (elements_in v)) ∷ cells vector text way Vectors opening.at (state level (Within 0))) (tells dialect (vec a) from end (a_vec vs) typed inside r)
     ∙ ap (λ l. datum (a_vec vs) ∷ l) (over_items vector way Vectors level Within (within_passes way Vectors level) vs 0 (λ place. refl) opening.inside all.1
     ∙ then_moved vector way Vectors (state level (Within 0)) level Behind closing refl
     ∙ ap (λ at. cells vector text way Vectors at (state level Behind)) (unread closing.rest))

@@ -26,7 +26,7 @@ use crate::ways::add_way;
 use flow_base::{Port, Side, Transducer, put_in_space};
 use flow_messages::{Ends, Item, Msg};
 use kahn::Want;
-use snesl_data::Ty;
+use snesl_data::{Datum, Elements, Ty};
 use snesl_values::datum_at;
 use std::alloc::{AllocError, Global};
 use std::sync::Arc;
@@ -255,7 +255,7 @@ impl TextSource {
     }
 }
 
-// The item that a piece is, in memory of its own. Only a vector takes memory.
+// The item that a piece is, in memory of its own. Only a vector takes memory. It is empty where the text spells none.
 fn item_of(alloc: Global, text: &[u8], piece: Piece) -> Result<Item, AllocError>
     ensures ok { IfOk result (λ item. cell_of item ≡ cell (value_at text.now) piece) }
     ensures scalar { is_of VecKind (cell (value_at text.now) piece) ≡ false → IsOk result }
@@ -264,8 +264,11 @@ fn item_of(alloc: Global, text: &[u8], piece: Piece) -> Result<Item, AllocError>
         Piece::Flag(truth) => Ok(Item::Bool(truth)),
         Piece::Int(number) => Ok(Item::Int(number)),
         Piece::VectorAt(place) => {
-            let vector = datum_at(alloc, text, place)?;
-            Item::of_datum(alloc, vector)
+            let elements = match datum_at(alloc, text, place)? {
+                Datum::Vec(all) => all,
+                _ => Elements::of_data(alloc, Vec::new(alloc))?,
+            };
+            Ok(Item::of_elements(elements))
         }
     }
 }

@@ -1,6 +1,6 @@
 -- What an item carries, without the places in memory where it lies.
 use Rattle.std.specs.Prelude.{ℤ, Bool, true, false}
-use Rattle.snesl_data.specs.Values.{Value, value_of}
+use Rattle.snesl_data.specs.Values.{Value, a_vec, elements_of}
 use Rattle.flow_messages.specs.declared.message.Item.{Item}
 use Rattle.flow_messages.specs.declared.message.Item.TheVariants.{Unit as UnitItem, Bool as BoolItem, Int as IntItem, Vec as VecItem}
 use Rattle.flow_messages.specs.declared.message.Kind.{Kind}
@@ -18,7 +18,7 @@ abbrev pub cell_of : Item → Cell
 cell_of UnitItem = unit
 cell_of (BoolItem b) = flag b
 cell_of (IntItem n) = int n
-cell_of (VecItem d) = datum (value_of d.value)
+cell_of (VecItem elements) = datum (a_vec (elements_of elements))
 
 -- whether the cell is of the kind
 abbrev pub is_of : Kind → Cell → Bool

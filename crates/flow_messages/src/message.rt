@@ -1,12 +1,12 @@
 // What an edge carries.
 ghost use Rattle.std.specs.Prelude.{◌≡◌, false, IfOk, IsOk};
-ghost use Rattle.snesl_data.specs.Values.{value_of};
+ghost use Rattle.snesl_data.specs.Values.{a_vec, elements_of};
 ghost use Rattle.flow_messages.specs.Cells.{cell_of, datum as datum_cell, is_of};
 ghost use Rattle.flow_messages.specs.Signals.{signal_of, is_stop};
 ghost use Rattle.flow_messages.specs.Flats.{is_scalar};
 
-use snesl_data::{Datum, copy_datum};
-use std::alloc::{AllocError, Global};
+use snesl_data::Elements;
+use std::alloc::AllocError;
 
 /// What kind of items a stream carries.
 #[derive(Clone, Copy, Debug, PartialEq, Eq)]
@@ -17,7 +17,7 @@ pub enum Kind {
     Bool,
     /// Integers.
     Int,
-    /// Values of a concrete type.
+    /// Vectors.
     Vec,
 }
 
@@ -37,28 +37,27 @@ impl Kind {
     }
 }
 
-/// One item of a stream. Each variant is of the `Kind` of its name. A vector lies in a box, so that all items are small.
+/// One item of a stream. Each variant is of the `Kind` of its name. The elements of a vector are shared, so that all items
+/// are small, and none takes long to copy.
 #[derive(Debug, Drop)]
 pub enum Item {
     Unit,
     Bool(bool),
     Int(i128),
-    Vec(Box<Datum>),
+    Vec(Elements),
 }
 
 impl Item {
-    /// An item that carries this value. Its only error is that memory was refused.
-    pub fn of_datum(alloc: Global, datum: Datum) -> Result<Item, AllocError>
-        ensures { IfOk result (λ item. cell_of item ≡ datum_cell (value_of datum)) }
+    /// An item that carries the vector of these elements.
+    pub fn of_elements(all: Elements) -> Item
+        ensures { cell_of result ≡ datum_cell (a_vec (elements_of all)) }
     {
-        Ok(Item::Vec(Box::new(alloc, datum)?))
+        Item::Vec(all)
     }
-}
 
-impl Item {
-    /// An item that carries the same. Only the copy of a vector takes memory, and is refused where there is none.
+    /// An item that carries the same. It takes no memory: its only error is that too many share a vector.
     #[inline(always)]
-    pub fn copy(&self, alloc: Global) -> Result<Item, AllocError>
+    pub fn copy(&self) -> Result<Item, AllocError>
         ensures ok { IfOk result (λ item. cell_of item ≡ cell_of self.now) }
         ensures scalar { is_of Kind.Vec (cell_of self.now) ≡ false → IsOk result }
     {
@@ -66,7 +65,7 @@ impl Item {
             Item::Unit => Ok(Item::Unit),
             Item::Bool(truth) => Ok(Item::Bool(*truth)),
             Item::Int(number) => Ok(Item::Int(*number)),
-            Item::Vec(datum) => Item::of_datum(alloc, copy_datum(alloc, datum)?),
+            Item::Vec(elements) => Ok(Item::Vec(elements.share()?)),
         }
     }
 }

@@ -2,9 +2,8 @@
 use denote.Param.Send.{IsSend, arg_send, param_send, sendable}
 use denote.Param.SendFields.{variants_send}
 use Rattle.std.proofs.Crossing.{crosses}
-use Rattle.snesl_data.proofs.datum.Datum.TheLaws.TheKnot as datum_knot
+use Rattle.snesl_data.proofs.Sends.{datum_sends, elements_sends}
 use Rattle.snesl_data.proofs.ty.Ty.TheLaws.TheKnot as ty_knot
-use Rattle.snesl_data.specs.contracts.datum.Datum as datum
 use Rattle.snesl_data.specs.contracts.ty.Ty as ty
 use Rattle.flow_nodes.specs.contracts.stream_node.StreamNode as stream_node
 
@@ -12,10 +11,7 @@ use Rattle.flow_nodes.specs.contracts.stream_node.StreamNode as stream_node
 ty_sends : IsSend ty.the_field.row
 ty_sends = search (crosses, ty_knot.crosses, sendable) depth 60 fits 20000
 
-datum_sends : IsSend datum.the_field.row
-datum_sends = search (crosses, datum_knot.crosses, sendable) depth 60 fits 20000
-
-ruleset parts = (ty_sends, datum_sends, crosses, sendable)
+ruleset parts = (ty_sends, datum_sends, elements_sends, crosses, sendable)
 
 -- the kinds in their order, each by the one field that it has
 pub stream_node_sends : IsSend stream_node.the_row

@@ -17,18 +17,17 @@ use crate::copies::block_to_each;
 use flow_base::{Ask, BLOCK, SHORT_BLOCK, Stop, Worker, put_in_space, take_front};
 use flow_messages::{Ends, Flat, Item, Kind, Msg};
 use snesl_data::FaultKind;
-use std::alloc::{AllocError, Global};
+use std::alloc::AllocError;
 
 /// Reads items of one kind and writes each to every output, the outputs in order. Each item is an instance. An item of
 /// another kind is a fault of kind `Shape`.
 ///
-/// A vector is copied for each output but the last, which gets the vector itself. Only such a copy takes memory; where
-/// it is refused, nothing was written, and the same output is next.
+/// A vector is copied for each output but the last, which gets the vector itself; a copy shares its elements. Where a copy
+/// is refused, nothing was written, and the same output is next.
 ///
 /// Row: `ForkRow` (specs/Rows.antt).
 #[derive(Drop)]
 pub struct Fork {
-    alloc: Global,
     kind: Kind,
     outputs: usize,
     held: Option<Item>,
@@ -39,14 +38,13 @@ pub struct Fork {
 }
 
 impl Fork {
-    /// A worker with so many outputs that reads items of this kind. It takes no memory before it copies a vector.
-    pub fn new(alloc: Global, kind: Kind, outputs: usize) -> Fork
+    /// A worker with so many outputs that reads items of this kind.
+    pub fn new(kind: Kind, outputs: usize) -> Fork
         requires { 2 ≤ outputs }
         ensures state { ⟦<Fork as Worker>⟧.state result ≡ (fork_ports kind outputs, idle) }
         ensures outputs { suc (fork_ports kind outputs).others ≡ outputs }
     {
         Fork {
-            alloc,
             kind,
             outputs,
             held: None,
@@ -620,7 +618,7 @@ impl Worker for Fork {
     fn give(&mut self) -> Result<Item, AllocError> {
         if self.next + 1 < self.outputs {
             let copy = match &self.held {
-                Some(item) => item.copy(self.alloc)?,
+                Some(item) => item.copy()?,
                 None => unreachable!(),
             };
             self.next += 1;

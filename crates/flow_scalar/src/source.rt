@@ -13,8 +13,8 @@ ghost use Rattle.flow_scalar.specs.SourceBehaviour.{is_vector, source_opening, s
 use flow_base::{Port, Side, Transducer};
 use flow_messages::{Item, Kind, Msg};
 use kahn::Want;
-use snesl_data::{Datum, copy_datum};
-use std::alloc::{AllocError, Global};
+use snesl_data::Elements;
+use std::alloc::AllocError;
 
 /// The items of a stream, all of one kind.
 #[derive(Debug, Drop)]
@@ -23,8 +23,8 @@ pub enum Stream {
     Units(usize),
     Bools(Vec<bool>),
     Ints(Vec<i128>),
-    /// Values of a concrete type.
-    Vectors(Vec<Datum>),
+    /// Vectors, by their elements.
+    Vectors(Vec<Elements>),
 }
 
 impl Stream {
@@ -40,9 +40,9 @@ impl Stream {
         }
     }
 
-    // An item that carries the same as the one at this index, counted from 0, or `None` past the last. Only the copy of
-    // a vector takes memory.
-    fn item(&self, alloc: Global, index: usize) -> Result<Option<Item>, AllocError>
+    // An item that carries the same as the one at this index, counted from 0, or `None` past the last. Its only error is
+    // that too many share a vector.
+    fn item(&self, index: usize) -> Result<Option<Item>, AllocError>
         ensures ok { IfOk result (λ item. option_map cell_of item ≡
             slice_get (stream_cells self.now) index) }
         ensures within { IfOk result (λ item. IsSome item → index < usize.MAX) }
@@ -63,7 +63,7 @@ impl Stream {
                 None => None,
             }),
             Stream::Vectors(all) => match all.get(index) {
-                Some(datum) => Ok(Some(Item::of_datum(alloc, copy_datum(alloc, datum)?)?)),
+                Some(elements) => Ok(Some(Item::of_elements(elements.share()?))),
                 None => Ok(None),
             },
         }
@@ -72,13 +72,12 @@ impl Stream {
 
 /// Reads nothing, and writes the items of a stream to its only output, and then the end. It has no fault.
 ///
-/// It keeps its stream and writes copies. Only the copy of a vector takes memory; where it is refused, nothing was
-/// written, and the same item is written next.
+/// It keeps its stream and writes copies, which share its vectors. Where a copy is refused, nothing was written, and the
+/// same item is written next.
 ///
 /// Row: `SourceRow` (specs/Rows.antt).
 #[derive(Drop)]
 pub struct Source {
-    alloc: Global,
     stream: Stream,
     // How many items were written.
     written: usize,
@@ -90,7 +89,7 @@ impl Source {
     /// A source that has written nothing. All that it writes is of the stream's kind, and lies in the range of each
     /// dialect where the integers of its stream do.
     #[tactic(auto, using(crate::specs::Streams::stream_all_of))]
-    pub fn new(alloc: Global, stream: Stream) -> Source
+    pub fn new(stream: Stream) -> Source
         ensures state { ⟦<Source as Transducer>⟧.state result ≡ source_opening (items_of stream) }
         ensures of_kind { AllOf (stream_kind stream) (stream_cells stream) }
         ensures in_range { (dialect : Dialect) → SignalsInRange dialect
@@ -98,7 +97,6 @@ impl Source {
             source_behaviour.in_range dialect (source_opening (items_of stream)) }
     {
         Source {
-            alloc,
             stream,
             written: 0,
             ended: false,
@@ -151,7 +149,7 @@ impl Transducer for Source {
 
     #[tactic(auto, using(crate::proofs::Sending::sends_end))]
     fn emit(&mut self) -> Result<Msg, AllocError> {
-        match self.stream.item(self.alloc, self.written)? {
+        match self.stream.item(self.written)? {
             Some(item) => {
                 self.written += 1;
                 Ok(Msg::Item(item))

@@ -16,7 +16,7 @@ use crate::fronts::{flag_in_front, scalar_copy, scalar_in_front};
 use flow_base::{Ask, BLOCK, SHORT_BLOCK, Stop, Worker, put_in_space, take_front};
 use flow_messages::{Ends, Flat, Item, Kind, Msg};
 use snesl_data::FaultKind;
-use std::alloc::{AllocError, Global};
+use std::alloc::AllocError;
 
 /// Reads an item and a segment, and writes the item once for each element of the segment. Each such pair is an
 /// instance.
@@ -24,13 +24,12 @@ use std::alloc::{AllocError, Global};
 /// Reads port 0, items of one kind, and port 1, flags; writes port 0, items of that kind. Fault: `Shape` where an item
 /// is of another kind.
 ///
-/// Each item that is written is a copy. Only the copy of a vector takes memory; where it is refused, nothing was
+/// Each item that is written is a copy, which shares the elements of a vector. Where a copy is refused, nothing was
 /// written, and the same copy is next.
 ///
 /// Row: `DistRow` (specs/Rows.antt).
 #[derive(Drop)]
 pub struct Dist {
-    alloc: Global,
     kind: Kind,
     held: Option<Item>,
     // Whether a copy of the held item is to be written.
@@ -165,12 +164,11 @@ fn take_shown<E: Ends>(kind: Kind, from: usize, ends: &mut E) -> Option<Item>
 impl Dist {
     ghost use Rattle.flow_segment.specs.DistMachine.{at_start};
 
-    /// A worker for items of this kind, before its first item. It takes no memory before it copies a vector.
-    pub fn new(alloc: Global, kind: Kind) -> Dist
+    /// A worker for items of this kind, before its first item.
+    pub fn new(kind: Kind) -> Dist
         ensures { ⟦<Dist as Worker>⟧.state result ≡ (kind, at_start) }
     {
         Dist {
-            alloc,
             kind,
             held: None,
             copies: false,
@@ -358,7 +356,7 @@ impl Worker for Dist {
     #[inline(always)]
     fn give(&mut self) -> Result<Item, AllocError> {
         let copy = match &self.held {
-            Some(item) => item.copy(self.alloc)?,
+            Some(item) => item.copy()?,
             None => unreachable!(),
         };
         self.copies = false;

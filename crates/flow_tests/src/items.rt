@@ -2,13 +2,13 @@
 
 use flow_messages::{Item, Kind};
 use kahn::faults::{named, named_fault};
-use snesl_data::{Datum, Fault, FaultKind};
+use snesl_data::{Elements, Fault, FaultKind};
 use std::alloc::{AllocError, Global};
 use std::test::Fail;
 
 // Which kinds a copy of an item fits.
-fn fitting(alloc: Global, item: Item) -> Result<[bool; 4], AllocError> {
-    let copy = item.copy(alloc)?;
+fn fitting(item: Item) -> Result<[bool; 4], AllocError> {
+    let copy = item.copy()?;
     Ok([
         Kind::Unit.fits(&copy),
         Kind::Bool.fits(&copy),
@@ -19,12 +19,12 @@ fn fitting(alloc: Global, item: Item) -> Result<[bool; 4], AllocError> {
 
 // Which kinds items of four kinds fit: a vector, a unit, a truth value and an integer.
 fn fits(alloc: Global) -> Result<[[bool; 4]; 4], AllocError> {
-    let vector = Item::of_datum(alloc, Datum::Vec(Vec::new(alloc)))?;
+    let vector = Item::of_elements(Elements::of_data(alloc, Vec::new(alloc))?);
     Ok([
-        fitting(alloc, vector)?,
-        fitting(alloc, Item::Unit)?,
-        fitting(alloc, Item::Bool(true))?,
-        fitting(alloc, Item::Int(-7))?,
+        fitting(vector)?,
+        fitting(Item::Unit)?,
+        fitting(Item::Bool(true))?,
+        fitting(Item::Int(-7))?,
     ])
 }
 

@@ -39,11 +39,11 @@ pub fn node_of(alloc: Global, words: &str, at: usize) -> Result<StreamNode, Word
             let (dialect, work) = work_of(kind, parameters)?;
             Ok(computing_node(dialect, work, at))
         }
-        "source" => Ok(StreamNode::Source(Source::new(alloc, stream_of(alloc, parameters)?))),
+        "source" => Ok(StreamNode::Source(Source::new(stream_of(alloc, parameters)?))),
         "const" => Ok(StreamNode::Const(Node::new(Const::new(scalar_of(parameters)?), at))),
         "fork" => {
             let (kind, outputs) = branches_of(parameters)?;
-            Ok(StreamNode::Fork(Node::new(Fork::new(alloc, kind, outputs), at)))
+            Ok(StreamNode::Fork(Node::new(Fork::new(kind, outputs), at)))
         }
         _ => kind_node(alloc, kind, named(&KINDS, parameters)?, at),
     }
@@ -117,7 +117,7 @@ fn kind_node(alloc: Global, kind: &str, of: Kind, at: usize) -> Result<StreamNod
 {
     match kind {
         "sink" => Ok(StreamNode::Sink(Node::new(Sink::new(of), at))),
-        "dist" => Ok(StreamNode::Dist(Node::new(Dist::new(alloc, of), at))),
+        "dist" => Ok(StreamNode::Dist(Node::new(Dist::new(of), at))),
         "pack" => Ok(StreamNode::Pack(Node::new(Pack::new(of), at))),
         "interleave" => Ok(StreamNode::Interleave(Node::new(Interleave::new(of), at))),
         _ => Err(WordError::Unread),

@@ -1,7 +1,7 @@
 // What the words of a table stand for: messages, types, kinds and operators.
 
 use flow_messages::{Item, Kind, Msg};
-use snesl_data::{Datum, Dialect, Ty};
+use snesl_data::{Builder, Datum, Dialect, Elements, Ty};
 use snesl_operators::{BinaryOperator, Reduction, UnaryOperator};
 use std::alloc::{AllocError, Global};
 
@@ -88,7 +88,7 @@ pub fn message(alloc: Global, word: &str) -> Result<Msg, WordError> {
             Ok(number) => Item::Int(number),
             Err(_) => {
                 let items = vector(alloc, word)?.ok_or(WordError::Unread)?;
-                Item::of_datum(alloc, Datum::Vec(items))?
+                Item::of_elements(elements_of(alloc, items)?)
             }
         },
     }))
@@ -115,8 +115,18 @@ fn pairs(alloc: Global) -> Result<Vec<Datum>, AllocError> {
 
 // A pair of an integer and a vector.
 fn pair(alloc: Global, first: i128, second: Vec<Datum>) -> Result<Datum, AllocError> {
-    let second = Box::new(alloc, Datum::Vec(second))?;
-    Ok(Datum::Pair(Box::new(alloc, Datum::Int(first))?, second))
+    let second = Datum::Vec(elements_of(alloc, second)?);
+    let first = Box::new(alloc, Datum::Int(first))?;
+    Ok(Datum::Pair(first, Box::new(alloc, second)?))
+}
+
+// The elements of a vector, packed where they may be.
+fn elements_of(alloc: Global, items: Vec<Datum>) -> Result<Elements, AllocError> {
+    let mut elements = Builder::Empty;
+    for item in items {
+        elements.push(alloc, item)?;
+    }
+    elements.finish(alloc).map_err(|_| AllocError)
 }
 
 /// The type of words in which each former stands before what it is of, as `pair int vec bool`.

@@ -4,7 +4,7 @@ use Rattle.snesl_data.specs.declared.dialect.Dialect.{Dialect}
 use Rattle.snesl_data.specs.declared.fault.FaultKind.{FaultKind}
 use Rattle.snesl_data.specs.declared.fault.FaultKind.TheVariants.{Shape, Index}
 use Rattle.snesl_data.specs.Types.{Ty, bool}
-use Rattle.snesl_data.specs.Values.{Value, Values, a_vec, value_of, values_of}
+use Rattle.snesl_data.specs.Values.{Value, Values, a_vec, elements_of}
 use Rattle.flow_messages.specs.Cells.{Cell, datum}
 use Rattle.flow_messages.specs.declared.message.Kind.{Kind}
 use Rattle.flow_messages.specs.declared.message.Kind.TheVariants.{Int as IntKind, Vec as VecKind}
@@ -24,12 +24,12 @@ pub data IndexState : Type 0 where
 
 -- what the laws see of a stage
 abbrev pub index_state : Stage → IndexState
-index_state (Held all) = held (values_of (map value_of all.items))
+index_state (Held all) = held (elements_of all)
 index_state (Writing dues) = writing (map due_cell dues.items)
 
 -- whether a vector that is held is of elements of the type
 abbrev pub holds_such : Ty → Stage → Bool
-holds_such item (Held all) = all_are item (values_of (map value_of all.items))
+holds_such item (Held all) = all_are item (elements_of all)
 holds_such item (Writing dues) = true
 
 -- a vector of such items is held

@@ -21,6 +21,16 @@ abbrev mutual
   all_are item no_values = true
   all_are item (more_values v vs) = is_a item v && all_are item vs
 
+-- whether it is the type of integers
+abbrev pub is_int_type : Ty → Bool
+is_int_type int = true
+is_int_type _ = false
+
+-- whether it is the type of truth values
+abbrev pub is_bool_type : Ty → Bool
+is_bool_type bool = true
+is_bool_type _ = false
+
 -- the test says yes of just the values that are of the type by their shape
 abbrev pub ShapesAreTested : Type 0
 ShapesAreTested = (t : Ty) (v : Value) → IsTrue (is_a t v) ↔ HasShape v t

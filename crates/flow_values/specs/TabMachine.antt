@@ -92,7 +92,7 @@ tab_in_range dialect (at_flag es) = AllInRange dialect (values_of es)
 tab_in_range dialect (at_item es got) = AllInRange dialect (values_of es) × CellsInRange dialect got
 tab_in_range dialect (at_end es) = AllInRange dialect (values_of es)
 
--- the items of an element are kept in memory, and its value; the vector lies in a box
+-- the items of an element are kept in memory, and its value; the elements of the vector are then shared
 abbrev pub tab_takes_memory : TabState → Bool
 tab_takes_memory (at_item es got) = true
 tab_takes_memory (at_end es) = true

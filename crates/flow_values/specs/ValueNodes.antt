@@ -1,7 +1,7 @@
 -- The transducers over values of a type, each with its states and its laws.
-use Rattle.std.specs.Prelude.{map}
+use Rattle.std.specs.Prelude.{◌++◌, map}
 use Rattle.snesl_data.specs.Types.{ty_of}
-use Rattle.snesl_data.specs.Values.{value_of}
+use Rattle.snesl_data.specs.Builders.{built_in}
 use Rattle.flow_messages.specs.Cells.{cell_of}
 use Rattle.flow_base.specs.Members.{NodeOf, node_of}
 use Rattle.flow_base.specs.declared.node.Node.{Node}
@@ -11,7 +11,7 @@ use Rattle.flow_values.specs.PrintMachine.{PrintState, print_behaviour}
 use Rattle.flow_values.specs.laws.Print.{print_laws}
 use Rattle.flow_values.specs.TabMachine.{tab_state, tab_machine}
 use Rattle.flow_values.specs.laws.Tab.{tab_laws}
-use Rattle.flow_values.specs.SeqMachine.{seq_machine}
+use Rattle.flow_values.specs.SeqMachine.{left_dues, seq_machine}
 use Rattle.flow_values.specs.laws.Seq.{seq_laws}
 use Rattle.flow_values.specs.IndexMachine.{index_state, index_machine}
 use Rattle.flow_values.specs.laws.Index.{index_laws}
@@ -24,10 +24,10 @@ abbrev pub print_node : NodeOf Print
 print_node = record { State = PrintState; state = λ n. state_in (ty_of n.ty) n.pending.items n.text.items n.closing n.stuck n.at; behaviour = print_behaviour; laws = print_laws }
 
 abbrev pub tab_node : NodeOf (Node Tab)
-tab_node = node_of (λ n. (ty_of n.element, tab_state n.stage (map value_of n.elements.items) (map cell_of n.items.items))) tab_machine tab_laws
+tab_node = node_of (λ n. (ty_of n.element, tab_state n.stage (built_in n.elements) (map cell_of n.items.items))) tab_machine tab_laws
 
 abbrev pub seq_node : NodeOf (Node Seq)
-seq_node = node_of (λ n. (ty_of n.element, map due_cell n.dues.items)) seq_machine seq_laws
+seq_node = node_of (λ n. (ty_of n.element, map due_cell n.dues.items ++ left_dues (ty_of n.element) n.vector n.begun)) seq_machine seq_laws
 
 abbrev pub index_node : NodeOf (Node Index)
 index_node = node_of (λ n. (ty_of n.element, index_state n.stage)) index_machine index_laws

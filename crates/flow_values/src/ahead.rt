@@ -9,7 +9,7 @@ ghost use Rattle.flow_values.specs.PrintMachine as machine;
 ghost use Rattle.flow_values.specs.Aheads.{pending_of, stack, LeadsAhead, Finds};
 
 use crate::pending::{Flags, Pending, Place};
-use crate::shapes::{edge_count, is_value};
+use crate::shapes::{are_elements, edge_count};
 use flow_base::Stop;
 use flow_messages::Item;
 use snesl_data::{Datum, FaultKind, Ty, copy_ty, text_of};
@@ -154,11 +154,12 @@ impl Ahead {
                 self.finish(b"false", brackets)?;
                 Ok(())
             }
-            (Ty::Vec(_), Item::Vec(datum)) => {
-                if !is_value(ty, datum) {
+            (Ty::Vec(element), Item::Vec(elements)) => {
+                if !are_elements(element, elements) {
                     return Err(Stop::Faulted(FaultKind::Shape));
                 }
-                let said = text_of(alloc, datum)?;
+                let vector = Datum::Vec(elements.share()?);
+                let said = text_of(alloc, &vector)?;
                 self.finish(&said, brackets)?;
                 Ok(())
             }

@@ -10,8 +10,8 @@ ghost use Rattle.flow_messages.specs.Cells.{cell_of};
 
 use crate::shapes::edge_count;
 use flow_messages::Item;
-use snesl_data::{Datum, Ty, copy_datum};
-use std::alloc::{AllocError, Global};
+use snesl_data::{Datum, Ty};
+use std::alloc::AllocError;
 use std::collections::VecDeque;
 
 /// An item, and the output that it is to be written to.
@@ -40,10 +40,9 @@ fn add(dues: &mut VecDeque<Due>, port: usize, item: Item) -> Result<(), AllocErr
 }
 
 /// Adds what the value puts on the edges of its type, the first of which is this port. Its only error is that memory
-/// was refused.
+/// was refused, or that too many share a vector.
 #[cycle(add_value)]
 pub fn add_value(
-    alloc: Global,
     dues: &mut VecDeque<Due>,
     ty: &Ty,
     port: usize,
@@ -57,24 +56,22 @@ pub fn add_value(
     match (ty, datum) {
         (Ty::Int, Datum::Int(number)) => add(dues, port, Item::Int(*number)),
         (Ty::Bool, Datum::Bool(truth)) => add(dues, port, Item::Bool(*truth)),
-        (Ty::Vec(_), Datum::Vec(_)) => {
-            let copy = Item::of_datum(alloc, copy_datum(alloc, datum)?)?;
-            add(dues, port, copy)
+        (Ty::Vec(_), Datum::Vec(elements)) => {
+            let shared = elements.share()?;
+            add(dues, port, Item::of_elements(shared))
         }
         (Ty::Pair(first, second), Datum::Pair(a, b)) => {
-            add_value(alloc, dues, first, port, a)?;
-            add_value(alloc, dues, second, port + edge_count(first), b)
+            add_value(dues, first, port, a)?;
+            add_value(dues, second, port + edge_count(first), b)
         }
-        (Ty::Seq(item), Datum::Seq(all)) => add_segment(alloc, dues, item, port, all),
+        (Ty::Seq(item), Datum::Seq(all)) => add_segment(dues, item, port, all),
         _ => unreachable!(),
     }
 }
 
-/// Adds what a sequence of these elements puts on its edges, the first of which is this port. Its only error is that
-/// memory was refused.
+// Adds what a sequence of these elements puts on its edges, the first of which is this port.
 #[cycle(add_value)]
-pub fn add_segment(
-    alloc: Global,
+fn add_segment(
     dues: &mut VecDeque<Due>,
     item: &Ty,
     port: usize,
@@ -87,7 +84,7 @@ pub fn add_segment(
 {
     for datum in all {
         add(dues, port, Item::Bool(false))?;
-        add_value(alloc, dues, item, port + 1, datum)?;
+        add_value(dues, item, port + 1, datum)?;
     }
     add(dues, port, Item::Bool(true))
 }

@@ -1,8 +1,8 @@
 // An element of each vector.
 
-ghost use Rattle.std.specs.Prelude.{◌≡◌, [], true, map, option_map, IfOk, false};
+ghost use Rattle.std.specs.Prelude.{◌≡◌, [], true, option_map, IfOk, OnErr, IsSome, false};
 ghost use Rattle.snesl_data.specs.Types.{Ty as ElementType, ty_of};
-ghost use Rattle.snesl_data.specs.Values.{value_of, values_of};
+ghost use Rattle.snesl_data.specs.Values.{value_of, elements_of};
 ghost use Rattle.flow_values.specs.Shapes.{kinds_of};
 ghost use Rattle.flow_values.specs.Rows.{element_at};
 ghost use Rattle.flow_values.specs.IndexMachine.{writing, holds_such};
@@ -12,7 +12,7 @@ use crate::shapes::{kind_at, kinds};
 use crate::vectors::vector_in;
 use flow_base::{Ask, Stop, Worker};
 use flow_messages::{Flat, Item, Kind};
-use snesl_data::{Datum, FaultKind, Ty};
+use snesl_data::{Datum, Elements, FaultKind, Ty};
 use std::alloc::{AllocError, Global};
 use std::collections::VecDeque;
 
@@ -20,7 +20,7 @@ use std::collections::VecDeque;
 #[derive(Drop)]
 pub enum Stage {
     /// A vector was read.
-    Held(Vec<Datum>),
+    Held(Elements),
     /// These items are due. Where there are none, the next instance may begin.
     Writing(VecDeque<Due>),
 }
@@ -62,15 +62,16 @@ impl Index {
     }
 }
 
-// The element at this index, counted from 0, where there is one.
-fn element_at(all: &[Datum], index: i128) -> Option<&Datum>
-    ensures { option_map (λ d. value_of d.now) result ≡
-        element_at (values_of (map value_of all.now)) index }
+// A copy of the element at this index, counted from 0, where there is one. Memory is refused only there.
+fn element_at(alloc: Global, all: &Elements, index: i128) -> Result<Option<Datum>, AllocError>
+    ensures ok { IfOk result (λ found. option_map value_of found ≡
+        element_at (elements_of all.now) index) }
+    ensures err { OnErr result (IsSome (element_at (elements_of all.now) index)) }
 {
-    match usize::try_from(index) {
-        Ok(place) => all.get(place),
-        Err(_) => None,
+    if index < 0 || index >= all.len() as i128 {
+        return Ok(None);
     }
+    all.at(alloc, index as usize)
 }
 
 impl Worker for Index {
@@ -140,11 +141,11 @@ impl Worker for Index {
                 let Item::Int(index) = item else {
                     return Err(Stop::Faulted(FaultKind::Shape));
                 };
-                let Some(datum) = element_at(all, index) else {
+                let Some(datum) = element_at(self.alloc, all, index)? else {
                     return Err(Stop::Faulted(FaultKind::Index));
                 };
                 let mut dues = VecDeque::new(self.alloc);
-                add_value(self.alloc, &mut dues, &self.element, 0, datum)?;
+                add_value(&mut dues, &self.element, 0, &datum)?;
                 self.stage = Stage::Writing(dues);
                 Ok(())
             }

@@ -1,16 +1,19 @@
 // The elements of vectors, as sequences.
 
-ghost use Rattle.std.specs.Prelude.{◌≡◌, List, [], map, IfOk, false};
+ghost use Rattle.std.specs.Prelude.{◌≡◌, ◌++◌, List, [], map, IfOk, OnErr, IsOk, IsSome, true, false};
 ghost use Rattle.snesl_data.specs.Types.{Ty as ElementType, ty_of, seq};
+ghost use Rattle.flow_messages.specs.Cells.{cell_of};
+ghost use Rattle.flow_base.specs.Machines.{move_of, written_cell, state_after_write};
 ghost use Rattle.flow_values.specs.Shapes.{kinds_of};
 ghost use Rattle.flow_values.specs.Dues.{DueCell, due_cell};
+ghost use Rattle.flow_values.specs.SeqMachine.{seq_machine, seq_takes_memory, left_dues, writes_such};
 
-use crate::dues::{Due, add_segment};
+use crate::dues::{Due, add_value};
 use crate::shapes::{add_kinds, kind_at};
 use crate::vectors::vector_in;
 use flow_base::{Ask, Stop, Worker};
 use flow_messages::{Flat, Item, Kind};
-use snesl_data::Ty;
+use snesl_data::{Elements, Ty};
 use std::alloc::{AllocError, Global};
 use std::collections::VecDeque;
 
@@ -20,7 +23,8 @@ use std::collections::VecDeque;
 /// element puts on the edges of its type to the ports from 1 on; at last the flag `true`. Fault: `Shape` where an item
 /// is not a vector of such elements.
 ///
-/// It lays out what it writes when it takes a vector. Where memory for that is refused, nothing was taken.
+/// It holds the vector, and lays out one element at a time, when it writes the flag before it. Where memory for that is
+/// refused, nothing was written.
 ///
 /// Row: `SeqRow` (specs/Rows.antt).
 #[derive(Drop)]
@@ -29,8 +33,13 @@ pub struct Seq {
     element: Ty,
     // Of the outputs.
     kinds: Vec<Kind>,
+    // What is due of the element that was begun last.
     dues: VecDeque<Due>,
+    // The vector that is written, and how many of its elements were begun.
+    vector: Option<Elements>,
+    begun: usize,
     ghost kinds_are: { kinds.items ≡ kinds_of (seq (ty_of element)) },
+    ghost writes: { writes_such (ty_of element) vector ≡ true },
 }
 
 impl Seq {
@@ -47,19 +56,58 @@ impl Seq {
             element,
             kinds,
             dues: VecDeque::new(alloc),
+            vector: None,
+            begun: 0,
         })
+    }
+
+    // The flag that stands behind the elements begun so far: `false` before the next one, which is laid out, and `true`
+    // behind the last one.
+    fn flag(&mut self) -> Result<Item, AllocError>
+        requires none { self.old.dues.items ≡ [] }
+        requires some { IsSome self.old.vector }
+        ensures ok { IfOk result (λ item.
+            (cell_of item ≡ written_cell (move_of seq_machine (⟦<Seq as Worker>⟧.state self.old))) ×
+            (⟦<Seq as Worker>⟧.state self.new ≡ (
+              ty_of self.old.element,
+              state_after_write (⟦<Seq as Worker>⟧.state self.old).1
+                  (move_of seq_machine (⟦<Seq as Worker>⟧.state self.old)),
+            ))) }
+        ensures err { OnErr result (⟦<Seq as Worker>⟧.state self.new ≡
+            ⟦<Seq as Worker>⟧.state self.old) }
+        ensures sure { seq_takes_memory (⟦<Seq as Worker>⟧.state self.old).1 ≡ false →
+            IsOk result }
+    {
+        let Some(elements) = &self.vector else {
+            unreachable!()
+        };
+        if self.begun >= elements.len() {
+            self.vector = None;
+            return Ok(Item::Bool(true));
+        }
+        let Some(datum) = elements.at(self.alloc, self.begun)? else {
+            unreachable!()
+        };
+        if add_value(&mut self.dues, &self.element, 1, &datum).is_err() {
+            self.dues.clear();
+            return Err(AllocError);
+        }
+        self.begun += 1;
+        Ok(Item::Bool(false))
     }
 }
 
 impl Worker for Seq {
-    ghost use Rattle.flow_values.specs.SeqMachine.{seq_machine};
     ghost use Rattle.flow_values.specs.laws.Seq.{seq_laws};
 
     ghost Parameters = { ElementType };
 
     ghost State = { List DueCell };
 
-    ghost state = { λ n. (ty_of n.element, map due_cell n.dues.items) };
+    ghost state = { λ n. (
+      ty_of n.element,
+      map due_cell n.dues.items ++ left_dues (ty_of n.element) n.vector n.begun,
+    ) };
 
     ghost machine = { seq_machine };
 
@@ -69,9 +117,10 @@ impl Worker for Seq {
 
     #[inline(always)]
     fn ask(&self) -> Ask {
-        match self.dues.front() {
-            None => Ask::Begin,
-            Some(due) => Ask::Give(due.output(self.kinds.len())),
+        match (self.dues.front(), &self.vector) {
+            (Some(due), _) => Ask::Give(due.output(self.kinds.len())),
+            (None, Some(_)) => Ask::Give(0),
+            (None, None) => Ask::Begin,
         }
     }
 
@@ -103,14 +152,16 @@ impl Worker for Seq {
     #[inline(always)]
     fn take(&mut self, item: Item) -> Result<(), Stop> {
         let all = vector_in(&self.element, item)?;
-        let mut dues = VecDeque::new(self.alloc);
-        add_segment(self.alloc, &mut dues, &self.element, 0, &all)?;
-        self.dues = dues;
+        self.vector = Some(all);
+        self.begun = 0;
         Ok(())
     }
 
     #[inline(always)]
     fn give(&mut self) -> Result<Item, AllocError> {
+        if self.dues.is_empty() {
+            return self.flag();
+        }
         match self.dues.pop_front() {
             Some(due) => Ok(due.item),
             None => unreachable!(),

@@ -2,17 +2,17 @@
 
 ghost use Rattle.std.specs.Prelude.{◌≡◌, ◌<◌, ◌^◌, ◌++◌, map, length, IfOk, OnOk};
 ghost use Rattle.snesl_data.specs.Types.{ty_of};
-ghost use Rattle.snesl_data.specs.Values.{value_of, values_of};
+ghost use Rattle.snesl_data.specs.Values.{value_of, values_of, elements_of};
 ghost use Rattle.flow_messages.specs.Cells.{cell_of};
-ghost use Rattle.flow_values.specs.Shapes.{is_a, all_are, ShapesAreTested, kinds_of, kind_at};
+ghost use Rattle.flow_values.specs.Shapes.{is_a, all_are, is_int_type, is_bool_type, ShapesAreTested, kinds_of, kind_at};
 ghost use Rattle.flow_values.specs.Flats.{width};
 ghost use Rattle.flow_values.specs.Parts.{part_fits};
 
 use flow_messages::{Item, Kind};
-use snesl_data::{Datum, Ty};
+use snesl_data::{Datum, Elements, Ty};
 use std::alloc::{AllocError, Global};
 
-/// Whether the value is one of the type.
+/// Whether the value is one of the type. Of a vector whose integers or truth values are packed it looks at no element.
 #[cycle(is_value)]
 pub fn is_value(ty: &Ty, datum: &Datum) -> bool
     ensures { result ≡ is_a (ty_of ty.now) (value_of datum.now) }
@@ -20,14 +20,27 @@ pub fn is_value(ty: &Ty, datum: &Datum) -> bool
     match (ty, datum) {
         (Ty::Int, Datum::Int(_)) | (Ty::Bool, Datum::Bool(_)) => true,
         (Ty::Pair(first, second), Datum::Pair(a, b)) => is_value(first, a) && is_value(second, b),
-        (Ty::Vec(item), Datum::Vec(all)) => are_values(item, all),
+        (Ty::Vec(item), Datum::Vec(elements)) => are_elements(item, elements),
         (Ty::Seq(item), Datum::Seq(all)) => are_values(item, all),
         _ => false,
     }
 }
 
+// Whether each element is of the type. An empty vector is of each.
 #[cycle(is_value)]
-pub fn are_values(item: &Ty, all: &[Datum]) -> bool
+pub fn are_elements(item: &Ty, elements: &Elements) -> bool
+    ensures { result ≡ all_are (ty_of item.now) (elements_of elements.now) }
+{
+    match elements {
+        Elements::Ints(all) => all.is_empty() || is_int(item),
+        Elements::Wides(all) => all.is_empty() || is_int(item),
+        Elements::Bools(all) => all.is_empty() || is_bool(item),
+        Elements::Others(all) => are_values(item, all),
+    }
+}
+
+#[cycle(is_value)]
+fn are_values(item: &Ty, all: &[Datum]) -> bool
     ensures { result ≡ all_are (ty_of item.now) (values_of (map value_of all.now)) }
 {
     for datum in all {
@@ -36,6 +49,18 @@ pub fn are_values(item: &Ty, all: &[Datum]) -> bool
         }
     }
     true
+}
+
+fn is_int(ty: &Ty) -> bool
+    ensures { result ≡ is_int_type (ty_of ty.now) }
+{
+    matches!(ty, Ty::Int)
+}
+
+fn is_bool(ty: &Ty) -> bool
+    ensures { result ≡ is_bool_type (ty_of ty.now) }
+{
+    matches!(ty, Ty::Bool)
 }
 
 /// A law and no code to run: what `is_value` tests is the type by its shape, any integer being of type int.
@@ -91,7 +116,7 @@ pub fn part_fits(ty: &Ty, place: usize, item: &Item) -> bool
 {
     match (ty, item) {
         (Ty::Int, Item::Int(_)) | (Ty::Bool, Item::Bool(_)) => place == 0,
-        (Ty::Vec(_), Item::Vec(datum)) => place == 0 && is_value(ty, datum),
+        (Ty::Vec(element), Item::Vec(elements)) => place == 0 && are_elements(element, elements),
         (Ty::Pair(first, second), _) => {
             let edges = edge_count(first);
             if place < edges {

@@ -3,6 +3,7 @@
 ghost use Rattle.std.specs.Prelude.{◌≡◌, [], map, List, IfOk, false};
 ghost use Rattle.snesl_data.specs.Types.{Ty as ElementType, ty_of, seq};
 ghost use Rattle.snesl_data.specs.Values.{Value, value_of, a_pair};
+ghost use Rattle.snesl_data.specs.Builders.{built_in};
 ghost use Rattle.flow_messages.specs.Cells.{cell_of};
 ghost use Rattle.flow_base.specs.Workers.{Takes};
 ghost use Rattle.flow_values.specs.Shapes.{kinds_of};
@@ -10,10 +11,10 @@ ghost use Rattle.flow_values.specs.Parts.{built, PartsFit};
 ghost use Rattle.flow_base.specs.Machines.{state_after_item, with_parameters};
 ghost use Rattle.flow_values.specs.TabMachine.{TabState, start, tab_state, staged, flag_taking, grown, item_given, item_port, MakesDatum};
 
-use crate::shapes::{add_kinds, is_value, kind_at, part_fits};
+use crate::shapes::{add_kinds, are_elements, kind_at, part_fits};
 use flow_base::{Ask, Stop, Worker};
 use flow_messages::{Flat, Item, Kind};
-use snesl_data::{Datum, FaultKind, Ty};
+use snesl_data::{Builder, Datum, FaultKind, Ty};
 use std::alloc::{AllocError, Global};
 use std::collections::VecDeque;
 use std::mem;
@@ -34,7 +35,7 @@ pub struct Tab {
     // Of the inputs.
     kinds: Vec<Kind>,
     // The elements of the sequence so far, and the items of the next one.
-    elements: Vec<Datum>,
+    elements: Builder,
     items: Vec<Item>,
     stage: Stage,
     ghost kinds_are: { kinds.items ≡ kinds_of (seq (ty_of element)) },
@@ -66,7 +67,7 @@ impl Tab {
             alloc,
             element,
             kinds,
-            elements: Vec::new(alloc),
+            elements: Builder::Empty,
             items: Vec::new(alloc),
             stage: Stage::Start,
         })
@@ -105,7 +106,7 @@ impl Tab {
     fn close(&mut self) -> Result<(), Stop>
         requires { self.old.stage ≡ Stage.Item }
         ensures state { Takes (with_parameters (ty_of self.old.element)
-            (grown (ty_of self.old.element) (map value_of self.old.elements.items)
+            (grown (ty_of self.old.element) (built_in self.old.elements)
             (map cell_of self.old.items.items))) (⟦<Tab as Worker>⟧.state self.old) result
             (⟦<Tab as Worker>⟧.state self.new) }
         ensures items { self.new.items.items ≡ self.old.items.items }
@@ -118,7 +119,7 @@ impl Tab {
         if !items.is_empty() {
             return Err(Stop::Faulted(FaultKind::Shape));
         }
-        if self.elements.push(datum).is_err() {
+        if self.elements.push(self.alloc, datum).is_err() {
             return Err(Stop::OutOfMemory);
         }
         self.stage = Stage::Flag;
@@ -129,7 +130,7 @@ impl Tab {
     fn take_item(&mut self, item: Item) -> Result<(), Stop>
         requires { self.old.stage ≡ Stage.Item }
         ensures { Takes (with_parameters (ty_of self.old.element)
-            (item_given (ty_of self.old.element) (map value_of self.old.elements.items)
+            (item_given (ty_of self.old.element) (built_in self.old.elements)
             (map cell_of self.old.items.items) (cell_of item)))
             (⟦<Tab as Worker>⟧.state self.old) result (⟦<Tab as Worker>⟧.state self.new) }
     {
@@ -155,7 +156,7 @@ fn copies(alloc: Global, items: &[Item]) -> Result<VecDeque<Item>, AllocError>
 {
     let mut all = VecDeque::new(alloc);
     for item in items {
-        all.push_back(item.copy(alloc)?)?;
+        all.push_back(item.copy()?)?;
     }
     Ok(all)
 }
@@ -179,10 +180,10 @@ fn build(alloc: Global, ty: &Ty, items: &mut VecDeque<Item>) -> Result<Datum, St
             Some(Item::Bool(truth)) => Ok(Datum::Bool(truth)),
             _ => Err(Stop::Faulted(FaultKind::Shape)),
         },
-        Ty::Vec(_) => match items.pop_front() {
-            Some(Item::Vec(datum)) => {
-                if is_value(ty, &datum) {
-                    Ok(Box::into_inner(datum))
+        Ty::Vec(element) => match items.pop_front() {
+            Some(Item::Vec(all)) => {
+                if are_elements(element, &all) {
+                    Ok(Datum::Vec(all))
                 } else {
                     Err(Stop::Faulted(FaultKind::Shape))
                 }
@@ -208,7 +209,7 @@ impl Worker for Tab {
 
     ghost state = { λ n. (
       ty_of n.element,
-      tab_state n.stage (map value_of n.elements.items) (map cell_of n.items.items),
+      tab_state n.stage (built_in n.elements) (map cell_of n.items.items),
     ) };
 
     ghost machine = { tab_machine };
@@ -257,7 +258,7 @@ impl Worker for Tab {
         match self.stage {
             Stage::Start => {
                 let stage = self.at_flag(&item)?;
-                self.elements = Vec::new(self.alloc);
+                self.elements = Builder::Empty;
                 self.items = Vec::new(self.alloc);
                 self.stage = stage;
                 Ok(())
@@ -277,12 +278,17 @@ impl Worker for Tab {
     fn give(&mut self) -> Result<Item, AllocError> {
         match self.stage {
             Stage::End => {
-                // The box is asked for first, so that nothing has changed where it is refused.
-                let mut vector = Box::new(self.alloc, Datum::Vec(Vec::new(self.alloc)))?;
-                let elements = mem::replace(&mut self.elements, Vec::new(self.alloc));
-                *vector = Datum::Vec(elements);
-                self.stage = Stage::Start;
-                Ok(Item::Vec(vector))
+                let elements = mem::replace(&mut self.elements, Builder::Empty);
+                match elements.finish(self.alloc) {
+                    Ok(all) => {
+                        self.stage = Stage::Start;
+                        Ok(Item::of_elements(all))
+                    }
+                    Err(same) => {
+                        self.elements = same;
+                        Err(AllocError)
+                    }
+                }
             }
             _ => unreachable!(),
         }

@@ -1,3 +1,5 @@
 pub mod Data
+pub mod Places
 pub mod SameTypes
+pub mod Sends
 pub mod Texts

@@ -1,9 +1,10 @@
 -- The text of items, one more at a time.
-use Rattle.std.proofs.Common.{◌≡◌, ℕ, zero, suc, ◌+◌, ◌<◌, List, [], ◌∷◌, ◌++◌, length, take, map, get_or, codes, refl, sym, ap, ◌∙◌, append-nil, append_assoc, arith, if◌then◌else◌, Result, Ok, Err, OnOk, is_ok}
+use Rattle.std.proofs.Common.{◌≡◌, ℕ, zero, suc, ◌+◌, ◌<◌, false, List, [], ◌∷◌, ◌++◌, length, take, map, get_or, codes, refl, sym, ap, ◌∙◌, append-nil, append_assoc, arith, if◌then◌else◌, Result, Ok, Err, OnOk, is_ok}
+use Rattle.std.specs.Prelude.{◌==◌}
+use Rattle.std.proofs.lemmas.Bool.Decides.{nat_tests}
 use Rattle.std.proofs.lemmas.List.{map_more}
-use Rattle.snesl_data.specs.declared.datum.Datum.{Datum}
-use Rattle.snesl_data.specs.Values.{Value, values_of, value_of}
-use Rattle.snesl_data.specs.Text.{text, items_text, further_text}
+use Rattle.snesl_data.specs.Values.{Value, values_of}
+use Rattle.snesl_data.specs.Text.{text, items_text, further_text, comma_before}
 
 regroup : (a b c d : List ℕ) → a ++ (b ++ c ++ d) ≡ a ++ b ++ c ++ d
 regroup a b c d = simp append_assoc
@@ -24,42 +25,34 @@ items_text-push [] v = append-nil (text v)
 items_text-push (x ∷ vs) v =
     ap (λ l. text x ++ l) (further_text-push vs v) ∙ regroup (text x) (further_text (values_of vs)) (codes ",") (text v)
 
-separator-take : (ds : List Datum) (i : ℕ) → 0 < i → i < length ds → separator (map value_of (take i ds)) ≡ codes ","
-separator-take [] i some inside = absurd (omega arith)
-separator-take (d ∷ ds) zero some inside = absurd (omega arith)
-separator-take (d ∷ ds) (suc i) some inside = refl
+separator-take : {X : Type 0} (f : X → Value) (xs : List X) (i : ℕ) → i < length xs → separator (map f (take i xs)) ≡ comma_before i
+separator-take f [] i inside = absurd (omega arith)
+separator-take f (x ∷ xs) zero inside = refl
+separator-take f (x ∷ xs) (suc i) inside =
+    let some : (suc i == 0) ≡ false = grind (arith, nat_tests) in
+    ap (λ b. if b then [] else codes ",") (sym some)
 
 -- the text of the first i items
-abbrev pub text_of_first : ℕ → List Datum → List ℕ
-text_of_first i ds = items_text (values_of (map value_of (take i ds)))
+abbrev pub text_of_first : {X : Type 0} → (X → Value) → ℕ → List X → List ℕ
+text_of_first f i xs = items_text (values_of (map f (take i xs)))
 
-text_of_first-more : (ds : List Datum) (i : ℕ) (d : Datum) → i < length ds → d ≡ get_or ds i d
-    → text_of_first (i + 1) ds ≡ text_of_first i ds ++ separator (map value_of (take i ds)) ++ text (value_of d)
-text_of_first-more ds i d inside is =
-    ap (λ l. items_text (values_of l)) (map_more value_of ds i d inside)
-    ∙ items_text-push (map value_of (take i ds)) (value_of (get_or ds i d))
-    ∙ ap (λ x. text_of_first i ds ++ separator (map value_of (take i ds)) ++ text (value_of x)) (sym is)
+text_of_first-more : {X : Type 0} (f : X → Value) (xs : List X) (i : ℕ) (x : X) → i < length xs → x ≡ get_or xs i x
+    → text_of_first f (i + 1) xs ≡ text_of_first f i xs ++ comma_before i ++ text (f x)
+text_of_first-more f xs i x inside is =
+    ap (λ l. items_text (values_of l)) (map_more f xs i x inside)
+    ∙ items_text-push (map f (take i xs)) (f (get_or xs i x))
+    ∙ ap (λ s. text_of_first f i xs ++ s ++ text (f (get_or xs i x))) (separator-take f xs i inside)
+    ∙ ap (λ y. text_of_first f i xs ++ comma_before i ++ text (f y)) (sym is)
 
--- a turn of the loop at the first item
-pub first_turn : (before out after : List ℕ) (ds : List Datum) (i : ℕ) (d : Datum)
-    → i ≡ 0 → i < length ds → d ≡ get_or ds i d
-    → out ≡ before ++ text_of_first i ds → after ≡ out ++ text (value_of d)
-    → after ≡ before ++ text_of_first (i + 1) ds
-first_turn before out after ds zero d none inside is was now =
-    now ∙ ap (λ l. l ++ text (value_of d)) (was ∙ append-nil before) ∙ ap (λ l. before ++ l) (sym (text_of_first-more ds 0 d inside is))
-first_turn before out after ds (suc i) d none inside is was now = absurd (omega arith)
-
--- and at a later one
-pub later_turn : (before out between after : List ℕ) (ds : List Datum) (i : ℕ) (d : Datum)
-    → 0 < i → i < length ds → d ≡ get_or ds i d
-    → out ≡ before ++ text_of_first i ds → between ≡ out ++ codes "," → after ≡ between ++ text (value_of d)
-    → after ≡ before ++ text_of_first (i + 1) ds
-later_turn before out between after ds i d some inside is was comma now =
+-- a turn of a loop: a comma, if one stands there, and the next item
+pub one_turn : {X : Type 0} (f : X → Value) (xs : List X) (i : ℕ) (x : X) → i < length xs → x ≡ get_or xs i x
+    → (before out between after : List ℕ) → out ≡ before ++ text_of_first f i xs → between ≡ out ++ comma_before i → after ≡ between ++ text (f x)
+    → after ≡ before ++ text_of_first f (i + 1) xs
+one_turn f xs i x inside is before out between after was comma now =
     now
-    ∙ ap (λ l. l ++ text (value_of d)) (comma ∙ ap (λ l. l ++ codes ",") was)
-    ∙ sym (regroup before (text_of_first i ds) (codes ",") (text (value_of d)))
-    ∙ ap (λ s. before ++ (text_of_first i ds ++ s ++ text (value_of d))) (sym (separator-take ds i some inside))
-    ∙ ap (λ l. before ++ l) (sym (text_of_first-more ds i d inside is))
+    ∙ ap (λ l. l ++ text (f x)) (comma ∙ ap (λ l. l ++ comma_before i) was)
+    ∙ sym (regroup before (text_of_first f i xs) (comma_before i) (text (f x)))
+    ∙ ap (λ l. before ++ l) (sym (text_of_first-more f xs i x inside is))
 
 -- text between two brackets, where the right one was appended
 pub bracketed : {E : Type 0} (r : Result (Unit {0}) E) (before opened filled closed left inner right : List ℕ)

@@ -1,5 +1,5 @@
 -- The integers of the language: 64 bits with a sign, and 128 in the second dialect.
-use Rattle.std.specs.Prelude.{ℕ, suc, Bool, IsTrue, nat_le, ℤ, pos, negsuc}
+use Rattle.std.specs.Prelude.{ℕ, Bool, IsTrue, nat_le, ℤ, pos, negsuc}
 use Rattle.snesl_data.specs.declared.dialect.Dialect.{Dialect}
 use Rattle.snesl_data.specs.declared.dialect.Dialect.TheVariants.{One, Two}
 

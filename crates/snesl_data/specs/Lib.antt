@@ -1,6 +1,7 @@
 pub mod Integers
 pub mod Types
 pub mod Values
+pub mod Builders
 pub mod Faults
 pub mod Refusals
 pub mod Text

@@ -1,5 +1,5 @@
 -- The text of a value, as a program prints it: no blanks, and single commas between items.
-use Rattle.std.specs.Prelude.{ℕ, true, false, List, [], ◌++◌, codes}
+use Rattle.std.specs.Prelude.{ℕ, true, false, List, [], ◌++◌, ◌==◌, if◌then◌else◌, codes}
 use Rattle.std.specs.Fmt.{signed_decimal}
 use Rattle.snesl_data.specs.Values.{Value, an_int, a_bool, a_pair, a_vec, a_seq, Values, no_values, more_values}
 
@@ -22,3 +22,7 @@ abbrev mutual
   pub further_text : Values → List ℕ
   further_text no_values = []
   further_text (more_values v vs) = codes "," ++ text v ++ further_text vs
+
+-- what stands before the item at this place
+abbrev pub comma_before : ℕ → List ℕ
+comma_before place = if place == 0 then [] else codes ","

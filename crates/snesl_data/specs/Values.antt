@@ -1,7 +1,10 @@
 -- Values and their types.
-use Rattle.std.specs.Prelude.{Bool, List, [], ◌∷◌, ℤ}
+use Rattle.std.specs.Prelude.{Bool, List, [], ◌∷◌, map, ℤ}
+use Rattle.std.specs.Arc.{arc_value}
 use Rattle.snesl_data.specs.declared.datum.Datum.{Datum, Row_of-Datum, end_of-Datum, more_of-Datum}
-use Rattle.snesl_data.specs.declared.datum.Datum.TheVariants.{Int, Bool as BoolDatum, Pair', Vec', Seq'}
+use Rattle.snesl_data.specs.declared.datum.Datum.TheVariants.{Int, Bool as BoolDatum, Pair', Vec as VecDatum, Seq'}
+use Rattle.snesl_data.specs.declared.datum.Elements.{Elements}
+use Rattle.snesl_data.specs.declared.datum.Elements.TheVariants.{Ints, Wides, Bools, Others'}
 use Rattle.snesl_data.specs.declared.dialect.Dialect.{Dialect}
 use Rattle.snesl_data.specs.Integers.{IsInteger}
 use Rattle.snesl_data.specs.Types.{Ty, int, bool, pair, vec, seq}
@@ -30,19 +33,30 @@ abbrev pub values_of : List Value → Values
 values_of [] = no_values
 values_of (v ∷ vs) = more_values v (values_of vs)
 
--- the value that a datum holds
 abbrev mutual
+  -- the value that a datum holds
   pub value_of : Datum → Value
   value_of (Int n) = an_int n
   value_of (BoolDatum b) = a_bool b
   value_of (Pair' p a q b) = a_pair (value_of a) (value_of b)
-  value_of (Vec' shape all) = a_vec (row_values all)
+  value_of (VecDatum elements) = a_vec (elements_of elements)
   value_of (Seq' shape all) = a_seq (row_values all)
+
+  -- the values of the elements of a vector, whichever way they lie
+  pub elements_of : Elements → Values
+  elements_of (Ints all) = values_of (map an_int (arc_value all).items)
+  elements_of (Wides all) = values_of (map an_int (arc_value all).items)
+  elements_of (Bools all) = values_of (map a_bool (arc_value all).items)
+  elements_of (Others' p shape all) = row_values all
 
   -- the values of a row of data
   pub row_values : {m : _} → Row_of-Datum m → Values
   row_values end_of-Datum = no_values
   row_values (more_of-Datum d rest) = more_values (value_of d) (row_values rest)
+
+-- the elements of a vector, in order
+abbrev pub entries : Elements → List Value
+entries elements = list_of (elements_of elements)
 
 -- the value is one of this type, its integers are such as this says, and its items are of one type
 abbrev mutual

@@ -5,21 +5,27 @@
 #![tactic(auto)]
 
 pub mod blank;
+pub mod builder;
 pub mod characters;
 pub mod counted;
 pub mod datum;
 pub mod dialect;
+pub mod elements;
 pub mod fault;
+pub mod numbers;
 pub mod refusal;
 pub mod text;
 pub mod ty;
+mod unpacked;
 
 pub use blank::is_blank;
+pub use builder::Builder;
 pub use characters::{digits_len, word_len};
 pub use counted::Counted;
-pub use datum::{Datum, copy_datum};
+pub use datum::{Datum, Elements, copy_datum};
 pub use dialect::Dialect;
 pub use fault::{Fault, FaultKind};
+pub use numbers::Numbers;
 pub use refusal::Refusal;
 pub use text::text_of;
 pub use ty::{Ty, copy_ty};

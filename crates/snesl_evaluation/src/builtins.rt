@@ -137,7 +137,7 @@ fn tab(alloc: Global, at: usize, sequence: &Datum) -> Result<Datum, Halt>
     let all = items(at, sequence)?;
     let mut values = Vec::with_capacity(alloc, all.len())?;
     add_copies(alloc, &mut values, all)?;
-    Ok(vector_of(values))
+    Ok(vector_of(alloc, values)?)
 }
 
 fn seq(alloc: Global, at: usize, vector: &Datum) -> Result<Datum, Halt>
@@ -145,8 +145,7 @@ fn seq(alloc: Global, at: usize, vector: &Datum) -> Result<Datum, Halt>
         (λ vs. gives (sequence vs))) }
 {
     let all = elements(at, vector)?;
-    let mut values = Vec::with_capacity(alloc, all.len())?;
-    add_copies(alloc, &mut values, all)?;
+    let values = all.data(alloc)?;
     Ok(sequence_of(values))
 }
 

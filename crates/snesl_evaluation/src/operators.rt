@@ -1,8 +1,8 @@
 // Operators at data.
 
-ghost use Rattle.std.specs.Prelude.{map, slice_get};
+ghost use Rattle.std.specs.Prelude.{slice_get};
 ghost use Rattle.snesl_data.specs.declared.fault.FaultKind.TheVariants.{Index as IndexFault};
-ghost use Rattle.snesl_data.specs.Values.{value_of};
+ghost use Rattle.snesl_data.specs.Values.{entries, value_of};
 ghost use Rattle.snesl_evaluation.specs.Answer.{go, or_fault};
 ghost use Rattle.snesl_evaluation.specs.Builtins.{append_answer, binary_answer, elements_at, equal_answer, int_at, item_answer, prefix_answer, scalar_answer, scalars_answer, unary_answer};
 ghost use Rattle.snesl_evaluation.specs.Results.{Answers};
@@ -10,7 +10,7 @@ ghost use Rattle.snesl_evaluation.specs.Results.{Answers};
 use crate::halt::{Halt, fault};
 use crate::parts::{datum_of, elements, integer, items, scalar, sequence_of};
 use crate::sequences::add_copies;
-use snesl_data::{Datum, Dialect, FaultKind, copy_datum};
+use snesl_data::{Datum, Dialect, Elements, FaultKind};
 use snesl_operators::{BinaryOperator, Scalar, UnaryOperator};
 use snesl_tree::{Operator, Prefix};
 use std::alloc::Global;
@@ -125,22 +125,21 @@ fn index(alloc: Global, at: usize, vector: &Datum, index: &Datum) -> Result<Datu
     item(alloc, at, all, i)
 }
 
-// A number that is no machine's index is none of the vector's.
-fn item(alloc: Global, at: usize, all: &[Datum], i: i128) -> Result<Datum, Halt>
-    ensures { Answers value_of result (item_answer at (map value_of all.now) i) }
+fn item(alloc: Global, at: usize, all: &Elements, i: i128) -> Result<Datum, Halt>
+    ensures { Answers value_of result (item_answer at (entries all.now) i) }
 {
-    match usize::try_from(i) {
-        Ok(place) => item_at(alloc, at, all, place),
-        Err(_) => Err(fault(FaultKind::Index, at)),
+    if i < 0 || i >= all.len() as i128 {
+        return Err(fault(FaultKind::Index, at));
     }
+    item_at(alloc, at, all, i as usize)
 }
 
-fn item_at(alloc: Global, at: usize, all: &[Datum], place: usize) -> Result<Datum, Halt>
+fn item_at(alloc: Global, at: usize, all: &Elements, place: usize) -> Result<Datum, Halt>
     ensures { Answers value_of result (or_fault IndexFault at
-        (slice_get (map value_of all.now) place)) }
+        (slice_get (entries all.now) place)) }
 {
-    match all.get(place) {
-        Some(datum) => Ok(copy_datum(alloc, datum)?),
+    match all.at(alloc, place)? {
+        Some(datum) => Ok(datum),
         None => Err(fault(FaultKind::Index, at)),
     }
 }

@@ -1,12 +1,12 @@
 // Data and their parts. A datum of another kind is `Shape` at the offset that is given.
 
 ghost use Rattle.std.specs.Prelude.{◌≡◌, ◌++◌, ◌∷◌, [], map, option_map, option_to_list, IfOk, OnOk};
-ghost use Rattle.snesl_data.specs.Values.{a_pair, a_vec, value_of, values_of};
+ghost use Rattle.snesl_data.specs.Values.{a_pair, a_vec, entries, value_of, values_of};
 ghost use Rattle.snesl_evaluation.specs.Builtins.{elements_at, int_at, items_at, scalar_at, scalar_value, sequence, truth_at};
 ghost use Rattle.snesl_evaluation.specs.Results.{Answers};
 
 use crate::halt::{Halt, fault};
-use snesl_data::{Datum, FaultKind};
+use snesl_data::{Datum, Elements, FaultKind};
 use snesl_operators::Scalar;
 use std::alloc::{AllocError, Global};
 
@@ -57,9 +57,9 @@ pub fn items(at: usize, datum: &Datum) -> Result<&[Datum], Halt>
     }
 }
 
-// The items of a vector.
-pub fn elements(at: usize, datum: &Datum) -> Result<&[Datum], Halt>
-    ensures { Answers (λ all. map value_of all.now) result (elements_at at (value_of datum.now)) }
+// The elements of a vector.
+pub fn elements(at: usize, datum: &Datum) -> Result<&Elements, Halt>
+    ensures { Answers (λ all. entries all.now) result (elements_at at (value_of datum.now)) }
 {
     match datum {
         Datum::Vec(all) => Ok(all),
@@ -82,10 +82,11 @@ pub fn sequence_of(items: Vec<Datum>) -> Datum
     Datum::Seq(items)
 }
 
-pub fn vector_of(items: Vec<Datum>) -> Datum
-    ensures { value_of result ≡ a_vec (values_of (map value_of items.items)) }
+pub fn vector_of(alloc: Global, items: Vec<Datum>) -> Result<Datum, AllocError>
+    ensures { IfOk result (λ datum. value_of datum ≡
+        a_vec (values_of (map value_of items.items))) }
 {
-    Datum::Vec(items)
+    Ok(Datum::Vec(Elements::of_data(alloc, items)?))
 }
 
 pub fn add(values: &mut Vec<Datum>, value: Datum) -> Result<(), AllocError>

@@ -3,7 +3,7 @@
 ghost use Rattle.std.specs.Prelude.{◌≡◌};
 ghost use Rattle.snesl_faults.specs.declared.finding.Stop.TheVariants.{GivenUp};
 
-use snesl_data::{Datum, Fault};
+use snesl_data::{Datum, Elements, Fault};
 use snesl_evaluation::Halt;
 use std::alloc::{AllocError, AllocFailed};
 
@@ -46,6 +46,7 @@ impl From<Halt> for Stop {
 }
 
 // Takes from what may be spent as many elements as a value holds, itself counted, and tells whether there are so many.
+#[cycle(spend)]
 pub(crate) fn spend(budget: &mut usize, datum: &Datum) -> bool {
     if *budget == 0 {
         return false;
@@ -54,13 +55,32 @@ pub(crate) fn spend(budget: &mut usize, datum: &Datum) -> bool {
     match datum {
         Datum::Int(_) | Datum::Bool(_) => true,
         Datum::Pair(first, second) => spend(budget, first) && spend(budget, second),
-        Datum::Vec(items) | Datum::Seq(items) => {
-            for item in items {
-                if !spend(budget, item) {
-                    return false;
-                }
+        Datum::Vec(elements) => spend_elements(budget, elements),
+        Datum::Seq(items) => spend_items(budget, items),
+    }
+}
+
+#[cycle(spend)]
+fn spend_elements(budget: &mut usize, elements: &Elements) -> bool {
+    match elements {
+        Elements::Ints(_) | Elements::Wides(_) | Elements::Bools(_) => {
+            let count = elements.len();
+            if *budget < count {
+                return false;
             }
+            *budget -= count;
             true
         }
+        Elements::Others(all) => spend_items(budget, all),
     }
+}
+
+#[cycle(spend)]
+fn spend_items(budget: &mut usize, items: &[Datum]) -> bool {
+    for item in items {
+        if !spend(budget, item) {
+            return false;
+        }
+    }
+    true
 }

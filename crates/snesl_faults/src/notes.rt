@@ -71,7 +71,8 @@ fn append_value(alloc: Global, made: &mut Vec<u8>, datum: &Datum) -> Result<(), 
     ensures { OnOk result (made.new.items ≡ made.old.items ++ value_text (value_of datum.now)) }
 {
     match datum {
-        Datum::Vec(items) | Datum::Seq(items) => append_count(made, items.len()),
+        Datum::Vec(elements) => append_count(made, elements.len()),
+        Datum::Seq(items) => append_count(made, items.len()),
         _ => {
             let shown = text_of(alloc, datum)?;
             made.extend_from_slice(&shown)

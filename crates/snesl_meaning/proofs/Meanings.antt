@@ -7,7 +7,8 @@ use Rattle.snesl_values.specs.Inputs.{Environment, InputAnswer, InputMeans, OneI
 use Rattle.snesl_tree.specs.Tree.{ProgramTree}
 use Rattle.snesl_syntax.specs.Parse.{Parses, HaveOneAnswer}
 use Rattle.snesl_evaluation.specs.Eval.{program_value}
-use Rattle.snesl_types.specs.Programs.{Declared, ProgramTypes, ProgramViolates, HaveOneTyping}
+use Rattle.snesl_types.specs.Programs.{Declared}
+use Rattle.snesl_types.specs.Verdicts.{program_verdict}
 use Rattle.snesl_meaning.specs.Meaning.{meaning_of, no_program, ill_typed, bad_input, evaluated, is_refused, HaveOneMeaning}
 
 same_program : HaveOneAnswer → (text : List ℕ) (p q : ProgramTree) → Parses text (Ok p) → Parses text (Ok q) → p ≡ q
@@ -17,16 +18,17 @@ no_tree : {A : Type 0} → HaveOneAnswer → (text : List ℕ) (p : ProgramTree)
 no_tree answers text p r one other = absurd (let e = answers text (Ok p) (Err r) one other in cc)
 
 -- a program that has a type violates no rule
-no_violation : {A : Type 0} → HaveOneAnswer → HaveOneTyping → (text : List ℕ) (p q : ProgramTree) (d : Declared) (t : Ty) (r : Refusal)
-    → Parses text (Ok p) → Parses text (Ok q) → ProgramTypes text p d t → ProgramViolates text q r → A
-no_violation answers typing text p q d t r one other h v =
-    absurd ((typing text p).2 d t r h (subst (λ x. ProgramViolates text x r) (sym (same_program answers text p q one other)) v))
+no_violation : {A : Type 0} → HaveOneAnswer → (text : List ℕ) (p q : ProgramTree) (d : Declared) (t : Ty) (r : Refusal)
+    → Parses text (Ok p) → Parses text (Ok q) → program_verdict text p ≡ Ok (d, t) → program_verdict text q ≡ Err r → A
+no_violation answers text p q d t r one other h v = absurd (let same = same_program answers text p q one other in cc (same, h, v))
 
 -- what a program declares
-same_declared : HaveOneAnswer → HaveOneTyping → (text : List ℕ) (p q : ProgramTree) (d e : Declared) (t u : Ty)
-    → Parses text (Ok p) → Parses text (Ok q) → ProgramTypes text p d t → ProgramTypes text q e u → d ≡ e
-same_declared answers typing text p q d e t u one other h k =
-    ((typing text p).0 d e t u h (subst (λ x. ProgramTypes text x e u) (sym (same_program answers text p q one other)) k)).0
+same_declared : HaveOneAnswer → (text : List ℕ) (p q : ProgramTree) (d e : Declared) (t u : Ty)
+    → Parses text (Ok p) → Parses text (Ok q) → program_verdict text p ≡ Ok (d, t) → program_verdict text q ≡ Ok (e, u) → d ≡ e
+same_declared answers text p q d e t u one other h k =
+    let same = same_program answers text p q one other in
+    let both : Ok (d, t) ≡ Ok (e, u) = cc (same, h, k) in
+    cc
 
 -- what the input text means for a program and its declarations
 for_same : (input : List ℕ) (p q : ProgramTree) (d e : Declared) (answer : InputAnswer) → p ≡ q → d ≡ e
@@ -39,35 +41,37 @@ no_input : {A : Type 0} → OneInputMeaning → (input : List ℕ) (p q : Progra
 no_input inputs input p q d e at environment tree same i j =
     absurd (let is = inputs p.dialect d.inputs input (refused_at at) (spells environment) i (for_same input p q d e (spells environment) tree same j) in cc)
 
-pub one_meaning : HaveOneAnswer → HaveOneTyping → OneInputMeaning → HaveOneMeaning
-one_meaning answers typing inputs text input m n (no_program {refusal = r} p) (no_program {refusal = s} q) =
+pub one_meaning : HaveOneAnswer → OneInputMeaning → HaveOneMeaning
+one_meaning answers inputs text input m n (no_program {refusal = r} p) (no_program {refusal = s} q) =
     let e = answers text (Err r) (Err s) p q in cc
-one_meaning answers typing inputs text input m n (no_program {refusal = r} p) (ill_typed {program = u} q w) = no_tree answers text u r q p
-one_meaning answers typing inputs text input m n (no_program {refusal = r} p) (bad_input {program = u} q k j) = no_tree answers text u r q p
-one_meaning answers typing inputs text input m n (no_program {refusal = r} p) (evaluated {program = u} q k j) = no_tree answers text u r q p
-one_meaning answers typing inputs text input m n (ill_typed {program = t} p v) (no_program {refusal = s} q) = no_tree answers text t s p q
-one_meaning answers typing inputs text input m n (ill_typed {program = t} {refusal = r} p v) (ill_typed {program = u} {refusal = s} q w) =
-    ap is_refused ((typing text t).1 r s v (subst (λ x. ProgramViolates text x s) (sym (same_program answers text t u p q)) w))
-one_meaning answers typing inputs text input m n (ill_typed {program = t} {refusal = r} p v) (bad_input {program = u} {declared = e} {t = b} q k j) =
-    no_violation answers typing text u t e b r q p k v
-one_meaning answers typing inputs text input m n (ill_typed {program = t} {refusal = r} p v) (evaluated {program = u} {declared = e} {t = b} q k j) =
-    no_violation answers typing text u t e b r q p k v
-one_meaning answers typing inputs text input m n (bad_input {program = t} p h i) (no_program {refusal = s} q) = no_tree answers text t s p q
-one_meaning answers typing inputs text input m n (bad_input {program = t} {declared = d} {t = a} p h i) (ill_typed {program = u} {refusal = s} q w) =
-    no_violation answers typing text t u d a s p q h w
-one_meaning answers typing inputs text input m n (bad_input {program = t} {declared = d} {t = a} {at = x} p h i) (bad_input {program = u} {declared = e} {t = b} {at = y} q k j) =
-    let same = same_declared answers typing text t u d e a b p q h k in
+one_meaning answers inputs text input m n (no_program {refusal = r} p) (ill_typed {program = u} q w) = no_tree answers text u r q p
+one_meaning answers inputs text input m n (no_program {refusal = r} p) (bad_input {program = u} q k j) = no_tree answers text u r q p
+one_meaning answers inputs text input m n (no_program {refusal = r} p) (evaluated {program = u} q k j) = no_tree answers text u r q p
+one_meaning answers inputs text input m n (ill_typed {program = t} p v) (no_program {refusal = s} q) = no_tree answers text t s p q
+one_meaning answers inputs text input m n (ill_typed {program = t} {refusal = r} p v) (ill_typed {program = u} {refusal = s} q w) =
+    let same = same_program answers text t u p q in
+    let refusals : r ≡ s = cc (same, v, w) in
+    ap is_refused refusals
+one_meaning answers inputs text input m n (ill_typed {program = t} {refusal = r} p v) (bad_input {program = u} {declared = e} {t = b} q k j) =
+    no_violation answers text u t e b r q p k v
+one_meaning answers inputs text input m n (ill_typed {program = t} {refusal = r} p v) (evaluated {program = u} {declared = e} {t = b} q k j) =
+    no_violation answers text u t e b r q p k v
+one_meaning answers inputs text input m n (bad_input {program = t} p h i) (no_program {refusal = s} q) = no_tree answers text t s p q
+one_meaning answers inputs text input m n (bad_input {program = t} {declared = d} {t = a} p h i) (ill_typed {program = u} {refusal = s} q w) =
+    no_violation answers text t u d a s p q h w
+one_meaning answers inputs text input m n (bad_input {program = t} {declared = d} {t = a} {at = x} p h i) (bad_input {program = u} {declared = e} {t = b} {at = y} q k j) =
+    let same = same_declared answers text t u d e a b p q h k in
     let is = inputs t.dialect d.inputs input (refused_at x) (refused_at y) i (for_same input t u d e (refused_at y) (same_program answers text t u p q) same j) in cc
-one_meaning answers typing inputs text input m n (bad_input {program = t} {declared = d} {t = a} {at = x} p h i) (evaluated {program = u} {declared = e} {t = b} {environment = f} q k j) =
-    no_input inputs input t u d e x f (same_program answers text t u p q) (same_declared answers typing text t u d e a b p q h k) i j
-one_meaning answers typing inputs text input m n (evaluated {program = t} p h i) (no_program {refusal = s} q) = no_tree answers text t s p q
-one_meaning answers typing inputs text input m n (evaluated {program = t} {declared = d} {t = a} p h i) (ill_typed {program = u} {refusal = s} q w) =
-    no_violation answers typing text t u d a s p q h w
-one_meaning answers typing inputs text input m n (evaluated {program = t} {declared = d} {t = a} {environment = f} p h i) (bad_input {program = u} {declared = e} {t = b} {at = y} q k j) =
-    no_input inputs input u t e d y f (same_program answers text u t q p) (same_declared answers typing text u t e d b a q p k h) j i
-one_meaning answers typing inputs text input m n (evaluated {program = t} {declared = d} {t = a} {environment = f} p h i) (evaluated {program = u} {declared = e} {t = b} {environment = g} q k j) =
+one_meaning answers inputs text input m n (bad_input {program = t} {declared = d} {t = a} {at = x} p h i) (evaluated {program = u} {declared = e} {t = b} {environment = f} q k j) =
+    no_input inputs input t u d e x f (same_program answers text t u p q) (same_declared answers text t u d e a b p q h k) i j
+one_meaning answers inputs text input m n (evaluated {program = t} p h i) (no_program {refusal = s} q) = no_tree answers text t s p q
+one_meaning answers inputs text input m n (evaluated {program = t} {declared = d} {t = a} p h i) (ill_typed {program = u} {refusal = s} q w) =
+    no_violation answers text t u d a s p q h w
+one_meaning answers inputs text input m n (evaluated {program = t} {declared = d} {t = a} {environment = f} p h i) (bad_input {program = u} {declared = e} {t = b} {at = y} q k j) =
+    no_input inputs input u t e d y f (same_program answers text u t q p) (same_declared answers text u t e d b a q p k h) j i
+one_meaning answers inputs text input m n (evaluated {program = t} {declared = d} {t = a} {environment = f} p h i) (evaluated {program = u} {declared = e} {t = b} {environment = g} q k j) =
     let tree = same_program answers text t u p q in
-    let same = same_declared answers typing text t u d e a b p q h k in
+    let same = same_declared answers text t u d e a b p q h k in
     let is = inputs t.dialect d.inputs input (spells f) (spells g) i (for_same input t u d e (spells g) tree same j) in
     let values : f ≡ g = cc in
     ap (λ x. meaning_of (program_value text x f)) tree ∙ ap (λ x. meaning_of (program_value text u x)) values

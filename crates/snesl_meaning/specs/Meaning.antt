@@ -10,7 +10,8 @@ use Rattle.snesl_tree.specs.Tree.{ProgramTree}
 use Rattle.snesl_syntax.specs.Parse.{Parses}
 use Rattle.snesl_evaluation.specs.Answer.{Answer, gives, faults}
 use Rattle.snesl_evaluation.specs.Eval.{program_value}
-use Rattle.snesl_types.specs.Programs.{Declared, ProgramTypes, ProgramViolates}
+use Rattle.snesl_types.specs.Programs.{Declared}
+use Rattle.snesl_types.specs.Verdicts.{program_verdict}
 
 pub data Meaning : Type 0 where
   is_refused : Refusal → Meaning
@@ -26,14 +27,14 @@ pub data Means (text input : List ℕ) : Meaning → Type 0 where
   -- the text is no program
   no_program : {refusal : Refusal} → Parses text (Err refusal) → Means text input (is_refused refusal)
   -- the program violates a rule of typing, the first of which is named
-  ill_typed : {program : ProgramTree} {refusal : Refusal} → Parses text (Ok program) → ProgramViolates text program refusal
+  ill_typed : {program : ProgramTree} {refusal : Refusal} → Parses text (Ok program) → program_verdict text program ≡ Err refusal
       → Means text input (is_refused refusal)
   -- the input text is not lawful for the declared inputs
-  bad_input : {program : ProgramTree} {declared : Declared} {t : Ty} {at : ℕ} → Parses text (Ok program) → ProgramTypes text program declared t
+  bad_input : {program : ProgramTree} {declared : Declared} {t : Ty} {at : ℕ} → Parses text (Ok program) → program_verdict text program ≡ Ok (declared, t)
       → InputMeans program.dialect declared.inputs input (refused_at at)
       → Means text input (is_refused (BadInput at))
   -- the program is evaluated with the values that the input text spells
-  evaluated : {program : ProgramTree} {declared : Declared} {t : Ty} {environment : Environment} → Parses text (Ok program) → ProgramTypes text program declared t
+  evaluated : {program : ProgramTree} {declared : Declared} {t : Ty} {environment : Environment} → Parses text (Ok program) → program_verdict text program ≡ Ok (declared, t)
       → InputMeans program.dialect declared.inputs input (spells environment)
       → Means text input (meaning_of (program_value text program environment))
 

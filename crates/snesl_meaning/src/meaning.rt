@@ -3,7 +3,6 @@
 ghost use Rattle.snesl_meaning.specs.Meaning.{HaveOneMeaning, HaveSomeMeaning};
 
 use snesl_syntax::one_answer;
-use snesl_types::one_typing;
 use snesl_values::one_input_meaning;
 
 /// A law: a program and an input text have a meaning, and no two.
@@ -12,6 +11,5 @@ pub fn one_meaning()
     ensures some { HaveSomeMeaning }
 {
     one_answer();
-    one_typing();
     one_input_meaning();
 }

@@ -4,7 +4,8 @@ use Rattle.snesl_data.specs.Types.{Ty}
 use Rattle.snesl_values.specs.Inputs.{Environment, InputMeans, OneInputMeaning, spells}
 use Rattle.snesl_tree.specs.Tree.{ProgramTree}
 use Rattle.snesl_syntax.specs.Parse.{Parses, HaveOneAnswer}
-use Rattle.snesl_types.specs.Programs.{Declared, ProgramTypes, HaveOneTyping}
+use Rattle.snesl_types.specs.Programs.{Declared}
+use Rattle.snesl_types.specs.Verdicts.{program_verdict}
 use Rattle.snesl_translation.specs.Programs.{cells_of}
 use Rattle.flow_assembly.specs.OneNetwork.{OpensAs, PlansHaveOneNetwork}
 use Rattle.snesl_flatten.specs.Networks.{program_steps}
@@ -13,8 +14,10 @@ use Rattle.snesl_network.specs.OneNetwork.{HaveOneNetwork}
 same_program : HaveOneAnswer → (text : List ℕ) (p q : ProgramTree) → Parses text (Ok p) → Parses text (Ok q) → p ≡ q
 same_program answers text p q one other = let e = answers text (Ok p) (Ok q) one other in cc
 
-same_declared : HaveOneTyping → (text : List ℕ) (p q : ProgramTree) (d e : Declared) (t u : Ty) → p ≡ q → ProgramTypes text p d t → ProgramTypes text q e u → d ≡ e
-same_declared typing text p q d e t u same h k = ((typing text p).0 d e t u h (subst (λ x. ProgramTypes text x e u) (sym same) k)).0
+same_declared : (text : List ℕ) (p q : ProgramTree) (d e : Declared) (t u : Ty) → p ≡ q → program_verdict text p ≡ Ok (d, t) → program_verdict text q ≡ Ok (e, u) → d ≡ e
+same_declared text p q d e t u same h k =
+    let both : Ok (d, t) ≡ Ok (e, u) = cc (same, h, k) in
+    cc
 
 same_environment : OneInputMeaning → (input : List ℕ) (p q : ProgramTree) (d e : Declared) (f g : Environment) → p ≡ q → d ≡ e
     → InputMeans p.dialect d.inputs input (spells f) → InputMeans q.dialect e.inputs input (spells g) → f ≡ g
@@ -24,10 +27,10 @@ same_environment inputs input p q d e f g tree same i j =
     let is = inputs p.dialect d.inputs input (spells f) (spells g) i j2 in
     cc
 
-pub one_network : HaveOneAnswer → HaveOneTyping → OneInputMeaning → PlansHaveOneNetwork → HaveOneNetwork
-one_network answers typing inputs plans text input states others edges more one other =
+pub one_network : HaveOneAnswer → OneInputMeaning → PlansHaveOneNetwork → HaveOneNetwork
+one_network answers inputs plans text input states others edges more one other =
     let tree = same_program answers text one.program other.program one.parses other.parses in
-    let declared = same_declared typing text one.program other.program one.declared other.declared one.ty other.ty tree one.types other.types in
+    let declared = same_declared text one.program other.program one.declared other.declared one.ty other.ty tree one.types other.types in
     let environment = same_environment inputs input one.program other.program one.declared other.declared one.environment other.environment tree declared one.inputs other.inputs in
     let opens : OpensAs (program_steps text other.program other.declared.inputs (cells_of other.declared.inputs other.environment)) others more = record { network = other.network; opens = other.opens } in
     plans (program_steps text one.program one.declared.inputs (cells_of one.declared.inputs one.environment)) states others edges more (record { network = one.network; opens = one.opens })

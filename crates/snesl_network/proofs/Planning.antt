@@ -11,6 +11,8 @@ use Rattle.snesl_grammar.specs.declared.program.Program.{Program}
 use Rattle.snesl_grammar.specs.View.{program_of as tree_of_program}
 use Rattle.snesl_syntax.specs.Parse.{Parses}
 use Rattle.snesl_types.specs.Programs.{HasTyping}
+use Rattle.snesl_types.specs.Verdicts.{program_verdict}
+use Rattle.snesl_types.proofs.ProgramAnswers.{capped_all, program_complete}
 use Rattle.snesl_types.specs.Typed.{program_of, typed_dialect, typed_inputs, typed_text, typed_tree, typed_ty}
 use Rattle.snesl_types.specs.declared.typed.Typed.{Typed}
 use Rattle.snesl_meaning.specs.Meaning.{bad_input}
@@ -43,6 +45,10 @@ module _ (text input : List ℕ) (parsed : Program) (typed : Typed) (parses : Pa
   of_text : HasTyping text program (typed_inputs typed) (typed_ty typed)
   of_text = subst (λ bytes. HasTyping bytes program (typed_inputs typed) (typed_ty typed)) kept typing
 
+  -- and by the rules as functions
+  by_rules : program_verdict text program ≡ Ok (capped_all of_text.0, typed_ty typed)
+  by_rules = program_complete text program of_text.0 (typed_ty typed) of_text.1
+
   -- what holds of the typed program holds of the text, its program and what this declares
   of_program : (P : List ℕ → ProgramTree → List Declaration → Type 0) → P (typed_text typed) (typed_tree typed) (typed_inputs typed) → P text program of_text.0.inputs
   of_program P h =
@@ -62,7 +68,7 @@ module _ (text input : List ℕ) (parsed : Program) (typed : Typed) (parses : Pa
         → HasNoNetwork text input (refusal_of error)
     inputs_refused error (inl is) = subst (λ e. HasNoNetwork text input (refusal_of e)) (sym is) (λ config. tt)
     inputs_refused error (inr (at, is, means)) =
-        subst (λ e. HasNoNetwork text input (refusal_of e)) (sym is) (λ config. bad_input parses of_text.1 (for_declared (refused_at at) means))
+        subst (λ e. HasNoNetwork text input (refusal_of e)) (sym is) (λ config. bad_input parses by_rules (for_declared (refused_at at) means))
 
     module _ (environment : Environment) (spelled : InputMeans dialect inputs input (spells environment)) where
       -- a program with values for its inputs
@@ -70,11 +76,11 @@ module _ (text input : List ℕ) (parsed : Program) (typed : Typed) (parses : Pa
       accepted =
           record {
             program = program;
-            declared = of_text.0;
+            declared = capped_all of_text.0;
             ty = typed_ty typed;
             environment = environment;
             parses = parses;
-            types = of_text.1;
+            types = by_rules;
             inputs = for_declared (spells environment) spelled;
           }
 
@@ -97,11 +103,11 @@ module _ (text input : List ℕ) (parsed : Program) (typed : Typed) (parses : Pa
         record {
           start = record {
             program = program;
-            declared = of_text.0;
+            declared = capped_all of_text.0;
             ty = typed_ty typed;
             environment = environment;
             parses = parses;
-            types = of_text.1;
+            types = by_rules;
             inputs = for_declared (spells environment) spelled;
             network = of_program (IsItsNetwork environment states edges) network;
             opens = of_program (AllOpenFor environment states) opens;

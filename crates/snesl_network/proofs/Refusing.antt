@@ -14,6 +14,7 @@ use Rattle.flow_drives.specs.declared.config.Config.{Config}
 use Rattle.snesl_flatten.specs.Networks.{NodeState}
 use Rattle.snesl_network.specs.Driven.{HasNetwork, WasRefused}
 use Rattle.snesl_network.specs.Meant.{IsMeantFor, HasNoNetwork}
+use Rattle.snesl_types.proofs.ProgramAnswers.{violation_complete}
 
 module _ (text input : List ℕ) where
   pub parse_refused : (refusal : Refusal) → IsOfText refusal → IsRight (Parses text) (Err refusal) → HasNoNetwork text input refusal
@@ -32,8 +33,8 @@ module _ (text input : List ℕ) where
   check_refused program Short parsed first config = program_of_typing first
   check_refused program NoThread parsed first config = absurd (program_of_typing first)
   check_refused program BadConfig parsed first config = absurd (program_of_typing first)
-  check_refused program TooBig parsed first config = inr (ill_typed parsed first)
-  check_refused program refusal parsed first config = ill_typed parsed first
+  check_refused program TooBig parsed first config = inr (ill_typed parsed (violation_complete text program TooBig first))
+  check_refused program refusal parsed first config = ill_typed parsed (violation_complete text program refusal first)
 
   -- what has the meaning of a program with its input is a network of it
   pub has_network : (states : List NodeState) (edges : List Edge) → IsMeantFor text input states edges → HasNetwork text input

@@ -10,7 +10,8 @@ use Rattle.snesl_data.specs.Values.{Value}
 use Rattle.snesl_data.specs.Text.{text as text_of_value}
 use Rattle.snesl_tree.specs.Tree.{ProgramTree}
 use Rattle.snesl_syntax.specs.Parse.{Parses}
-use Rattle.snesl_types.specs.Programs.{Declared, ProgramTypes}
+use Rattle.snesl_types.specs.Programs.{Declared}
+use Rattle.snesl_types.specs.Verdicts.{program_verdict}
 use Rattle.snesl_meaning.specs.Meaning.{Means, is_refused, has_value, has_fault}
 use Rattle.kahn.specs.Configurations.{AllEnded}
 use Rattle.kahn.specs.Outcomes.{NamesFault}
@@ -63,7 +64,7 @@ module _ (text input : List ℕ) where
     pub ty : Ty
     pub environment : Environment
     pub parses : Parses text (Ok program)
-    pub types : ProgramTypes text program declared ty
+    pub types : program_verdict text program ≡ Ok (declared, ty)
     pub inputs : InputMeans program.dialect declared.inputs input (spells environment)
     pub network : IsNetworkOfPlan node_behaviour (program_steps text program declared.inputs (cells_of declared.inputs environment)) states edges
     pub opens : AllOpen (layout (program_steps text program declared.inputs (cells_of declared.inputs environment))) states
@@ -77,7 +78,7 @@ module _ (text input : List ℕ) where
     pub ty : Ty
     pub environment : Environment
     pub parses : Parses text (Ok program)
-    pub types : ProgramTypes text program declared ty
+    pub types : program_verdict text program ≡ Ok (declared, ty)
     pub inputs : InputMeans program.dialect declared.inputs input (spells environment)
 
   -- The program with its input is accepted, and a graph may have its network.

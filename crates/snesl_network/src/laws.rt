@@ -4,7 +4,6 @@ ghost use Rattle.snesl_network.specs.OneNetwork.{HaveOneNetwork};
 
 use flow_assembly::plan_has_one_network;
 use snesl_syntax::one_answer;
-use snesl_types::one_typing;
 use snesl_values::one_input_meaning;
 
 /// A program with an input text has one network: all that is driven for them is the same, node by node, with the offsets
@@ -13,7 +12,6 @@ pub fn one_network()
     ensures { HaveOneNetwork }
 {
     one_answer();
-    one_typing();
     one_input_meaning();
     plan_has_one_network();
 }

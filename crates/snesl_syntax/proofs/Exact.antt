@@ -9,7 +9,7 @@ use Rattle.snesl_expressions.specs.Readers.{Stop, unexpected, beyond_depth, Read
 use Rattle.snesl_expressions.proofs.Reading.{bind_ok, within_unexpected, within_deeper, goes_on, ends_with, go_more, go_front}
 use Rattle.snesl_grammar.specs.Programs.{WholeProgram, FrontProgram, program_depth}
 use Rattle.snesl_syntax.specs.Answer.{at_end, refusal_of, answer_from, answer}
-use Rattle.snesl_syntax.specs.Parse.{BeginsSoFar, AnswersTokens, accepted, wrong, too_deep, ended}
+use Rattle.snesl_syntax.specs.Parse.{BeginsSoFar, AnswersBy, accepted, wrong, too_deep, ended}
 use Rattle.snesl_expressions.specs.Readers.{IsReaderOf}
 
 abbrev pub IsReaderOfPrograms : {State : Type 0} → Reader State ProgramTree → Type 0
@@ -17,7 +17,7 @@ IsReaderOfPrograms reader = IsReaderOf reader WholeProgram FrontProgram program_
 
 module _ {State : Type 0} (reader : Reader State ProgramTree) (right : IsReaderOfPrograms reader) where
   -- what is read begins a program, and so does each of its beginnings
-  pub so_far : (d : ℕ) (s : State) (ts : List Token) → 1 ≤ d → go reader d reader.start ts ≡ Ok s → BeginsSoFar d ts
+  pub so_far : (d : ℕ) (s : State) (ts : List Token) → 1 ≤ d → go reader d reader.start ts ≡ Ok s → BeginsSoFar FrontProgram d ts
   so_far d s ts least e = λ a b same.
       let f : go reader d reader.start (a ++ b) ≡ Ok s = rw same at e in
       let r = go_front reader d reader.start s a b f in
@@ -51,7 +51,7 @@ module _ {State : Type 0} (reader : Reader State ProgramTree) (right : IsReaderO
       )
 
   refused : (d len : ℕ) (s : State) (front rest : List Token) (t : Token) (stop : Stop) → 1 ≤ d → go reader d reader.start front ≡ Ok s
-      → step reader d s t ≡ Err stop → AnswersTokens d len (front ++ (t ∷ rest)) (Err (refusal_of stop t.at))
+      → step reader d s t ≡ Err stop → AnswersBy FrontProgram d len (front ++ (t ∷ rest)) (Err (refusal_of stop t.at))
   refused d len s front rest t unexpected least e f =
       wrong front rest t (so_far d s front least e)
       (λ k g. no_front k (k + d) s front t unexpected (go_more reader d (k + d) reader.start s front (omega arith) e)
@@ -62,10 +62,10 @@ module _ {State : Type 0} (reader : Reader State ProgramTree) (right : IsReaderO
 
   -- the answer where the tokens end
   pub finished : (d len : ℕ) (ts : List Token) (s : State) → 1 ≤ d → go reader d reader.start ts ≡ Ok s
-      → AnswersTokens d len ts (at_end len (reader.finished s))
+      → AnswersBy FrontProgram d len ts (at_end len (reader.finished s))
   finished d len ts s least e = by_form (reader.finished s) refl
     where
-      by_form : (found : Option ProgramTree) → reader.finished s ≡ found → AnswersTokens d len ts (at_end len found)
+      by_form : (found : Option ProgramTree) → reader.finished s ≡ found → AnswersBy FrontProgram d len ts (at_end len found)
       by_form (Some program) f = let w = right.whole d ts s program least e f in accepted w.0 w.1
       by_form None f =
           ended (so_far d s ts least e)
@@ -75,20 +75,20 @@ module _ {State : Type 0} (reader : Reader State ProgramTree) (right : IsReaderO
           cc (there, f))
 
   answers_from : (rest : List Token) (d len : ℕ) (s : State) (front : List Token) → 1 ≤ d → go reader d reader.start front ≡ Ok s
-      → AnswersTokens d len (front ++ rest) (answer reader d len s rest)
+      → AnswersBy FrontProgram d len (front ++ rest) (answer reader d len s rest)
   answers_from [] d len s front least e =
-      subst (λ x. AnswersTokens d len x (at_end len (reader.finished s))) (sym (append-nil front)) (finished d len front s least e)
+      subst (λ x. AnswersBy FrontProgram d len x (at_end len (reader.finished s))) (sym (append-nil front)) (finished d len front s least e)
   answers_from (t ∷ rest) d len s front least e =
       go_by (λ r f. answers_from rest d len r (front ++ (t ∷ [])) least (ends_with reader d reader.start s r front t e f)) (step reader d s t) refl
     where
-      go_by : ((r : State) → step reader d s t ≡ Ok r → AnswersTokens d len ((front ++ (t ∷ [])) ++ rest) (answer reader d len r rest))
+      go_by : ((r : State) → step reader d s t ≡ Ok r → AnswersBy FrontProgram d len ((front ++ (t ∷ [])) ++ rest) (answer reader d len r rest))
           → (x : Result State Stop) → step reader d s t ≡ x
-          → AnswersTokens d len (front ++ (t ∷ rest)) (answer_from x t.at (λ r. answer reader d len r rest))
-      go_by again (Ok r) f = subst (λ x. AnswersTokens d len x (answer reader d len r rest)) (append_assoc front (t ∷ []) rest) (again r f)
+          → AnswersBy FrontProgram d len (front ++ (t ∷ rest)) (answer_from x t.at (λ r. answer reader d len r rest))
+      go_by again (Ok r) f = subst (λ x. AnswersBy FrontProgram d len x (answer reader d len r rest)) (append_assoc front (t ∷ []) rest) (again r f)
       go_by again (Err stop) f = refused d len s front rest t stop least e f
 
   -- The reader's answer is one that the grammar wants.
-  pub answers : (d len : ℕ) (ts : List Token) → 1 ≤ d → AnswersTokens d len ts (answer reader d len reader.start ts)
+  pub answers : (d len : ℕ) (ts : List Token) → 1 ≤ d → AnswersBy FrontProgram d len ts (answer reader d len reader.start ts)
   answers d len ts least = answers_from ts d len reader.start [] least refl
 
   -- what was read is answered by what is left
@@ -135,11 +135,11 @@ module _ {State : Type 0} (reader : Reader State ProgramTree) (right : IsReaderO
   no_form d len ts s least e none (Some program) f = let w = right.whole d ts s program least e f in absurd (none program w.0 w.1)
   no_form d len ts s least e none None f = refl
 
-  runs_so_far : (d : ℕ) (ts : List Token) → BeginsSoFar d ts → (s : State) × (go reader d reader.start ts ≡ Ok s)
+  runs_so_far : (d : ℕ) (ts : List Token) → BeginsSoFar FrontProgram d ts → (s : State) × (go reader d reader.start ts ≡ Ok s)
   runs_so_far d ts so = front_runs d d ts (omega arith) (so ts [] (sym (append-nil ts)))
 
   -- There is one answer alone.
-  pub one_answer : {d len : ℕ} {ts : List Token} {found : Result ProgramTree Refusal} → AnswersTokens d len ts found → 1 ≤ d
+  pub one_answer : {d len : ℕ} {ts : List Token} {found : Result ProgramTree Refusal} → AnswersBy FrontProgram d len ts found → 1 ≤ d
       → found ≡ answer reader d len reader.start ts
   one_answer {d = d} {len = len} {ts = ts} (accepted {program = program} w h) least =
       let r = right.reads d ts program w h in

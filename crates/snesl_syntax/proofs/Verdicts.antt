@@ -1,5 +1,5 @@
 -- From the reader's answer to the grammar's, and to the one for the bytes.
-use Rattle.std.proofs.Common.{◌≡◌, ℕ, ◌≤◌, List, ◌++◌, length, Result, Ok, Err, refl, sym, ◌∙◌, ap, subst, arith}
+use Rattle.std.proofs.Common.{◌≡◌, ℕ, ◌≤◌, List, [], ◌∷◌, ◌++◌, length, Result, Ok, Err, refl, sym, ◌∙◌, ap, subst, arith}
 use Rattle.std.specs.Result.{IsErrAnd, IfOk, IfErr}
 use Rattle.snesl_data.specs.declared.refusal.Refusal.{Refusal}
 use Rattle.snesl_data.specs.declared.refusal.Refusal.TheVariants.{Lex, NoMemory}
@@ -14,15 +14,39 @@ use Rattle.snesl_grammar.specs.Limits.{greatest_length, greatest_depth}
 use Rattle.snesl_grammar.specs.Programs.{FrontProgram, program_depth}
 use Rattle.snesl_grammar.specs.Spelled.{IsSpelled}
 use Rattle.snesl_syntax.specs.Answer.{answer}
-use Rattle.snesl_syntax.specs.Parse.{AnswersTokens, accepted, wrong, too_deep, ended, Parses, too_long, bad_byte, read, HaveOneAnswer, BeginsProgram, FrontsBeginPrograms, IsOfText, IsRight, Returns}
+use Rattle.snesl_syntax.specs.Parse.{AnswersBy, AnswersTokens, accepted, wrong, too_deep, ended, Parses, too_long, bad_byte, read, HaveOneAnswer, BeginsProgram, FrontsBeginPrograms, IsOfText, IsRight, Returns}
 use Rattle.snesl_syntax.specs.DialectMachine.{reader, FindsWhole, FindsOneOf}
 use Rattle.snesl_expressions.proofs.Depths.{depth_pos}
 use Rattle.snesl_syntax.proofs.Exact.{so_far, answers, one_answer}
 use Rattle.snesl_syntax.proofs.ProgramsRead.{are_read}
 
+-- what begins a program is listed
+begun : (d : ℕ) (ts : List Token) → BeginsProgram d ts → FrontProgram d ts
+begun d ts b =
+    let least : 1 ≤ depth b.1.expression = depth_pos b.1.expression in
+    let shallow : program_depth b.1 ≤ d = b.3 in
+    let r = are_read.reads d (ts ++ b.0) b.1 b.2 b.3 in
+    so_far reader are_read d r.0 (ts ++ b.0) (omega arith) r.1 ts b.0 refl
+
+pub fronts_begin : FrontsBeginPrograms
+fronts_begin d ts = (λ f. are_read.completes d ts f, begun d ts)
+
+-- answers by what begins a program are those by what is listed
+answer_by : {P Q : ℕ → List Token → Type 0} → ((d : ℕ) (ts : List Token) → P d ts → Q d ts) → ((d : ℕ) (ts : List Token) → Q d ts → P d ts)
+    → {d len : ℕ} {ts : List Token} {found : Result ProgramTree Refusal} → AnswersBy P d len ts found → AnswersBy Q d len ts found
+answer_by to from (accepted w h) = accepted w h
+answer_by to from {d = d} (wrong front rest stop so none) =
+    wrong front rest stop (λ a b same. to d a (so a b same)) (λ k g. none k (from k (front ++ (stop ∷ [])) g))
+answer_by to from {d = d} (too_deep front rest stop so never deeper some) =
+    too_deep front rest stop (λ a b same. to d a (so a b same)) (λ g. never (from d (front ++ (stop ∷ [])) g)) deeper (to deeper (front ++ (stop ∷ [])) some)
+answer_by to from {d = d} (ended so none) = ended (λ a b same. to d a (so a b same)) none
+
+listed : {d len : ℕ} {ts : List Token} {found : Result ProgramTree Refusal} → AnswersTokens d len ts found → AnswersBy FrontProgram d len ts found
+listed a = answer_by begun are_read.completes a
+
 -- the answer of the reader for tokens is one that the grammar wants
 pub programs_answer : (d len : ℕ) (ts : List Token) → 1 ≤ d → AnswersTokens d len ts (answer reader d len reader.start ts)
-programs_answer d len ts least = answers reader are_read d len ts least
+programs_answer d len ts least = answer_by are_read.completes begun (answers reader are_read d len ts least)
 
 -- no text has two answers
 pub one_parse : HaveOneAnswer
@@ -35,20 +59,9 @@ one_parse bytes r s (bad_byte {at = at} h b) (read k t a) = absurd (no_both (dia
 one_parse bytes r s (read h t a) (too_long k) = absurd (omega arith)
 one_parse bytes r s (read h t a) (bad_byte {at = at} k b) = absurd (no_both (dialect_of bytes) t at b)
 one_parse bytes r s (read {tokens = ts} h t a) (read {tokens = us} k u b) =
-    one_answer reader are_read a (omega arith)
+    one_answer reader are_read (listed a) (omega arith)
     ∙ ap (answer reader greatest_depth (length bytes) reader.start) (one_tokens (dialect_of bytes) t us u)
-    ∙ sym (one_answer reader are_read b (omega arith))
-
--- what begins a program is listed
-begun : (d : ℕ) (ts : List Token) → BeginsProgram d ts → FrontProgram d ts
-begun d ts b =
-    let least : 1 ≤ depth b.1.expression = depth_pos b.1.expression in
-    let shallow : program_depth b.1 ≤ d = b.3 in
-    let r = are_read.reads d (ts ++ b.0) b.1 b.2 b.3 in
-    so_far reader are_read d r.0 (ts ++ b.0) (omega arith) r.1 ts b.0 refl
-
-pub fronts_begin : FrontsBeginPrograms
-fronts_begin d ts = (λ f. are_read.completes d ts f, begun d ts)
+    ∙ sym (one_answer reader are_read (listed b) (omega arith))
 
 -- what is the reader's answer is one of the grammar's, where that is
 pub right_by : (P : Result ProgramTree Refusal → Type 0) (x : Result Whole Refusal) (r : Result ProgramTree Refusal) → P r → FindsWhole x r → FindsOneOf P x

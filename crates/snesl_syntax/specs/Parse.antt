@@ -10,24 +10,31 @@ use Rattle.snesl_grammar.specs.View.{program_of}
 use Rattle.snesl_grammar.specs.Limits.{greatest_length, greatest_depth}
 use Rattle.snesl_grammar.specs.Programs.{WholeProgram, FrontProgram, program_depth}
 
--- each beginning of the tokens begins a program of at most this depth
-abbrev pub BeginsSoFar : ℕ → List Token → Type 0
-BeginsSoFar deep ts = (front back : List Token) → ts ≡ front ++ back → FrontProgram deep front
+-- a program within the depth begins with the tokens
+abbrev pub BeginsProgram : ℕ → List Token → Type 0
+BeginsProgram deep ts = (rest : List Token) × (program : ProgramTree) × WholeProgram (ts ++ rest) program × (program_depth program ≤ deep)
 
--- what is answered for the tokens of a text of so many bytes, within a depth
-pub data AnswersTokens (deep len : ℕ) : List Token → Result ProgramTree Refusal → Type 0 where
+-- each beginning of the tokens begins a program of at most this depth
+abbrev pub BeginsSoFar : (Begins : ℕ → List Token → Type 0) → ℕ → List Token → Type 0
+BeginsSoFar Begins deep ts = (front back : List Token) → ts ≡ front ++ back → Begins deep front
+
+-- what is answered for the tokens of a text of so many bytes, within a depth, by which tokens begin a program of which depth
+pub data AnswersBy (Begins : ℕ → List Token → Type 0) (deep len : ℕ) : List Token → Result ProgramTree Refusal → Type 0 where
   -- a program within the depth is accepted
-  accepted : {ts : List Token} {program : ProgramTree} → WholeProgram ts program → program_depth program ≤ deep → AnswersTokens deep len ts (Ok program)
+  accepted : {ts : List Token} {program : ProgramTree} → WholeProgram ts program → program_depth program ≤ deep → AnswersBy Begins deep len ts (Ok program)
   -- a token is wrong: those before it begin a program within the depth, and with it they begin none of any depth
-  wrong : (front rest : List Token) (stop : Token) → BeginsSoFar deep front → ((any : ℕ) → ¬ FrontProgram any (front ++ (stop ∷ [])))
-      → AnswersTokens deep len (front ++ (stop ∷ rest)) (Err (Syntax stop.at))
+  wrong : (front rest : List Token) (stop : Token) → BeginsSoFar Begins deep front → ((any : ℕ) → ¬ Begins any (front ++ (stop ∷ [])))
+      → AnswersBy Begins deep len (front ++ (stop ∷ rest)) (Err (Syntax stop.at))
   -- a token is too deep: those before it begin a program within the depth, and with it they begin deeper ones alone
-  too_deep : (front rest : List Token) (stop : Token) → BeginsSoFar deep front → (¬ FrontProgram deep (front ++ (stop ∷ [])))
-      → (deeper : ℕ) → FrontProgram deeper (front ++ (stop ∷ []))
-      → AnswersTokens deep len (front ++ (stop ∷ rest)) (Err Deep)
+  too_deep : (front rest : List Token) (stop : Token) → BeginsSoFar Begins deep front → (¬ Begins deep (front ++ (stop ∷ [])))
+      → (deeper : ℕ) → Begins deeper (front ++ (stop ∷ []))
+      → AnswersBy Begins deep len (front ++ (stop ∷ rest)) (Err Deep)
   -- the tokens end too early: they begin a program within the depth, and are none
-  ended : {ts : List Token} → BeginsSoFar deep ts → ((program : ProgramTree) → WholeProgram ts program → program_depth program ≤ deep → ⊥)
-      → AnswersTokens deep len ts (Err (Syntax len))
+  ended : {ts : List Token} → BeginsSoFar Begins deep ts → ((program : ProgramTree) → WholeProgram ts program → program_depth program ≤ deep → ⊥)
+      → AnswersBy Begins deep len ts (Err (Syntax len))
+
+abbrev pub AnswersTokens : (deep len : ℕ) → List Token → Result ProgramTree Refusal → Type 0
+AnswersTokens = AnswersBy BeginsProgram
 
 -- the answer for the bytes of a text, whose tokens are those of the dialect that it names
 pub data Parses : List ℕ → Result ProgramTree Refusal → Type 0 where
@@ -47,9 +54,6 @@ HaveOneAnswer = (bytes : List ℕ) (one other : Result ProgramTree Refusal) → 
 abbrev pub HaveSomeAnswer : Type 0
 HaveSomeAnswer = (bytes : List ℕ) → (answer : Result ProgramTree Refusal) × Parses bytes answer
 
--- a program within the depth begins with the tokens
-abbrev pub BeginsProgram : ℕ → List Token → Type 0
-BeginsProgram deep ts = (rest : List Token) × (program : ProgramTree) × WholeProgram (ts ++ rest) program × (program_depth program ≤ deep)
 
 -- that is what `FrontProgram` says
 abbrev pub FrontsBeginPrograms : Type 0

@@ -123,7 +123,7 @@ fn a_program_runs_to_a_line(rt: HostRuntime) -> Result<(), Fail> {
 
 // What is carried from three units to a reader of items of this kind.
 fn carried_units(alloc: Global, kind: Kind) -> Result<Option<(u64, u64)>, Refusal> {
-    let units = StreamNode::Source(Source::new(alloc, Stream::Units(3)));
+    let units = StreamNode::Source(Source::new(Stream::Units(3)));
     let reader = StreamNode::Sink(Node::new(Sink::new(kind), 0));
     carried(alloc, units, reader, 1)
 }

@@ -1,7 +1,9 @@
 // Each public call once, with ample memory.
 
 use snesl_console::complain;
-use snesl_data::{Counted, Datum, Dialect, FaultKind, Refusal, Ty, copy_datum, is_blank, text_of};
+use snesl_data::{
+    Counted, Datum, Dialect, Elements, FaultKind, Refusal, Ty, copy_datum, is_blank, text_of,
+};
 use snesl_lexer::{Kind, Token, tokens_of};
 use snesl_syntax::{Expr, Program, Span, parse};
 use snesl_trials::Expected;
@@ -16,8 +18,9 @@ use std::test::Fail;
 fn nested_datum(alloc: Global) -> Result<Datum, AllocError> {
     let numbers = vec![in alloc; Datum::Int(1), Datum::Int(-2)]?;
     let sequences = vec![in alloc; Datum::Seq(numbers), Datum::Seq(Vec::new(alloc))]?;
-    let vector = Box::new(alloc, Datum::Vec(sequences))?;
-    Ok(Datum::Pair(Box::new(alloc, Datum::Bool(true))?, vector))
+    let vector = Datum::Vec(Elements::of_data(alloc, sequences)?);
+    let first = Box::new(alloc, Datum::Bool(true))?;
+    Ok(Datum::Pair(first, Box::new(alloc, vector)?))
 }
 
 // The texts of a value and of its copy.

@@ -51,4 +51,6 @@ mod threads;
 #[cfg(test)]
 mod types;
 #[cfg(test)]
+mod vectors;
+#[cfg(test)]
 mod writing;

@@ -11,6 +11,8 @@ pub mod Wants
 pub use Rattle.snesl_data.specs.declared.dialect.Dialect
 pub use Rattle.snesl_data.specs.declared.ty.Ty as TypeOf
 pub use Rattle.snesl_data.specs.declared.datum.Datum
+pub use Rattle.snesl_data.specs.declared.datum.Elements
+pub use Rattle.snesl_data.specs.declared.builder.Builder
 pub use Rattle.snesl_data.specs.declared.fault.Fault
 pub use Rattle.snesl_data.specs.declared.fault.FaultKind
 pub use Rattle.snesl_data.specs.declared.refusal.Refusal
@@ -18,6 +20,7 @@ pub use Rattle.snesl_data.specs.declared.counted.Counted
 pub use Rattle.snesl_data.specs.Integers
 pub use Rattle.snesl_data.specs.Types
 pub use Rattle.snesl_data.specs.Values
+pub use Rattle.snesl_data.specs.Builders
 pub use Rattle.snesl_data.specs.Faults
 pub use Rattle.snesl_data.specs.Refusals
 pub use Rattle.snesl_data.specs.Text

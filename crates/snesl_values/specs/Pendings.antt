@@ -2,13 +2,16 @@
 use Rattle.std.specs.Prelude.{List, [], ◌∷◌, map, Option, option_map}
 use Rattle.snesl_data.specs.declared.datum.Datum.{Datum}
 use Rattle.snesl_data.specs.Values.{value_of}
+use Rattle.snesl_data.specs.Builders.{built_in}
+use Rattle.snesl_values.specs.declared.marks.Bracket.TheVariants.{Square, Curly}
 use Rattle.snesl_values.specs.declared.builder.Pending.{Pending}
-use Rattle.snesl_values.specs.declared.builder.Pending.TheVariants.{Items, First, Second}
+use Rattle.snesl_values.specs.declared.builder.Pending.TheVariants.{Vector, Sequence, First, Second}
 use Rattle.snesl_values.specs.Places.{OpenPart, in_items, in_first, in_second, Reading}
 
 -- the frame that something open is
 abbrev pub frame_of : Pending → OpenPart
-frame_of (Items bracket items) = in_items bracket (map value_of items.items)
+frame_of (Vector elements) = in_items Square (built_in elements)
+frame_of (Sequence items) = in_items Curly (map value_of items.items)
 frame_of First = in_first
 frame_of (Second datum) = in_second (value_of datum)
 

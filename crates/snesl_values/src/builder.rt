@@ -1,19 +1,23 @@
 // Values, built from the tokens of a text that spell them.
 
 ghost use Rattle.std.specs.Prelude.{◌≡◌, ◌∷◌, [], map, option_map, IfOk, OnOk, Some, None};
-ghost use Rattle.snesl_data.specs.Values.{value_of};
-ghost use Rattle.snesl_values.specs.Places.{value_at, on_none, on_some, close_none, read_value, bracket_value, in_items, in_first, in_second, unlawful};
+ghost use Rattle.snesl_data.specs.Values.{a_vec, value_of, values_of};
+ghost use Rattle.snesl_data.specs.Builders.{built_in};
+ghost use Rattle.snesl_values.specs.declared.marks.Bracket.TheVariants.{Square, Curly};
+ghost use Rattle.snesl_values.specs.Places.{value_at, on_none, on_some, close_none, read_value, in_items, in_first, in_second, unlawful};
 ghost use Rattle.snesl_values.specs.Pendings.{frames_of, reading_of};
 
 use crate::marks::{Bracket, Mark, mark_at};
-use snesl_data::Datum;
+use snesl_data::{Builder, Datum};
 use std::alloc::{AllocError, Global};
 
 // What is open after the tokens read so far.
 #[derive(Drop)]
 pub(crate) enum Pending {
-    // A vector or a sequence, by its bracket, with its items so far.
-    Items(Bracket, Vec<Datum>),
+    // A vector with its elements so far.
+    Vector(Builder),
+    // A sequence with its items so far.
+    Sequence(Vec<Datum>),
     // A pair whose first part comes next, or was just read.
     First,
     // A pair with this first part, whose second part comes next, or was just read.
@@ -81,7 +85,7 @@ fn before_value(
             open_bracket(alloc, pending, bracket)?;
             Ok(None)
         }
-        Mark::Close(_) => Ok(close_empty(pending)),
+        Mark::Close(_) => close_empty(alloc, pending),
         _ => Ok(unlawful(pending)),
     }
 }
@@ -97,21 +101,26 @@ fn open_bracket(
 {
     match bracket {
         Bracket::Round => pending.push(Pending::First)?,
-        Bracket::Square => pending.push(Pending::Items(bracket, Vec::new(alloc)))?,
-        Bracket::Curly => pending.push(Pending::Items(bracket, Vec::new(alloc)))?,
+        Bracket::Square => pending.push(Pending::Vector(Builder::Empty))?,
+        Bracket::Curly => pending.push(Pending::Sequence(Vec::new(alloc)))?,
     }
     Ok(())
 }
 
 // Closes a bracket where a value could come next. The result is the value that is whole then.
-fn close_empty(pending: &mut Vec<Pending>) -> Option<Datum>
-    ensures { reading_of pending.new.items result ≡ close_none (frames_of pending.old.items) }
+fn close_empty(alloc: Global, pending: &mut Vec<Pending>) -> Result<Option<Datum>, AllocError>
+    ensures { IfOk result (λ last. reading_of pending.new.items last ≡
+        close_none (frames_of pending.old.items)) }
 {
     match pending.pop() {
-        Some(Pending::Items(bracket, items)) => Some(bracket_value(bracket, items)),
-        Some(Pending::First) => unlawful(pending),
-        Some(Pending::Second(_)) => unlawful(pending),
-        None => unlawful(pending),
+        Some(Pending::Vector(elements)) => {
+            let vector = vector_of(alloc, elements)?;
+            Ok(Some(vector))
+        }
+        Some(Pending::Sequence(items)) => Ok(Some(Datum::Seq(items))),
+        Some(Pending::First) => Ok(unlawful(pending)),
+        Some(Pending::Second(_)) => Ok(unlawful(pending)),
+        None => Ok(unlawful(pending)),
     }
 }
 
@@ -126,35 +135,63 @@ fn behind_value(
         on_some (value_of datum) (frames_of pending.old.items) mark) }
 {
     match pending.pop() {
-        Some(Pending::Items(bracket, items)) => after_item(pending, bracket, items, datum, mark),
+        Some(Pending::Vector(elements)) => after_element(alloc, pending, elements, datum, mark),
+        Some(Pending::Sequence(items)) => after_item(pending, items, datum, mark),
         Some(Pending::First) => after_first(pending, datum, mark),
         Some(Pending::Second(first)) => after_second(alloc, pending, first, datum, mark),
         None => Ok(Some(datum)),
     }
 }
 
-// The same after an item of a vector or a sequence.
+// The same after an element of a vector.
+fn after_element(
+    alloc: Global,
+    pending: &mut Vec<Pending>,
+    elements: Builder,
+    datum: Datum,
+    mark: Mark,
+) -> Result<Option<Datum>, AllocError>
+    ensures { IfOk result (λ last. reading_of pending.new.items last ≡
+        on_some (value_of datum)
+        (in_items Square (built_in elements) ∷ frames_of pending.old.items) mark) }
+{
+    let mut all = elements;
+    match mark {
+        Mark::Comma => {
+            all.push(alloc, datum)?;
+            pending.push(Pending::Vector(all))?;
+            Ok(None)
+        }
+        Mark::Close(_) => {
+            all.push(alloc, datum)?;
+            let vector = vector_of(alloc, all)?;
+            Ok(Some(vector))
+        }
+        _ => Ok(unlawful(pending)),
+    }
+}
+
+// The same after an item of a sequence.
 fn after_item(
     pending: &mut Vec<Pending>,
-    bracket: Bracket,
     items: Vec<Datum>,
     datum: Datum,
     mark: Mark,
 ) -> Result<Option<Datum>, AllocError>
     ensures { IfOk result (λ last. reading_of pending.new.items last ≡
         on_some (value_of datum)
-        (in_items bracket (map value_of items.items) ∷ frames_of pending.old.items) mark) }
+        (in_items Curly (map value_of items.items) ∷ frames_of pending.old.items) mark) }
 {
     let mut all = items;
     match mark {
         Mark::Comma => {
             all.push(datum)?;
-            pending.push(Pending::Items(bracket, all))?;
+            pending.push(Pending::Sequence(all))?;
             Ok(None)
         }
         Mark::Close(_) => {
             all.push(datum)?;
-            Ok(Some(bracket_value(bracket, all)))
+            Ok(Some(Datum::Seq(all)))
         }
         _ => Ok(unlawful(pending)),
     }
@@ -207,13 +244,12 @@ fn unlawful(pending: &mut Vec<Pending>) -> Option<Datum>
     Some(Datum::Bool(false))
 }
 
-// The vector or the sequence of these items, by its bracket.
-fn bracket_value(bracket: Bracket, items: Vec<Datum>) -> Datum
-    ensures { value_of result ≡ bracket_value bracket (map value_of items.items) }
+// The vector of these elements.
+fn vector_of(alloc: Global, elements: Builder) -> Result<Datum, AllocError>
+    ensures { IfOk result (λ datum. value_of datum ≡ a_vec (values_of (built_in elements))) }
 {
-    match bracket {
-        Bracket::Square => Datum::Vec(items),
-        Bracket::Curly => Datum::Seq(items),
-        Bracket::Round => Datum::Bool(false),
+    match elements.finish(alloc) {
+        Ok(all) => Ok(Datum::Vec(all)),
+        Err(_) => Err(AllocError),
     }
 }

@@ -22,6 +22,6 @@ pub use inputs::{InputError, inputs_are_placed, inputs_fit, one_input_meaning, r
 pub use marks::{Bracket, Found, Mark, mark_at, sign_mark};
 pub use places::Placed;
 pub use snesl_data::{
-    Counted, Datum, Dialect, Fault, FaultKind, Refusal, Ty, copy_datum, copy_ty, digits_len,
-    is_blank, text_of, word_len,
+    Builder, Counted, Datum, Dialect, Elements, Fault, FaultKind, Refusal, Ty, copy_datum, copy_ty,
+    digits_len, is_blank, text_of, word_len,
 };

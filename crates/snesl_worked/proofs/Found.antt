@@ -19,9 +19,8 @@ use Rattle.snesl_syntax.specs.DialectMachine.{reader}
 use Rattle.snesl_syntax.specs.Parse.{Parses, read, bad_byte}
 use Rattle.snesl_syntax.proofs.Verdicts.{programs_answer}
 use Rattle.snesl_evaluation.specs.Eval.{program_value}
-use Rattle.snesl_types.specs.Programs.{Declared, ProgramTypes, HasTyping}
+use Rattle.snesl_types.specs.Programs.{Declared}
 use Rattle.snesl_types.specs.Verdicts.{program_verdict}
-use Rattle.snesl_types.proofs.ProgramSound.{has_typing, refused_first}
 use Rattle.snesl_meaning.specs.Meaning.{Meaning, Means, meaning_of, no_program, ill_typed, bad_input, evaluated, is_refused}
 use Rattle.snesl_worked.specs.Rows.{Row, Holds, Hold}
 
@@ -113,19 +112,19 @@ no_input : (dialect : Dialect) → InputMeans dialect [] [] (spells [])
 unfolding next next_at first_token
 no_input dialect = lawful (omega arith) none refl (record { fits = tt; entries = refl })
 
-of_inputs : (text : List ℕ) (program : ProgramTree) (t : Ty) → Parses text (Ok program) → (inputs : List Declaration) → HasTyping text program inputs t
-    → IsMeaning text (by_inputs text program inputs)
-of_inputs text program t p [] (declared, h, same) =
+of_inputs : (text : List ℕ) (program : ProgramTree) (declared : Declared) (t : Ty) → Parses text (Ok program) → program_verdict text program ≡ Ok (declared, t)
+    → (inputs : List Declaration) → declared.inputs ≡ inputs → IsMeaning text (by_inputs text program inputs)
+of_inputs text program declared t p h [] same =
     evaluated p h (subst (λ inputs. InputMeans program.dialect inputs [] (spells [])) (sym same) (no_input program.dialect))
-of_inputs text program t p (declaration ∷ declarations) h = tt
+of_inputs text program declared t p h (declaration ∷ declarations) same = tt
 
 of_verdict : (text : List ℕ) (program : ProgramTree) → Parses text (Ok program) → (verdict : Result (Declared × Ty) Refusal) → program_verdict text program ≡ verdict
     → IsMeaning text (by_verdict text program verdict)
-of_verdict text program p (Ok found) e = of_inputs text program found.1 p found.0.inputs (has_typing text program found.0 found.1 e)
-of_verdict text program p (Err (refusals.Name at)) e = ill_typed p (refused_first text program (refusals.Name at) (inr e))
-of_verdict text program p (Err (refusals.Mismatch at)) e = ill_typed p (refused_first text program (refusals.Mismatch at) (inr e))
-of_verdict text program p (Err (refusals.Streamed at)) e = ill_typed p (refused_first text program (refusals.Streamed at) (inr e))
-of_verdict text program p (Err refusals.TooBig) e = ill_typed p (refused_first text program refusals.TooBig (inr e))
+of_verdict text program p (Ok found) e = of_inputs text program found.0 found.1 p e found.0.inputs refl
+of_verdict text program p (Err (refusals.Name at)) e = ill_typed p e
+of_verdict text program p (Err (refusals.Mismatch at)) e = ill_typed p e
+of_verdict text program p (Err (refusals.Streamed at)) e = ill_typed p e
+of_verdict text program p (Err refusals.TooBig) e = ill_typed p e
 of_verdict text program p (Err other) e = tt
 
 of_answer : (text : List ℕ) (it : Result ProgramTree Refusal) → Parses text it → IsMeaning text (by_answer text it)
@@ -165,7 +164,7 @@ typed_tree text = by_tokens text (reading (length text) (dialect_of text) 0 text
 
 -- this is the typed program of the text, if one was found
 abbrev IsTyped : List ℕ → Option TypedTree → Type 0
-IsTyped text (Some (program, typing)) = Parses text (Ok program) × HasTyping text program typing.0.inputs typing.1
+IsTyped text (Some (program, typing)) = Parses text (Ok program) × (program_verdict text program ≡ Ok typing)
 IsTyped text None = Unit {0}
 
 is_typed : (text : List ℕ) → length text ≤ greatest_length → IsTyped text (typed_tree text)
@@ -173,7 +172,7 @@ is_typed text fits = of_reads (reading (length text) (dialect_of text) 0 text) (
   where
     of_typing : (program : ProgramTree) → Parses text (Ok program) → (verdict : Result (Declared × Ty) Refusal) → program_verdict text program ≡ verdict
         → IsTyped text (by_typing program verdict)
-    of_typing program p (Ok typing) e = (p, has_typing text program typing.0 typing.1 e)
+    of_typing program p (Ok typing) e = (p, e)
     of_typing program p (Err refusal) e = tt
 
     of_parsing : (it : Result ProgramTree Refusal) → Parses text it → IsTyped text (by_parsing text it)
@@ -201,16 +200,16 @@ pub row_holds_on : (row : Row) (told : InputAnswer) → leb (length (codes row.p
     → FollowsFrom row told (typed_tree (codes row.program)) → Holds row
 row_holds_on row told short h = of_typed (typed_tree (codes row.program)) (is_typed (codes row.program) (leb-true _ _ short)) h
   where
-    of_answer : (program : ProgramTree) (typing : Declared × Ty) → Parses (codes row.program) (Ok program) → (declared : Declared) → ProgramTypes (codes row.program) program declared typing.1
-        → (answer : InputAnswer) → InputMeans program.dialect declared.inputs (codes row.input) answer
+    of_answer : (program : ProgramTree) (typing : Declared × Ty) → Parses (codes row.program) (Ok program) → program_verdict (codes row.program) program ≡ Ok typing
+        → (answer : InputAnswer) → InputMeans program.dialect typing.0.inputs (codes row.input) answer
         → Means (codes row.program) (codes row.input) (answered (codes row.program) (program, typing) answer)
-    of_answer program typing p declared types (spells environment) means = evaluated p types means
-    of_answer program typing p declared types (refused_at at) means = bad_input p types means
+    of_answer program typing p types (spells environment) means = evaluated p types means
+    of_answer program typing p types (refused_at at) means = bad_input p types means
 
     of_typed : (it : Option TypedTree) → IsTyped (codes row.program) it → FollowsFrom row told it → Holds row
-    of_typed (Some (program, typing)) (p, (declared, types, same)) (means, e) =
+    of_typed (Some (program, typing)) (p, types) (means, e) =
         subst (Means (codes row.program) (codes row.input)) e
-        (of_answer program typing p declared types told (subst (λ inputs. InputMeans program.dialect inputs (codes row.input) told) (sym same) means))
+        (of_answer program typing p types told means)
     of_typed None typed h = absurd h
 
 -- Rows.

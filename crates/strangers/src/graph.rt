@@ -11,7 +11,7 @@ use std::alloc::Global;
 /// Three units, and what drops them.
 pub fn units(alloc: Global) -> Result<Option<Graph>, Refusal> {
     let mut builder = GraphBuilder::new(alloc);
-    let writer = builder.node(StreamNode::Source(Source::new(alloc, Stream::Units(3))))?;
+    let writer = builder.node(StreamNode::Source(Source::new(Stream::Units(3))))?;
     let reader = builder.node(StreamNode::Sink(Node::new(Sink::new(Kind::Unit), 0)))?;
     let edge = Edge {
         writer,
@@ -57,7 +57,7 @@ pub fn block_steps<E: Ends>(graph: &mut Graph, ends: &mut E, most: usize) -> usi
 /// Three units settled by a schedule, which names a node that is not there too.
 pub fn settled(alloc: Global) -> Result<Option<Settled>, Refusal> {
     let mut builder = GraphBuilder::new(alloc);
-    builder.node(StreamNode::Source(Source::new(alloc, Stream::Units(3))))?;
+    builder.node(StreamNode::Source(Source::new(Stream::Units(3))))?;
     builder.node(StreamNode::Sink(Node::new(Sink::new(Kind::Unit), 0)))?;
     let edge = Edge {
         writer: 0,

@@ -39,7 +39,7 @@ pub fn emitted<T: Transducer>(node: &mut T) -> Result<Option<Msg>, AllocError> {
 
 /// The first unit of three.
 pub fn first_unit(alloc: Global) -> Result<Msg, AllocError> {
-    let mut units = Source::new(alloc, Stream::Units(3));
+    let mut units = Source::new(Stream::Units(3));
     units.emit()
 }
 
@@ -77,7 +77,7 @@ pub fn operators() -> [Want; 2] {
 
 /// What a copy to two outputs and a sink want.
 pub fn copies(alloc: Global) -> [Want; 2] {
-    let fork = Fork::new(workers::Fork::new(alloc, Kind::Unit, 2), 0);
+    let fork = Fork::new(workers::Fork::new(Kind::Unit, 2), 0);
     let sink = Sink::new(workers::Sink::new(Kind::Unit), 0);
     [wanted(&fork), wanted(&sink)]
 }

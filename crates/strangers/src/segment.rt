@@ -24,7 +24,7 @@ pub fn flags() -> [Want; 7] {
 /// What transducers want that move items of segments.
 pub fn items(alloc: Global) -> [Want; 4] {
     [
-        Dist::new(workers::Dist::new(alloc, Kind::Int), 0).want(),
+        Dist::new(workers::Dist::new(Kind::Int), 0).want(),
         Pack::new(workers::Pack::new(Kind::Int), 0).want(),
         PackGroups::new(workers::PackGroups::new(), 0).want(),
         Interleave::new(workers::Interleave::new(Kind::Int), 0).want(),

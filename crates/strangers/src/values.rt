@@ -1,7 +1,7 @@
 // Types, values, faults, refusals and texts.
 use snesl_values::{
-    Counted, Datum, Dialect, Fault, FaultKind, InputError, Inputs, Refusal, Ty, read_inputs,
-    text_of,
+    Builder, Counted, Datum, Dialect, Elements, Fault, FaultKind, InputError, Inputs, Refusal, Ty,
+    read_inputs, text_of,
 };
 use std::alloc::{AllocError, Global};
 use std::io::{self, Read, Write};
@@ -27,6 +27,31 @@ pub fn text_of_pairs(alloc: Global) -> Result<Vec<u8>, AllocError> {
     let mut items = Vec::new(alloc);
     items.push(pair)?;
     text_of(alloc, &Datum::Seq(items))
+}
+
+/// The elements of a vector of these two.
+pub fn two_elements(alloc: Global, first: Datum, second: Datum) -> Result<Elements, AllocError> {
+    let mut builder = Builder::Empty;
+    builder.push(alloc, first)?;
+    builder.push(alloc, second)?;
+    match builder.finish(alloc) {
+        Ok(elements) => Ok(elements),
+        Err(_) => Err(AllocError),
+    }
+}
+
+/// The text of the vector of these elements, and how many there are.
+pub fn vector_told(alloc: Global, elements: &Elements) -> Result<(Vec<u8>, usize), AllocError> {
+    let vector = Datum::Vec(elements.share()?);
+    Ok((text_of(alloc, &vector)?, elements.len()))
+}
+
+/// The first element, if there is one, and all of them.
+pub fn elements_copied(
+    alloc: Global,
+    elements: &Elements,
+) -> Result<(Option<Datum>, Vec<Datum>), AllocError> {
+    Ok((elements.at(alloc, 0)?, elements.data(alloc)?))
 }
 
 /// The number and the place of a fault.

@@ -1,4 +1,5 @@
-// The nodes that take memory while they run, each by itself: those that copy vectors, lay out values, or gather a text.
+// The nodes that take memory while they run, each by itself: those that lay out values, or gather a text; and those that share
+// vectors, which take none.
 //
 // A line is printed for each: what it did, message by message (`feeding.rt`), what it wants at last, and how many of its calls were
 // refused for want of memory. A call that is refused is made again, with the same message, and the node is to be as it was before:
@@ -43,7 +44,7 @@ fn try_source<R: Print + AllocGlobal>(rt: &R) -> Result<()> {
     all.push(vector(alloc, &[1, 2])?)?;
     all.push(vector(alloc, &[])?)?;
     let none = Vec::new(alloc);
-    let node = StreamNode::Source(Source::new(alloc, Stream::Vectors(all)));
+    let node = StreamNode::Source(Source::new(Stream::Vectors(all)));
     try_node(rt, "source", node, none)
 }
 
@@ -61,7 +62,7 @@ fn try_text_source<R: Print + AllocGlobal>(rt: &R) -> Result<()> {
 fn try_fork<R: Print + AllocGlobal>(rt: &R) -> Result<()> {
     let alloc = rt.alloc();
     let inlets = vec![in alloc; vectors(alloc)?]?;
-    let fork = Fork::new(alloc, Kind::Vec, 3);
+    let fork = Fork::new(Kind::Vec, 3);
     try_node(rt, "fork", StreamNode::Fork(Node::new(fork, AT)), inlets)
 }
 
@@ -69,7 +70,7 @@ fn try_dist<R: Print + AllocGlobal>(rt: &R) -> Result<()> {
     let alloc = rt.alloc();
     let segments = flags(alloc, &[false, false, true, false, true])?;
     let inlets = vec![in alloc; vectors(alloc)?, segments]?;
-    let dist = Dist::new(alloc, Kind::Vec);
+    let dist = Dist::new(Kind::Vec);
     try_node(rt, "dist", StreamNode::Dist(Node::new(dist, AT)), inlets)
 }
 

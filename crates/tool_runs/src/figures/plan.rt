@@ -51,15 +51,12 @@ fn add_nodes(builder: &mut GraphBuilder<StreamNode>, alloc: Global, count: u64) 
 {
     let number = Scalar::Int(i128::from(count));
     let (times, sum) = (BinaryOperator::Multiply, Reduction::Sum);
-    add(
-        builder,
-        StreamNode::Source(Source::new(alloc, Stream::Units(1))),
-    )?;
+    add(builder, StreamNode::Source(Source::new(Stream::Units(1))))?;
     add(builder, StreamNode::Const(Node::new(Const::new(number), 1)))?;
     add(builder, StreamNode::Iota(Node::new(Iota::new(), 2)))?;
     add(
         builder,
-        StreamNode::Fork(Node::new(Fork::new(alloc, Kind::Bool, 2), 3)),
+        StreamNode::Fork(Node::new(Fork::new(Kind::Bool, 2), 3)),
     )?;
     add(builder, StreamNode::UnitsOf(Node::new(UnitsOf::new(), 4)))?;
     add(
@@ -68,7 +65,7 @@ fn add_nodes(builder: &mut GraphBuilder<StreamNode>, alloc: Global, count: u64) 
     )?;
     add(
         builder,
-        StreamNode::Fork(Node::new(Fork::new(alloc, Kind::Int, 2), 6)),
+        StreamNode::Fork(Node::new(Fork::new(Kind::Int, 2), 6)),
     )?;
     add(
         builder,

@@ -4,7 +4,7 @@ use crate::nodes::inlets::Inlet;
 use flow_base::{Printing, Transducer};
 use flow_messages::{Item, Msg};
 use kahn::Want;
-use snesl_data::text_of;
+use snesl_data::{Datum, text_of};
 use std::alloc::{AllocError, Global};
 use std::fmt;
 
@@ -111,7 +111,7 @@ impl Fed {
     // A copy of the next message at a port, if there is one.
     fn next(&self, port: usize) -> Result<Option<Msg>, AllocError> {
         match self.inlets.get(port) {
-            Some(inlet) => inlet.next(self.alloc),
+            Some(inlet) => inlet.next(),
             None => Ok(None),
         }
     }
@@ -140,8 +140,8 @@ fn word_of(alloc: Global, way: char, port: usize, message: &Msg) -> Result<Strin
         Msg::Item(Item::Unit) => format!(in alloc; " {way}{port} unit"),
         Msg::Item(Item::Bool(truth)) => format!(in alloc; " {way}{port} {truth}"),
         Msg::Item(Item::Int(number)) => format!(in alloc; " {way}{port} {number}"),
-        Msg::Item(Item::Vec(datum)) => {
-            let text = text_of(alloc, datum)?;
+        Msg::Item(Item::Vec(elements)) => {
+            let text = text_of(alloc, &Datum::Vec(elements.share()?))?;
             format!(in alloc; " {way}{port} {}", text.escape_ascii())
         }
     }

@@ -1,7 +1,7 @@
 // What comes in at the inputs of nodes.
 
 use flow_messages::{Item, Msg};
-use snesl_data::{Datum, Ty};
+use snesl_data::{Builder, Datum, Elements, Ty};
 use std::alloc::{AllocError, Global};
 
 /// The messages that come in at an input, the next as the first that was not read.
@@ -17,10 +17,10 @@ impl Inlet {
         Inlet { messages, read: 0 }
     }
 
-    /// A copy of the next message, if there is one. The error is that memory was refused.
-    pub fn next(&self, alloc: Global) -> Result<Option<Msg>, AllocError> {
+    /// A copy of the next message, if there is one. Its only error is that too many share a vector.
+    pub fn next(&self) -> Result<Option<Msg>, AllocError> {
         match self.messages.get(self.read) {
-            Some(Msg::Item(item)) => Ok(Some(Msg::Item(item.copy(alloc)?))),
+            Some(Msg::Item(item)) => Ok(Some(Msg::Item(item.copy()?))),
             Some(Msg::End) => Ok(Some(Msg::End)),
             None => Ok(None),
         }
@@ -66,7 +66,7 @@ pub fn pairs(alloc: Global) -> Result<Inlet, AllocError> {
     let mut all = Vec::new(alloc);
     all.push(pair(alloc, 8, &[1, 2])?)?;
     all.push(pair(alloc, 9, &[])?)?;
-    let vector = Item::of_datum(alloc, Datum::Vec(all))?;
+    let vector = Item::of_elements(Elements::of_data(alloc, all)?);
     let mut messages = Vec::new(alloc);
     messages.push(Msg::Item(vector))?;
     messages.push(Msg::End)?;
@@ -80,23 +80,23 @@ pub fn pairs_type(alloc: Global) -> Result<Ty, AllocError> {
     Ok(Ty::Pair(number, Box::new(alloc, numbers)?))
 }
 
-/// A vector of numbers.
-pub fn vector(alloc: Global, all: &[i128]) -> Result<Datum, AllocError> {
-    let mut elements = Vec::new(alloc);
+/// The elements of a vector of numbers.
+pub fn vector(alloc: Global, all: &[i128]) -> Result<Elements, AllocError> {
+    let mut elements = Builder::Empty;
     for number in all {
-        elements.push(Datum::Int(*number))?;
+        elements.push(alloc, Datum::Int(*number))?;
     }
-    Ok(Datum::Vec(elements))
+    elements.finish(alloc).map_err(|_| AllocError)
 }
 
 fn vector_message(alloc: Global, all: &[i128]) -> Result<Msg, AllocError> {
     let vector = vector(alloc, all)?;
-    Ok(Msg::Item(Item::of_datum(alloc, vector)?))
+    Ok(Msg::Item(Item::of_elements(vector)))
 }
 
 // A pair of a number and a vector.
 fn pair(alloc: Global, first: i128, second: &[i128]) -> Result<Datum, AllocError> {
-    let second = vector(alloc, second)?;
+    let second = Datum::Vec(vector(alloc, second)?);
     let first = Box::new(alloc, Datum::Int(first))?;
     Ok(Datum::Pair(first, Box::new(alloc, second)?))
 }

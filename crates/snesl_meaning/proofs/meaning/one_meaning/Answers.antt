@@ -4,6 +4,6 @@ use Rattle.snesl_meaning.proofs.meaning.one_meaning.Goals as goal
 
 pub returns : goal.returns
 returns c = record {
-  one = one_meaning c.one_answer.ensures.one c.one_typing.ensures.one c.one_input_meaning.ensures.one;
-  some = some_meaning c.one_answer.ensures.some c.one_typing.ensures.some c.one_input_meaning.ensures.some;
+  one = one_meaning c.one_answer.ensures.one c.one_input_meaning.ensures.one;
+  some = some_meaning c.one_answer.ensures.some c.one_input_meaning.ensures.some;
 }

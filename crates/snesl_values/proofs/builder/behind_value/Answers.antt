@@ -1,15 +1,21 @@
 use Rattle.std.proofs.Common.{◌≡◌, List, Some, IfOk, sym, ap, ◌∙◌, subst, arith}
 use Rattle.snesl_data.specs.Values.{value_of}
-use Rattle.snesl_values.specs.declared.builder.Pending.TheVariants.{Items, First, Second}
+use Rattle.snesl_values.specs.declared.builder.Pending.TheVariants.{Vector, Sequence, First, Second}
 use Rattle.snesl_values.specs.Places.{OpenPart, Reading, on_some}
 use Rattle.snesl_values.specs.Pendings.{reading_of}
 use Rattle.snesl_values.proofs.Pendings.{popped, empties}
 use Rattle.snesl_values.proofs.builder.behind_value.Goals as goal
 
-pub returns-in-Some-Items : goal.returns-in-Some-Items
-returns-in-Some-Items c =
+pub returns-in-Some-Vector : goal.returns-in-Some-Vector
+returns-in-Some-Vector c =
+    subst (λ (f : List OpenPart). IfOk c.after_element.result (λ last. reading_of c.after_element.new.pending.items last ≡ on_some (value_of c.args.datum) f c.args.mark))
+    (popped c.args.pending.now.items c.pop.new.self.items c.in-Some-Vector.field-0 (Vector c.in-Some-Vector.elements) c.in-Some-Vector.ensures.items c.in-Some-Vector.field-0-is)
+    c.after_element.ensures
+
+pub returns-in-Some-Sequence : goal.returns-in-Some-Sequence
+returns-in-Some-Sequence c =
     subst (λ (f : List OpenPart). IfOk c.after_item.result (λ last. reading_of c.after_item.new.pending.items last ≡ on_some (value_of c.args.datum) f c.args.mark))
-    (popped c.args.pending.now.items c.pop.new.self.items c.in-Some-Items.field-0 (Items c.in-Some-Items.bracket c.in-Some-Items.items) c.in-Some-Items.ensures.items c.in-Some-Items.field-0-is)
+    (popped c.args.pending.now.items c.pop.new.self.items c.in-Some-Sequence.field-0 (Sequence c.in-Some-Sequence.items) c.in-Some-Sequence.ensures.items c.in-Some-Sequence.field-0-is)
     c.after_item.ensures
 
 pub returns-in-Some-First : goal.returns-in-Some-First

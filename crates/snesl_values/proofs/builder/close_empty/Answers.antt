@@ -1,15 +1,21 @@
 use Rattle.std.proofs.Common.{Some, sym, ap, ◌∙◌, arith}
 use Rattle.snesl_data.specs.Values.{Value}
-use Rattle.snesl_values.specs.declared.builder.Pending.TheVariants.{Items, First, Second}
+use Rattle.snesl_data.proofs.Data.{value_of-Seq}
+use Rattle.snesl_values.specs.declared.builder.Pending.TheVariants.{Vector, Sequence, First, Second}
 use Rattle.snesl_values.specs.Places.{Reading, close_none}
 use Rattle.snesl_values.specs.Pendings.{frames_of}
 use Rattle.snesl_values.proofs.Pendings.{popped, empties}
 use Rattle.snesl_values.proofs.builder.close_empty.Goals as goal
 
-pub returns-in-Some-Items : goal.returns-in-Some-Items
-returns-in-Some-Items c =
-    ap (λ (v : Value). let r : Reading = (frames_of c.pop.new.self.items, Some v) in r) c.bracket_value.ensures
-    ∙ ap close_none (popped c.args.pending.now.items c.pop.new.self.items c.in-Some-Items.field-0 (Items c.in-Some-Items.bracket c.in-Some-Items.items) c.in-Some-Items.ensures.items c.in-Some-Items.field-0-is)
+pub returns-in-Some-Vector : goal.returns-in-Some-Vector
+returns-in-Some-Vector c =
+    ap (λ (v : Value). let r : Reading = (frames_of c.pop.new.self.items, Some v) in r) c.in_ok-vector-in-Some-Vector.ensures
+    ∙ ap close_none (popped c.args.pending.now.items c.pop.new.self.items c.in-Some-Vector.field-0 (Vector c.in-Some-Vector.elements) c.in-Some-Vector.ensures.items c.in-Some-Vector.field-0-is)
+
+pub returns-in-Some-Sequence : goal.returns-in-Some-Sequence
+returns-in-Some-Sequence c =
+    ap (λ (v : Value). let r : Reading = (frames_of c.pop.new.self.items, Some v) in r) (value_of-Seq c.in-Some-Sequence.items)
+    ∙ ap close_none (popped c.args.pending.now.items c.pop.new.self.items c.in-Some-Sequence.field-0 (Sequence c.in-Some-Sequence.items) c.in-Some-Sequence.ensures.items c.in-Some-Sequence.field-0-is)
 
 pub returns-in-Some-First : goal.returns-in-Some-First
 returns-in-Some-First c =
