@@ -33,6 +33,7 @@ pub data AnswersBy (Begins : ℕ → List Token → Type 0) (deep len : ℕ) : L
   ended : {ts : List Token} → BeginsSoFar Begins deep ts → ((program : ProgramTree) → WholeProgram ts program → program_depth program ≤ deep → ⊥)
       → AnswersBy Begins deep len ts (Err (Syntax len))
 
+-- by the programs that begin with them
 abbrev pub AnswersTokens : (deep len : ℕ) → List Token → Result ProgramTree Refusal → Type 0
 AnswersTokens = AnswersBy BeginsProgram
 
@@ -53,7 +54,6 @@ HaveOneAnswer = (bytes : List ℕ) (one other : Result ProgramTree Refusal) → 
 -- each text has an answer
 abbrev pub HaveSomeAnswer : Type 0
 HaveSomeAnswer = (bytes : List ℕ) → (answer : Result ProgramTree Refusal) × Parses bytes answer
-
 
 -- that is what `FrontProgram` says
 abbrev pub FrontsBeginPrograms : Type 0
