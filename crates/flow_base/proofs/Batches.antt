@@ -1,4 +1,4 @@
--- What a kernel makes of blocks: many messages taken or put in one call, and the history of whole rounds.
+-- What a worker makes of blocks: many messages taken or put in one call, and the history of whole rounds.
 use Rattle.std.proofs.Common.{◌≡◌, ◌≢◌, ℕ, ℤ, zero, suc, ◌+◌, ◌<◌, ◌≤◌, Bool, true, false, cond, eqb, List, [], ◌∷◌, ◌++◌, length, take, refl, sym, ◌∙◌, ap, subst, arith, append-nil, append_assoc, length-append, eq-eqb, ne_eqb, inl, inr}
 use Rattle.std.proofs.lemmas.Bool.{cases_eq, cases_Bool}
 use Rattle.std.proofs.lemmas.List.{take-append-le, take-map, length-map}
@@ -296,6 +296,6 @@ module _ (inputs outputs : List ℕ) where
         calm = λ none. absurd (omega arith);
       }
 
-    -- what a kernel has made goes on by rounds over the blocks of its ends
+    -- what was made goes on by rounds over the blocks of its ends
     pub went_batch : {s : S} {a : View} {t : S} {v : View} {n : ℕ} {u : S} {reads writes : ℕ → List Signal} {k : ℕ} → Went inputs outputs b s a t v n → Batch t u reads writes k → 0 < k → (w : View) → Shifted reads writes v w → Went inputs outputs b s a u w (n + k)
     went_batch went rounds some w shifted = went_further b inputs outputs went (batch_went rounds shifted some)

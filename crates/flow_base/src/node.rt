@@ -20,10 +20,8 @@ use kahn::Want;
 use snesl_data::{Fault, FaultKind};
 use std::alloc::AllocError;
 
-// A worker goes over slices only in visits of so many steps and more, and its kernel goes on in longer ones.
+// A worker goes over slices only in visits of so many steps and more.
 const LEAST_FOR_BLOCKS: usize = 8;
-
-const LEAST_FOR_KERNEL: usize = 64;
 
 // After a visit of so many steps the next one goes over slices, if it can.
 const LEAST_WHEN_BUSY: usize = 5;
@@ -173,7 +171,7 @@ impl<W: Worker> Node<W> {
         }
     }
 
-    // Single steps to where the kernel may go on, at most `chunk`. How many it made.
+    // Single steps to where the worker may go on over slices, at most `chunk`. How many it made.
     #[inline(always)]
     fn finish<E: Ends>(
         &mut self,
@@ -204,40 +202,6 @@ impl<W: Worker> Node<W> {
             }
         }
         Ok(chunk)
-    }
-
-    // The rest of an instance that has begun, and then whole instances, over slices and then one by one, at most `chunk`
-    // steps. How many it made. It stands alone, so that the loop of single steps keeps its values in registers.
-    #[inline(never)]
-    fn whole_instances<E: Ends>(
-        &mut self,
-        inputs: &[usize],
-        outputs: &[usize],
-        ends: &mut E,
-        chunk: usize,
-    ) -> Result<usize, AllocError>
-        requires placed { IsPlaced ⟦<Node<W> as Transducer>⟧.behaviour inputs.now outputs.now
-            (⟦<Node<W> as Transducer>⟧.state self.old) (E.view ends.old) }
-        ensures same { E.same ends.old ends.new }
-        ensures ends { SameEnds (E.view ends.old) (E.view ends.new) }
-        ensures within { IfOk result (λ made. made ≤ chunk) }
-        ensures went { IfOk result (λ made. WentOn inputs.now outputs.now
-            ⟦<Node<W> as Transducer>⟧.behaviour (⟦<Node<W> as Transducer>⟧.state self.old)
-            (E.view ends.old) (⟦<Node<W> as Transducer>⟧.state self.new) (E.view ends.new)
-            (nat_lt 0 made)) }
-        ensures broke { OnErr result (BrokeOff inputs.now outputs.now
-            ⟦<Node<W> as Transducer>⟧.behaviour (⟦<Node<W> as Transducer>⟧.state self.old)
-            (E.view ends.old) (⟦<Node<W> as Transducer>⟧.state self.new) (E.view ends.new)) }
-    {
-        let first = self.finish(inputs, outputs, ends, chunk)?;
-        if let Phase::Working = self.phase {
-            look_for_messages(ends, inputs);
-            let left = chunk - first;
-            let whole = self.worker.blocks(inputs, outputs, ends, left);
-            let more = self.worker.kernel(inputs, outputs, ends, left - whole);
-            return Ok(first + whole + more);
-        }
-        Ok(first)
     }
 
     // The rest of an instance that has begun, and then whole instances over slices, at most `chunk` steps. How many it made.
@@ -271,7 +235,7 @@ impl<W: Worker> Node<W> {
         Ok(first)
     }
 
-    // The same in long visits, over slices alone in shorter ones, and nothing in short ones. How many steps it made.
+    // The same, and nothing in short visits. How many steps it made.
     #[inline(always)]
     fn many<E: Ends>(
         &mut self,
@@ -296,9 +260,6 @@ impl<W: Worker> Node<W> {
     {
         if chunk < LEAST_FOR_BLOCKS {
             return Ok(0);
-        }
-        if chunk >= LEAST_FOR_KERNEL {
-            return self.whole_instances(inputs, outputs, ends, chunk);
         }
         // Where hardly an instance fits, the worker goes on from within one, if it can.
         if chunk / 2 <= outputs.len() {

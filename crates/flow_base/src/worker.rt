@@ -144,40 +144,17 @@ pub trait Worker {
             is_stop (signal_of (message_of item)) ≡ false →
             Follows machine (state self.now).0 (signal_of (message_of item)) result };
 
-    /// Whether its kernel may go on from here; elsewhere a visit makes single steps first. It says only how fast a visit
-    /// is, and so promises nothing.
+    /// Whether it may go on over slices from here; elsewhere a visit makes single steps first. It says only how fast a
+    /// visit is, and so promises nothing.
     fn is_between(&self) -> bool {
         true
     }
 
-    /// As the kernel, but over the slices that its ends show: many messages are looked at, taken or put in one call. It
-    /// makes whole rounds, at most `most` steps; or fewer, or none. How many steps it made.
-    fn blocks<E: Ends>(
-        &mut self,
-        inputs: &[usize],
-        outputs: &[usize],
-        ends: &mut E,
-        most: usize,
-    ) -> usize
-        requires wired { IsWired inputs.now outputs.now (machine.inputs (state self.old).0)
-            (machine.outputs (state self.old).0) (E.view ends.old) }
-        requires kinds { TakeKinds outputs.now (machine.kind_out (state self.old).0)
-            (E.view ends.old) }
-        ensures same { E.same ends.old ends.new }
-        ensures ends { SameEnds (E.view ends.old) (E.view ends.new) }
-        ensures within { result ≤ most }
-        ensures went { (at : ℕ) → Went inputs.now outputs.now (behaviour_of machine)
-            (node_state (state self.old) Working at) (E.view ends.old)
-            (node_state (state self.new) Working at) (E.view ends.new) result }
-    {
-        0
-    }
-
-    /// Whole instances in one loop, as many as its ends are certain of, and at most `most` steps; or fewer, or none.
-    /// How many steps it made. They are the steps of a node that works with this worker, in their order.
+    /// Whole rounds over the slices that its ends show, at most `most` steps; or fewer, or none. Many messages are looked
+    /// at, taken or put in one call. How many steps it made: those of a node that works with this worker, in their order.
     ///
     /// It takes only messages that it goes on with: an end, a fault and a want of memory are left to single steps.
-    fn kernel<E: Ends>(
+    fn blocks<E: Ends>(
         &mut self,
         inputs: &[usize],
         outputs: &[usize],
