@@ -1,20 +1,18 @@
 // How many elements each segment has.
 
-ghost use Rattle.std.specs.Prelude.{◌≡◌, ◌+◌, ◌≤◌, ℕ, true, List, length, take, IfSome, false};
+ghost use Rattle.std.specs.Prelude.{◌≡◌, ◌+◌, ◌≤◌, ℕ, true, List, length, take, false};
 ghost use Rattle.std.specs.List.{All};
 ghost use Rattle.snesl_data.specs.Integers.{greatest_integer};
 ghost use Rattle.flow_messages.specs.declared.message.Kind.TheVariants.{Int as IntKind};
 ghost use Rattle.flow_messages.specs.Ends.{SameEnds};
-ghost use Rattle.flow_messages.specs.Signals.{signal_of};
-ghost use Rattle.flow_base.specs.Machines.{Leads};
 ghost use Rattle.flow_base.specs.Nodes.{behaviour_of, node_state};
 ghost use Rattle.flow_base.specs.Visits.{IsWired, TakeKinds, Went};
 ghost use Rattle.flow_base.specs.declared.node.Phase.TheVariants.{Working};
-ghost use Rattle.flow_folds.specs.LengthMachine.{one_element_more, length_at_end, length_counts, length_machine, length_view};
+ghost use Rattle.flow_folds.specs.LengthMachine.{one_element_more, length_at_end, length_machine, length_view};
 ghost use Rattle.flow_folds.specs.LengthBlocks.{LengthsAlong};
 
-use flow_base::{Ask, BLOCK, SHORT_BLOCK, Stop, Worker, put_in_space, take_front};
-use flow_messages::{Ends, Flat, Item, Kind, Msg};
+use flow_base::{Ask, BLOCK, SHORT_BLOCK, Stop, Worker};
+use flow_messages::{Ends, Flat, Item, Kind};
 use snesl_data::{Dialect, FaultKind};
 use std::alloc::AllocError;
 
@@ -57,27 +55,6 @@ impl Count {
             Ok(Count::Due(count as i128))
         } else {
             Err(FaultKind::Overflow)
-        }
-    }
-
-    // Where the message leads after so many elements, where it leads on.
-    #[inline(always)]
-    fn after_message(dialect: Dialect, count: u128, message: &Msg) -> Option<Count>
-        ensures { IfSome result (λ next.
-            Leads (length_counts dialect count) (signal_of message.now) next) }
-    {
-        match message {
-            Msg::Item(Item::Bool(last)) => {
-                if *last {
-                    match Count::after_end(dialect, count) {
-                        Ok(due) => Some(due),
-                        Err(_) => None,
-                    }
-                } else {
-                    Some(Count::after_element(dialect, count))
-                }
-            }
-            _ => None,
         }
     }
 }
@@ -331,45 +308,5 @@ impl Worker for Length {
             return self.rounds(inputs, outputs, ends, most, &mut [0; SHORT_BLOCK]);
         }
         self.rounds(inputs, outputs, ends, most, &mut [0; BLOCK])
-    }
-
-    // Each round is one step, so it goes on from any state, and within a segment too.
-    #[inline(always)]
-    fn kernel<E: Ends>(
-        &mut self,
-        inputs: &[usize],
-        outputs: &[usize],
-        ends: &mut E,
-        most: usize,
-    ) -> usize {
-        let from = inputs[0];
-        let to = outputs[0];
-        let mut room = ends.space(to);
-        // A copy, which need not be read back in each round.
-        let mut count = self.count;
-        for made in 0..most {
-            count = match count {
-                Count::Counting(elements) => {
-                    let Some(message) = ends.front(from) else {
-                        return made;
-                    };
-                    let Some(next) = Count::after_message(self.dialect, elements, message) else {
-                        return made;
-                    };
-                    take_front(ends, from);
-                    next
-                }
-                Count::Due(number) => {
-                    if room == 0 {
-                        return made;
-                    }
-                    put_in_space(ends, to, Msg::Item(Item::Int(number)));
-                    room -= 1;
-                    Count::Counting(0)
-                }
-            };
-            self.count = count;
-        }
-        most
     }
 }

@@ -1,28 +1,22 @@
 // Reductions of segments.
 
-ghost use Rattle.std.specs.Prelude.{◌≡◌, ◌≢◌, ◌+ℤ◌, ◌≤◌, ◌<◌, ◌*◌, ℕ, true, false, List, length, take, get_or, int_lt, if◌then◌else◌, Some, IfSome, Ok};
+ghost use Rattle.std.specs.Prelude.{◌≡◌, ◌≢◌, ◌≤◌, ◌<◌, ◌*◌, ℕ, true, false, List, length, take, get_or, int_lt, if◌then◌else◌, Some, IfSome, Ok};
 ghost use Rattle.std.specs.List.{All};
-ghost use Rattle.std.specs.Option.{IsSomeAnd};
 ghost use Rattle.flow_messages.specs.declared.message.Kind.TheVariants.{Int as IntKind};
 ghost use Rattle.flow_messages.specs.Ends.{SameEnds};
-ghost use Rattle.flow_messages.specs.Signals.{signal_of};
-ghost use Rattle.flow_base.specs.Machines.{Leads, on_kind};
 ghost use Rattle.flow_base.specs.Nodes.{behaviour_of, node_state};
 ghost use Rattle.flow_base.specs.Visits.{edge_of, IsWired, TakeKinds, Went};
 ghost use Rattle.flow_base.specs.declared.node.Phase.TheVariants.{Working};
-ghost use Rattle.flow_folds.specs.Scalars.{scalar_in};
-ghost use Rattle.flow_folds.specs.ReduceMachine.{at_element, reduced_kind, reduce_machine, reduce_view};
+ghost use Rattle.flow_folds.specs.ReduceMachine.{reduced_kind, reduce_machine, reduce_view};
 ghost use Rattle.flow_folds.specs.ReduceBlocks.{reduction_of_ints, AwaitsFlag};
 ghost use Rattle.snesl_data.specs.declared.dialect.Dialect.{Dialect};
-ghost use Rattle.snesl_operators.specs.Operators.{type_of};
-ghost use Rattle.snesl_operators.specs.Reductions.{reduction_type};
 ghost use Rattle.snesl_operators.specs.declared.operator.Reduction.TheVariants.{Sum as SumOf, Max as MaxOf};
 ghost use Rattle.snesl_operators.specs.declared.scalar.Scalar.TheVariants.{Int as IntScalar};
-ghost use Rattle.flow_folds.specs.declared.reduce.Stage.TheVariants.{Start as StartState, Flag as FlagState};
+ghost use Rattle.flow_folds.specs.declared.reduce.Stage.TheVariants.{Start as StartState};
 
 use crate::scalars::{item_of, kind_of, scalar_of, wide};
-use flow_base::{Ask, Stop, Worker, put_in_space, take_front};
-use flow_messages::{Ends, Flat, Item, Kind, Msg};
+use flow_base::{Ask, Stop, Worker};
+use flow_messages::{Ends, Flat, Item, Kind};
 use snesl_data::{Dialect, FaultKind};
 use snesl_operators::{Reduction, Scalar, sum};
 use std::alloc::AllocError;
@@ -59,7 +53,7 @@ enum Stage {
 impl Stage {
     ghost use Rattle.flow_messages.specs.Cells.{cell_of};
     ghost use Rattle.flow_base.specs.Machines.{state_after_item, state_after_read};
-    ghost use Rattle.flow_folds.specs.ReduceMachine.{at_flag, reduce_move, LeadsAtFlag};
+    ghost use Rattle.flow_folds.specs.ReduceMachine.{at_flag, reduce_move};
 
     // Where the item leads that comes as a flag, after elements that reduce to what is so far.
     #[inline(always)]
@@ -115,26 +109,6 @@ impl Stage {
         match self.so_far(reduction) {
             Some(Some(Scalar::Int(number))) => Some(number),
             _ => None,
-        }
-    }
-
-    // Where the message leads where a flag comes, if it is there and leads on.
-    #[inline(always)]
-    fn after_flag(self, reduction: Reduction, message: Option<&Msg>) -> Option<Stage>
-        ensures { IfSome result (λ next. IsSomeAnd message.entry (λ m.
-            LeadsAtFlag reduction self (signal_of m.now) next)) }
-    {
-        let Some(Msg::Item(item)) = message else {
-            return None;
-        };
-        let next = match self {
-            Stage::Start => Stage::at_flag(reduction.nothing(), item),
-            Stage::Flag(so_far) => Stage::at_flag(so_far, item),
-            _ => return None,
-        };
-        match next {
-            Ok(next) => Some(next),
-            Err(_) => None,
         }
     }
 }
@@ -236,27 +210,6 @@ impl Reduce {
             stage: Stage::Start,
         }
     }
-
-    // What the elements so far and the one in the message reduce to, if it is there and leads on.
-    #[inline(always)]
-    #[tactic(auto, using(crate::specs::laws::Reduce::element_is))]
-    fn more_at(&self, so_far: Option<Scalar>, message: Option<&Msg>) -> Option<Option<Scalar>>
-        ensures { IfSome result (λ more. IsSomeAnd message.entry (λ m.
-            Leads (on_kind (reduced_kind self.now.reduction)
-            (λ x. at_element self.now.dialect self.now.reduction so_far (scalar_in x)))
-            (signal_of m.now) (FlagState more))) }
-    {
-        let Some(Msg::Item(item)) = message else {
-            return None;
-        };
-        match scalar_of(item) {
-            Some(element) => match self.reduction.more(self.dialect, so_far, element) {
-                Ok(more) => Some(more),
-                Err(_) => None,
-            },
-            None => None,
-        }
-    }
 }
 
 impl Reduce {
@@ -320,14 +273,6 @@ impl Reduce {
         ends.skip(flags, count);
         ends.skip(elements, count);
         (count, Stage::Flag(more))
-    }
-
-    // Whether the value is of the reduction's type, as each is that it comes to.
-    #[inline(always)]
-    fn is_of_type(&self, value: Scalar) -> bool
-        ensures { result ≡ true → type_of value ≡ reduction_type self.now.reduction }
-    {
-        value.scalar_type() == self.reduction.scalar_type()
     }
 
     // The sum so far, where a flag comes and the sum fits 64 bits.
@@ -562,50 +507,5 @@ impl Worker for Reduce {
         }
         let more = self.rounds(inputs, outputs, ends, most - first);
         first + more
-    }
-
-    // Each round is two steps: a flag with its element, or the end of a segment with its value.
-    #[inline(always)]
-    fn kernel<E: Ends>(
-        &mut self,
-        inputs: &[usize],
-        outputs: &[usize],
-        ends: &mut E,
-        most: usize,
-    ) -> usize {
-        let (flags, elements, to) = (inputs[0], inputs[1], outputs[0]);
-        // Two messages of one edge are not seen at once.
-        if flags == elements {
-            return 0;
-        }
-        let whole = ends.space(to).min(most / 2);
-        // A copy, which need not be read back in each round.
-        let mut stage = self.stage;
-        for made in 0..whole {
-            let Some(reached) = stage.after_flag(self.reduction, ends.front(flags)) else {
-                return 2 * made;
-            };
-            stage = match reached {
-                Stage::Element(before) => {
-                    let Some(more) = self.more_at(before, ends.front(elements)) else {
-                        return 2 * made;
-                    };
-                    take_front(ends, flags);
-                    take_front(ends, elements);
-                    Stage::Flag(more)
-                }
-                Stage::Value(value) => {
-                    if !self.is_of_type(value) {
-                        return 2 * made;
-                    }
-                    take_front(ends, flags);
-                    put_in_space(ends, to, Msg::Item(item_of(value)));
-                    Stage::Start
-                }
-                _ => return 2 * made,
-            };
-            self.stage = stage;
-        }
-        2 * whole
     }
 }

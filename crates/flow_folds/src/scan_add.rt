@@ -1,12 +1,8 @@
 // Running sums of segments.
 
-ghost use Rattle.std.specs.Prelude.{◌≡◌, ◌≢◌, ◌+ℤ◌, ◌≤◌, ℕ, true, Ok, [], ◌∷◌, length, take, IfSome, false};
-ghost use mathlib.Core.List.{IsPrefix};
-ghost use Rattle.snesl_operators.specs.Operators.{ranged};
-ghost use Rattle.flow_messages.specs.Cells.{flag, int};
+ghost use Rattle.std.specs.Prelude.{◌≡◌, ◌≢◌, ◌≤◌, ℕ, Ok, length, take, IfSome, false};
 ghost use Rattle.flow_messages.specs.declared.message.Kind.TheVariants.{Int as IntKind};
 ghost use Rattle.flow_messages.specs.Ends.{SameEnds};
-ghost use Rattle.flow_messages.specs.Signals.{carry};
 ghost use Rattle.flow_base.specs.Flags.{F};
 ghost use Rattle.flow_base.specs.Machines.{state_after_read};
 ghost use Rattle.flow_base.specs.Nodes.{behaviour_of, node_state};
@@ -16,8 +12,8 @@ ghost use Rattle.flow_folds.specs.ScanAddMachine.{scan_add_move, scan_add_machin
 ghost use Rattle.flow_folds.specs.ScanAddBlocks.{SumsAlong};
 ghost use Rattle.flow_folds.specs.declared.scan_add.Stage.TheVariants.{Element};
 
-use flow_base::{Ask, BLOCK, SHORT_BLOCK, Stop, Worker, put_in_space, take_front};
-use flow_messages::{Ends, Flat, Item, Kind, Msg};
+use flow_base::{Ask, BLOCK, SHORT_BLOCK, Stop, Worker};
+use flow_messages::{Ends, Flat, Item, Kind};
 use snesl_data::{Dialect, FaultKind};
 use snesl_operators::sum;
 use std::alloc::AllocError;
@@ -49,19 +45,6 @@ enum Stage {
     Element { before: i128, last: i128 },
     // The sum `before` is to be written, of the elements before `last`.
     Write { before: i128, last: i128 },
-}
-
-// The flag at the front of the edge, where one is seen there.
-#[inline(always)]
-fn flag_at<E: Ends>(ends: &E, edge: usize) -> Option<bool>
-    requires { (E.view ends.now).reads edge ≡ true }
-    ensures { IfSome result (λ b.
-        IsPrefix (carry (flag b) ∷ []) ((E.view ends.now).coming edge)) }
-{
-    match ends.front(edge) {
-        Some(Msg::Item(Item::Bool(truth))) => Some(*truth),
-        _ => None,
-    }
 }
 
 impl Stage {
@@ -114,24 +97,6 @@ impl ScanAdd {
             Stage::Start => Some((0, 0)),
             Stage::Flag { before, last } => Some((before, last)),
             _ => None,
-        }
-    }
-
-    // What it holds after the element at the front of the edge, where one is seen and its sum lies in the range.
-    #[inline(always)]
-    fn held_after<E: Ends>(&self, held: (i128, i128), ends: &E, edge: usize) -> Option<(i128, i128)>
-        requires { (E.view ends.now).reads edge ≡ true }
-        ensures sum { IfSome result (λ next.
-            ranged self.now.dialect (held.0 +ℤ held.1) ≡ Ok next.0) }
-        ensures element { IfSome result (λ next.
-            IsPrefix (carry (int next.1) ∷ []) ((E.view ends.now).coming edge)) }
-    {
-        let Some(Msg::Item(Item::Int(element))) = ends.front(edge) else {
-            return None;
-        };
-        match sum(self.dialect, held.0, held.1) {
-            Ok(before) => Some((before, *element)),
-            Err(_) => None,
         }
     }
 
@@ -345,48 +310,5 @@ impl Worker for ScanAdd {
             return self.rounds(inputs, outputs, ends, most, &mut [0; SHORT_BLOCK]);
         }
         self.rounds(inputs, outputs, ends, most, &mut [0; BLOCK])
-    }
-
-    // A flag of an element is three steps, and one that ends a segment is one.
-    #[inline(always)]
-    fn kernel<E: Ends>(
-        &mut self,
-        inputs: &[usize],
-        outputs: &[usize],
-        ends: &mut E,
-        most: usize,
-    ) -> usize {
-        let Some(mut held) = self.held() else {
-            return 0;
-        };
-        let (flags, elements, to) = (inputs[0], inputs[1], outputs[0]);
-        // Two messages of one edge are not seen at once.
-        if flags == elements {
-            return 0;
-        }
-        let mut made = 0;
-        for _ in 0..ends.space(to).min(most / 3) {
-            let Some(segment_ends) = flag_at(ends, flags) else {
-                return made;
-            };
-            if segment_ends {
-                take_front(ends, flags);
-                self.stage = Stage::Start;
-                held = (0, 0);
-                made += 1;
-            } else {
-                let Some(next) = self.held_after(held, ends, elements) else {
-                    return made;
-                };
-                let (before, last) = next;
-                take_front(ends, flags);
-                take_front(ends, elements);
-                put_in_space(ends, to, Msg::Item(Item::Int(before)));
-                self.stage = Stage::Flag { before, last };
-                held = next;
-                made += 3;
-            }
-        }
-        made
     }
 }
