@@ -1,23 +1,20 @@
 // Operators on two scalars.
 
 ghost use Rattle.std.specs.Prelude.{◌≡◌, ◌≢◌, ◌*ℤ◌, ℕ, ◌≤◌, length, Ok, IfSome, false};
-ghost use Rattle.flow_base.specs.Machines.{Leads};
 ghost use Rattle.flow_base.specs.Nodes.{behaviour_of, node_state};
 ghost use Rattle.flow_base.specs.Visits.{edge_of, IsWired, TakeKinds, Went};
 ghost use Rattle.flow_base.specs.declared.node.Phase.TheVariants.{Working};
 ghost use Rattle.flow_messages.specs.declared.message.Kind.TheVariants.{Bool as BoolKind, Int as IntKind};
 ghost use Rattle.flow_messages.specs.Ends.{SameEnds};
-ghost use Rattle.flow_messages.specs.Signals.{signal_of};
-ghost use Rattle.snesl_operators.specs.Operators.{binary_operand, binary_value};
+ghost use Rattle.snesl_operators.specs.Operators.{binary_value};
 ghost use Rattle.snesl_operators.specs.declared.scalar.Scalar.TheVariants.{Int};
-ghost use Rattle.flow_scalar.specs.Operands.{on_operand};
-ghost use Rattle.flow_scalar.specs.BinaryMachine.{binary_next, binary_machine, binary_view, IntsAt, FlagsAt};
-ghost use Rattle.flow_scalar.specs.declared.binary.Progress.TheVariants.{Start, Left as LeftState, Value as ValueState};
+ghost use Rattle.flow_scalar.specs.BinaryMachine.{binary_machine, binary_view, IntsAt, FlagsAt};
+ghost use Rattle.flow_scalar.specs.declared.binary.Progress.TheVariants.{Start};
 
 use crate::operand::{narrow_of, operand_of};
-use flow_base::{Ask, BLOCK, SHORT_BLOCK, Stop, Worker, put_in_space, take_front};
+use flow_base::{Ask, BLOCK, SHORT_BLOCK, Stop, Worker};
 use flow_folds::{item_of, kind_of};
-use flow_messages::{Ends, Flat, Item, Kind, Msg};
+use flow_messages::{Ends, Flat, Item, Kind};
 use snesl_data::Dialect;
 use snesl_operators::{BinaryOperator, Scalar, ScalarType};
 use std::alloc::AllocError;
@@ -133,42 +130,6 @@ impl Binary {
             dialect,
             operator,
             progress: Progress::Start,
-        }
-    }
-
-    // The operand that the message is, where it is one.
-    #[inline(always)]
-    #[tactic(auto, using(crate::proofs::Leading::operand_taken))]
-    fn left_at(&self, message: &Msg) -> Option<Scalar>
-        ensures { IfSome result (λ a. Leads (on_operand (binary_operand self.now.operator)
-            (λ k. Ok (LeftState k))) (signal_of message.now) (LeftState a)) }
-    {
-        match message {
-            Msg::Item(item) => match operand_of(self.operator.operand(), item) {
-                Ok(operand) => Some(operand),
-                Err(_) => None,
-            },
-            Msg::End => None,
-        }
-    }
-
-    // The value that the message leads to after this left operand, where it leads to one.
-    #[inline(always)]
-    #[tactic(auto, using(crate::proofs::Leading::operand_taken))]
-    fn value_at(&self, left: Scalar, message: &Msg) -> Option<Scalar>
-        ensures { IfSome result (λ v. Leads (on_operand (binary_operand self.now.operator)
-            (binary_next self.now.dialect self.now.operator left)) (signal_of message.now)
-            (ValueState v)) }
-    {
-        match message {
-            Msg::Item(item) => match operand_of(self.operator.operand(), item) {
-                Ok(operand) => match self.operator.apply(self.dialect, left, operand) {
-                    Ok(value) => Some(value),
-                    Err(_) => None,
-                },
-                Err(_) => None,
-            },
-            Msg::End => None,
         }
     }
 
@@ -482,44 +443,5 @@ impl Worker for Binary {
             ScalarType::Int => self.many_ints(inputs, outputs, ends, most),
             ScalarType::Bool => self.flag_blocks(inputs, outputs, ends, most),
         }
-    }
-
-    #[inline(always)]
-    fn kernel<E: Ends>(
-        &mut self,
-        inputs: &[usize],
-        outputs: &[usize],
-        ends: &mut E,
-        most: usize,
-    ) -> usize {
-        let Progress::Start = self.progress else {
-            return 0;
-        };
-        let lefts = inputs[0];
-        let rights = inputs[1];
-        // Two messages of one edge are not seen at once.
-        if lefts == rights {
-            return 0;
-        }
-        let to = outputs[0];
-        let whole = ends.space(to).min(most / 3);
-        for made in 0..whole {
-            let Some(first) = ends.front(lefts) else {
-                return 3 * made;
-            };
-            let Some(left) = self.left_at(first) else {
-                return 3 * made;
-            };
-            let Some(second) = ends.front(rights) else {
-                return 3 * made;
-            };
-            let Some(value) = self.value_at(left, second) else {
-                return 3 * made;
-            };
-            take_front(ends, lefts);
-            take_front(ends, rights);
-            put_in_space(ends, to, Msg::Item(item_of(value)));
-        }
-        3 * whole
     }
 }

@@ -1,7 +1,6 @@
 // A constant, once for each item.
 
 ghost use Rattle.std.specs.Prelude.{◌≡◌, ◌≤◌, true, false, length, replicate};
-ghost use Rattle.flow_messages.specs.Cells.{unit};
 ghost use Rattle.flow_messages.specs.declared.message.Kind.TheVariants.{Bool as BoolKind, Int as IntKind};
 ghost use Rattle.flow_messages.specs.Ends.{SameEnds};
 ghost use Rattle.flow_messages.specs.Kinds.{TakesKind};
@@ -10,9 +9,9 @@ ghost use Rattle.flow_messages.specs.Flats.{message_of};
 ghost use Rattle.flow_folds.specs.Scalars.{cell_of_scalar};
 ghost use Rattle.flow_scalar.specs.ConstCopies.{WrittenFor};
 
-use flow_base::{Ask, BLOCK, SHORT_BLOCK, Stop, Worker, put_in_space, take_front};
+use flow_base::{Ask, BLOCK, SHORT_BLOCK, Stop, Worker};
 use flow_folds::{item_of, kind_of};
-use flow_messages::{Ends, Flat, Item, Kind, Msg};
+use flow_messages::{Ends, Flat, Item, Kind};
 use snesl_data::FaultKind;
 use snesl_operators::Scalar;
 use std::alloc::AllocError;
@@ -26,14 +25,6 @@ pub struct Const {
     scalar: Scalar,
     // A Unit came, and the scalar is to be written for it.
     due: bool,
-}
-
-// Whether the message is a Unit.
-#[inline(always)]
-fn is_unit(message: &Msg) -> bool
-    ensures { result ≡ true → signal_of message.now ≡ carry unit }
-{
-    matches!(message, Msg::Item(Item::Unit))
 }
 
 // The message that carries the scalar.
@@ -212,32 +203,5 @@ impl Worker for Const {
             Ok(narrow) => ints_for_units(ends, from, to, narrow, &[narrow; BLOCK], most),
             Err(_) => 0,
         }
-    }
-
-    #[inline(always)]
-    fn kernel<E: Ends>(
-        &mut self,
-        inputs: &[usize],
-        outputs: &[usize],
-        ends: &mut E,
-        most: usize,
-    ) -> usize {
-        if self.due {
-            return 0;
-        }
-        let from = inputs[0];
-        let to = outputs[0];
-        let whole = ends.space(to).min(most / 2);
-        for made in 0..whole {
-            let Some(message) = ends.front(from) else {
-                return 2 * made;
-            };
-            if !is_unit(message) {
-                return 2 * made;
-            }
-            take_front(ends, from);
-            put_in_space(ends, to, Msg::Item(item_of(self.scalar)));
-        }
-        2 * whole
     }
 }

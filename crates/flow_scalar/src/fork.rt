@@ -1,12 +1,12 @@
 // Copies of each item.
 
-ghost use Rattle.std.specs.Prelude.{◌*◌, ◌^◌, suc, ◌≡◌, ◌≢◌, ◌+◌, ◌<◌, ◌≤◌, ℕ, true, false, Ok, List, [], ◌∷◌, length, IfSome};
+ghost use Rattle.std.specs.Prelude.{◌*◌, ◌^◌, suc, ◌≡◌, ◌+◌, ◌<◌, ◌≤◌, ℕ, true, false, Ok, List, [], ◌∷◌, length, IfSome};
 ghost use mathlib.Core.List.{IsPrefix};
 ghost use Rattle.std.specs.List.{All};
 ghost use Rattle.flow_messages.specs.Cells.{cell_of, is_of};
-ghost use Rattle.flow_messages.specs.Ends.{View, SameEnds};
+ghost use Rattle.flow_messages.specs.Ends.{SameEnds};
 ghost use Rattle.flow_messages.specs.Kinds.{FitsEdge};
-ghost use Rattle.flow_messages.specs.Signals.{carry, signal_of};
+ghost use Rattle.flow_messages.specs.Signals.{carry};
 ghost use Rattle.flow_base.specs.Machines.{Leads, on_kind};
 ghost use Rattle.flow_base.specs.Nodes.{NodeState, behaviour_of, node_state};
 ghost use Rattle.flow_base.specs.Visits.{edge_of, IsWired, TakeKinds, Went, Wrote};
@@ -49,27 +49,6 @@ impl Fork {
             outputs,
             held: None,
             next: 0,
-        }
-    }
-
-    // A copy of the item that the message is, where it is one of the kind.
-    #[inline(always)]
-    fn item_at(&self, message: &Msg) -> Option<Item>
-        requires scalar { self.now.kind ≢ Kind.Vec }
-        ensures scalar { IfSome result (λ x. is_of Kind.Vec (cell_of x) ≡ false) }
-        ensures kind { IfSome result (λ x. is_of self.now.kind (cell_of x) ≡ true) }
-        ensures leads { IfSome result (λ x. (others : ℕ) →
-            Leads (on_kind self.now.kind (λ y. Ok (holding y others))) (signal_of message.now)
-            (holding (cell_of x) others)) }
-    {
-        match message {
-            Msg::Item(item) => {
-                if !self.kind.fits(item) {
-                    return None;
-                }
-                Some(copy_of(item))
-            }
-            Msg::End => None,
         }
     }
 
@@ -480,34 +459,6 @@ fn put_copy<E: Ends>(ends: &mut E, edge: usize, item: &Item)
     }
 }
 
-// Puts a copy of the item on each output, where there is room. These are the steps of a fork that holds the item.
-#[inline(always)]
-fn put_on_each<E: Ends>(ends: &mut E, outputs: &[usize], item: &Item)
-    requires scalar { is_of Kind.Vec (cell_of item.now) ≡ false }
-    requires writes { All (λ e. (E.view ends.old).writes e ≡ true) outputs.now }
-    requires fits { (q : ℕ) → q < length outputs.now →
-        FitsEdge ((E.view ends.old).kind (edge_of outputs.now q)) (carry (cell_of item.now)) }
-    requires rise { (p q : ℕ) → p < q → q < length outputs.now →
-        edge_of outputs.now p < edge_of outputs.now q }
-    requires room { (q : ℕ) → q < length outputs.now →
-        0 < (E.view ends.old).room (edge_of outputs.now q) }
-    ensures same { E.same ends.old ends.new }
-    ensures ends { SameEnds (E.view ends.old) (E.view ends.new) }
-    ensures room { (q : ℕ) → q < length outputs.now →
-        (E.view ends.old).room (edge_of outputs.now q) ≤
-        (E.view ends.new).room (edge_of outputs.now q) + 1 }
-    ensures went { (inputs : List ℕ) → (p : ForkPorts) → suc p.others ≡ length outputs.now →
-        (at : ℕ) → (s : NodeState (ForkPorts × ForkState)) → (a : View) → (n : ℕ) →
-        Went inputs outputs.now (behaviour_of fork_machine) s a
-        (node_state (p, holding (cell_of item.now) p.others) Working at) (E.view ends.old) n →
-        Went inputs outputs.now (behaviour_of fork_machine) s a
-        (node_state (p, idle) Working at) (E.view ends.new) (n + length outputs.now) }
-{
-    for port in 0..outputs.len() {
-        put_in_space(ends, outputs[port], Msg::Item(copy_of(item)));
-    }
-}
-
 // Whether items of this kind are shown.
 #[inline(always)]
 fn shows<E: Ends>(ends: &E, edge: usize, kind: Kind) -> bool
@@ -652,41 +603,5 @@ impl Worker for Fork {
             Kind::Bool if most < BLOCK => self.few_flags(inputs, outputs, ends, most),
             _ => self.flags_or_units(inputs, outputs, ends, most),
         }
-    }
-
-    #[inline(always)]
-    fn kernel<E: Ends>(
-        &mut self,
-        inputs: &[usize],
-        outputs: &[usize],
-        ends: &mut E,
-        most: usize,
-    ) -> usize {
-        // An instance is a step for each output and one more, and a copy of a vector takes memory.
-        if most <= outputs.len() || self.held.is_some() || matches!(self.kind, Kind::Vec) {
-            return 0;
-        }
-        let from = inputs[0];
-        // Where nothing came, no output is looked at.
-        if ends.front(from).is_none() {
-            return 0;
-        }
-        // The room of an edge is certain for one output alone.
-        if !rise(outputs) {
-            return 0;
-        }
-        let steps = outputs.len() + 1;
-        let whole = least_space(ends, outputs).min(most / steps);
-        for made in 0..whole {
-            let Some(message) = ends.front(from) else {
-                return steps * made;
-            };
-            let Some(item) = self.item_at(message) else {
-                return steps * made;
-            };
-            take_front(ends, from);
-            put_on_each(ends, outputs, &item);
-        }
-        steps * whole
     }
 }

@@ -1,19 +1,16 @@
 // The numbers from 0 on that are below a number.
 
-ghost use Rattle.std.specs.Prelude.{◌≡◌, ◌≢◌, ◌+ℤ◌, ◌≤ℤ◌, ℕ, ◌*◌, ◌<◌, ◌≤◌, pos, true, [], ◌∷◌, List, get_or, length, IfSome, MatchOption, false};
+ghost use Rattle.std.specs.Prelude.{◌≡◌, ◌≢◌, ◌+ℤ◌, ◌≤ℤ◌, ℕ, ◌*◌, ◌<◌, ◌≤◌, pos, true, List, get_or, length, MatchOption, false};
 ghost use Rattle.std.specs.List.{All};
-ghost use mathlib.Core.List.{IsPrefix};
-ghost use Rattle.flow_messages.specs.Cells.{int};
 ghost use Rattle.flow_messages.specs.Ends.{SameEnds};
-ghost use Rattle.flow_messages.specs.Signals.{carry, signal_of};
 ghost use Rattle.flow_base.specs.Nodes.{behaviour_of, node_state};
 ghost use Rattle.flow_base.specs.Visits.{edge_of, IsWired, TakeKinds, Went};
 ghost use Rattle.flow_base.specs.declared.node.Phase.TheVariants.{Working};
 ghost use Rattle.flow_scalar.specs.IotaMachine.{number_after, iota_kind_out, iota_machine, iota_view};
 ghost use Rattle.flow_scalar.specs.declared.iota.Iota.TheVariants.{Flag};
 
-use flow_base::{Ask, BLOCK, SHORT_BLOCK, Stop, Worker, put_in_space, take_front};
-use flow_messages::{Ends, Flat, Item, Kind, Msg};
+use flow_base::{Ask, BLOCK, SHORT_BLOCK, Stop, Worker};
+use flow_messages::{Ends, Flat, Item, Kind};
 use snesl_data::FaultKind;
 use std::alloc::AllocError;
 
@@ -32,30 +29,6 @@ pub enum Iota {
     Flag { next: i128, end: i128 },
     /// The number `next` is due, and then a flag.
     Number { next: i128, end: i128 },
-}
-
-// The integer that the message is, where it is one from 0 on.
-#[inline(always)]
-fn count_of(message: &Msg) -> Option<i128>
-    ensures { IfSome result (λ n. (signal_of message.now ≡ carry (int n)) × (pos 0 ≤ℤ n)) }
-{
-    match message {
-        Msg::Item(Item::Int(count)) if *count >= 0 => Some(*count),
-        _ => None,
-    }
-}
-
-// The integer at the front of this edge, where one from 0 on is there.
-#[inline(always)]
-fn count_at<E: Ends>(ends: &E, edge: usize) -> Option<i128>
-    requires { (E.view ends.now).reads edge ≡ true }
-    ensures { IfSome result (λ n.
-        IsPrefix (carry (int n) ∷ []) ((E.view ends.now).coming edge) × (pos 0 ≤ℤ n)) }
-{
-    match ends.front(edge) {
-        Some(message) => count_of(message),
-        None => None,
-    }
 }
 
 // The flags of a block of elements.
@@ -379,45 +352,5 @@ impl Worker for Iota {
             return self.few_rounds(inputs, outputs, ends, most);
         }
         self.many_rounds(inputs, outputs, ends, most)
-    }
-
-    // Each round is two steps: a flag and a number, or the flag that ends a segment and the next integer.
-    #[inline(always)]
-    fn kernel<E: Ends>(
-        &mut self,
-        inputs: &[usize],
-        outputs: &[usize],
-        ends: &mut E,
-        most: usize,
-    ) -> usize {
-        let Iota::Flag { mut next, mut end } = *self else {
-            return 0;
-        };
-        let from = inputs[0];
-        let flags = outputs[0];
-        let numbers = outputs[1];
-        // Room for two messages on one edge is not seen at once.
-        if flags == numbers {
-            return 0;
-        }
-        let whole = ends.space(flags).min(ends.space(numbers)).min(most / 2);
-        for made in 0..whole {
-            if next < end {
-                put_in_space(ends, flags, Msg::Item(Item::Bool(false)));
-                put_in_space(ends, numbers, Msg::Item(Item::Int(next)));
-                next += 1;
-            } else {
-                let Some(count) = count_at(ends, from) else {
-                    *self = Iota::Flag { next, end };
-                    return 2 * made;
-                };
-                put_in_space(ends, flags, Msg::Item(Item::Bool(true)));
-                take_front(ends, from);
-                next = 0;
-                end = count;
-            }
-        }
-        *self = Iota::Flag { next, end };
-        2 * whole
     }
 }

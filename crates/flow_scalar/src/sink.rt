@@ -1,12 +1,10 @@
 // The end of a stream that nothing uses.
 
-ghost use Rattle.std.specs.Prelude.{◌≡◌, true, false, Ok, IfOk, OnErr, IsOk};
-ghost use Rattle.flow_base.specs.Machines.{Leads, on_kind};
-ghost use Rattle.flow_messages.specs.Signals.{signal_of};
+ghost use Rattle.std.specs.Prelude.{◌≡◌, true, false, IfOk, OnErr, IsOk};
 ghost use Rattle.flow_scalar.specs.SinkShown.{Shown};
 
-use flow_base::{Ask, Stop, Worker, take_front};
-use flow_messages::{Ends, Flat, Item, Kind, Msg};
+use flow_base::{Ask, Stop, Worker};
+use flow_messages::{Ends, Flat, Item, Kind};
 use snesl_data::FaultKind;
 use std::alloc::AllocError;
 
@@ -37,18 +35,6 @@ impl Sink {
         ensures { result ≡ record { kind = kind } }
     {
         Sink { kind }
-    }
-
-    // Whether the message is an instance.
-    #[inline(always)]
-    fn accepts(&self, message: &Msg) -> bool
-        ensures { result ≡ true →
-            Leads (on_kind self.now.kind (λ _. Ok (tt {0}))) (signal_of message.now) tt }
-    {
-        match message {
-            Msg::Item(item) => self.kind.fits(item),
-            Msg::End => false,
-        }
     }
 }
 
@@ -137,26 +123,5 @@ impl Worker for Sink {
             taken += count;
         }
         taken
-    }
-
-    #[inline(always)]
-    fn kernel<E: Ends>(
-        &mut self,
-        inputs: &[usize],
-        outputs: &[usize],
-        ends: &mut E,
-        most: usize,
-    ) -> usize {
-        let from = inputs[0];
-        for made in 0..most {
-            let Some(message) = ends.front(from) else {
-                return made;
-            };
-            if !self.accepts(message) {
-                return made;
-            }
-            take_front(ends, from);
-        }
-        most
     }
 }

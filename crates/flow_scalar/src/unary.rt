@@ -1,22 +1,19 @@
 // Operators on one scalar.
 
-ghost use Rattle.std.specs.Prelude.{◌≡◌, ℕ, ◌≤◌, length, Ok, Some, None, IfSome, false};
-ghost use Rattle.flow_base.specs.Machines.{Leads};
+ghost use Rattle.std.specs.Prelude.{◌≡◌, ℕ, ◌≤◌, length, Ok, None, IfSome, false};
 ghost use Rattle.flow_base.specs.Nodes.{behaviour_of, node_state};
 ghost use Rattle.flow_base.specs.Visits.{IsWired, TakeKinds, Went};
 ghost use Rattle.flow_base.specs.declared.node.Phase.TheVariants.{Working};
 ghost use Rattle.flow_messages.specs.declared.message.Kind.TheVariants.{Bool as BoolKind, Int as IntKind};
 ghost use Rattle.flow_messages.specs.Ends.{SameEnds};
-ghost use Rattle.flow_messages.specs.Signals.{signal_of};
-ghost use Rattle.snesl_operators.specs.Operators.{unary_operand, unary_value};
+ghost use Rattle.snesl_operators.specs.Operators.{unary_value};
 ghost use Rattle.snesl_operators.specs.declared.scalar.Scalar.TheVariants.{Int};
-ghost use Rattle.flow_scalar.specs.Operands.{on_operand};
-ghost use Rattle.flow_scalar.specs.UnaryMachine.{unary_next, unary_machine, unary_view, IntsAt, FlagsAt};
+ghost use Rattle.flow_scalar.specs.UnaryMachine.{unary_machine, unary_view, IntsAt, FlagsAt};
 
 use crate::operand::{narrow_of, operand_of};
-use flow_base::{Ask, BLOCK, SHORT_BLOCK, Stop, Worker, put_in_space, take_front};
+use flow_base::{Ask, BLOCK, SHORT_BLOCK, Stop, Worker};
 use flow_folds::{item_of, kind_of};
-use flow_messages::{Ends, Flat, Item, Kind, Msg};
+use flow_messages::{Ends, Flat, Item, Kind};
 use snesl_data::Dialect;
 use snesl_operators::{Scalar, ScalarType, UnaryOperator};
 use std::alloc::AllocError;
@@ -51,25 +48,6 @@ impl Unary {
             dialect,
             operator,
             value: None,
-        }
-    }
-
-    // The value that the message leads to, where it leads to one.
-    #[inline(always)]
-    #[tactic(auto, using(crate::proofs::Leading::operand_taken))]
-    fn value_at(&self, message: &Msg) -> Option<Scalar>
-        ensures { IfSome result (λ v. Leads (on_operand (unary_operand self.now.operator)
-            (unary_next self.now.dialect self.now.operator)) (signal_of message.now) (Some v)) }
-    {
-        match message {
-            Msg::Item(item) => match operand_of(self.operator.operand(), item) {
-                Ok(operand) => match self.operator.apply(self.dialect, operand) {
-                    Ok(value) => Some(value),
-                    Err(_) => None,
-                },
-                Err(_) => None,
-            },
-            Msg::End => None,
         }
     }
 
@@ -292,32 +270,5 @@ impl Worker for Unary {
                 self.flag_blocks(inputs, outputs, ends, most)
             }
         }
-    }
-
-    #[inline(always)]
-    fn kernel<E: Ends>(
-        &mut self,
-        inputs: &[usize],
-        outputs: &[usize],
-        ends: &mut E,
-        most: usize,
-    ) -> usize {
-        if self.value.is_some() {
-            return 0;
-        }
-        let from = inputs[0];
-        let to = outputs[0];
-        let whole = ends.space(to).min(most / 2);
-        for made in 0..whole {
-            let Some(message) = ends.front(from) else {
-                return 2 * made;
-            };
-            let Some(value) = self.value_at(message) else {
-                return 2 * made;
-            };
-            take_front(ends, from);
-            put_in_space(ends, to, Msg::Item(item_of(value)));
-        }
-        2 * whole
     }
 }

@@ -1,12 +1,10 @@
 // A Unit for each element that flags stand for.
 
-ghost use Rattle.std.specs.Prelude.{◌≡◌, false, not, IfSome, true};
+ghost use Rattle.std.specs.Prelude.{◌≡◌, false, not, true};
 ghost use Rattle.std.specs.List.{count_by};
-ghost use Rattle.flow_messages.specs.Cells.{flag};
-ghost use Rattle.flow_messages.specs.Signals.{carry, signal_of};
 
-use flow_base::{Ask, Stop, Worker, put_in_space, take_front};
-use flow_messages::{Ends, Flat, Item, Kind, Msg};
+use flow_base::{Ask, Stop, Worker};
+use flow_messages::{Ends, Flat, Item, Kind};
 use snesl_data::FaultKind;
 use std::alloc::AllocError;
 
@@ -19,17 +17,6 @@ use std::alloc::AllocError;
 pub struct UnitsOf {
     // A flag came that stands for an element, and a Unit is to be written for it.
     due: bool,
-}
-
-// The flag that the message is, where it is one.
-#[inline(always)]
-fn flag_of(message: &Msg) -> Option<bool>
-    ensures { IfSome result (λ b. signal_of message.now ≡ carry (flag b)) }
-{
-    match message {
-        Msg::Item(Item::Bool(truth)) => Some(*truth),
-        _ => None,
-    }
 }
 
 // How many of the flags stand for an element.
@@ -152,37 +139,5 @@ impl Worker for UnitsOf {
             steps += whole + units;
         }
         steps
-    }
-
-    // A flag of an element is two steps, and one that ends a segment is one.
-    #[inline(always)]
-    fn kernel<E: Ends>(
-        &mut self,
-        inputs: &[usize],
-        outputs: &[usize],
-        ends: &mut E,
-        most: usize,
-    ) -> usize {
-        if self.due {
-            return 0;
-        }
-        let from = inputs[0];
-        let to = outputs[0];
-        let mut made = 0;
-        for _ in 0..ends.space(to).min(most / 2) {
-            let Some(message) = ends.front(from) else {
-                return made;
-            };
-            let Some(last) = flag_of(message) else {
-                return made;
-            };
-            take_front(ends, from);
-            made += 1;
-            if !last {
-                put_in_space(ends, to, Msg::Item(Item::Unit));
-                made += 1;
-            }
-        }
-        made
     }
 }
