@@ -12,9 +12,8 @@ ghost use Rattle.flow_base.specs.Visits.{edge_of, IsWired, Went};
 ghost use Rattle.flow_base.specs.declared.node.Phase.TheVariants.{Working};
 ghost use Rattle.flow_segment.specs.DistMachine.{dist_machine, dist_view};
 
-use crate::fronts::{flag_in_front, scalar_copy, scalar_in_front};
-use flow_base::{Ask, BLOCK, SHORT_BLOCK, Stop, Worker, put_in_space, take_front};
-use flow_messages::{Ends, Flat, Item, Kind, Msg};
+use flow_base::{Ask, BLOCK, SHORT_BLOCK, Stop, Worker};
+use flow_messages::{Ends, Flat, Item, Kind};
 use snesl_data::FaultKind;
 use std::alloc::AllocError;
 
@@ -385,50 +384,5 @@ impl Worker for Dist {
             return self.rounds(inputs, outputs, ends, most, &mut [0; SHORT_BLOCK]);
         }
         self.rounds(inputs, outputs, ends, most, &mut [0; BLOCK])
-    }
-
-    // A flag of an element is two steps, and an item or a flag that ends a segment is one.
-    #[inline(always)]
-    fn kernel<E: Ends>(
-        &mut self,
-        inputs: &[usize],
-        outputs: &[usize],
-        ends: &mut E,
-        most: usize,
-    ) -> usize {
-        if self.copies {
-            return 0;
-        }
-        let items = inputs[0];
-        let flags = inputs[1];
-        let to = outputs[0];
-        let mut made = 0;
-        for _ in 0..ends.space(to).min(most / 2) {
-            let Some(held) = &self.held else {
-                let Some(item) = scalar_in_front(ends, items, self.kind) else {
-                    return made;
-                };
-                take_front(ends, items);
-                self.held = Some(item);
-                made += 1;
-                continue;
-            };
-            let Some(last) = flag_in_front(ends, flags) else {
-                return made;
-            };
-            if last {
-                take_front(ends, flags);
-                self.held = None;
-                made += 1;
-                continue;
-            }
-            let Some(copy) = scalar_copy(held, self.kind) else {
-                return made;
-            };
-            take_front(ends, flags);
-            put_in_space(ends, to, Msg::Item(copy));
-            made += 2;
-        }
-        made
     }
 }

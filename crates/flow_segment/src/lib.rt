@@ -11,7 +11,6 @@ mod append_flags;
 mod concat_flags;
 mod dist;
 mod flag_of_bool;
-mod fronts;
 mod interleave;
 mod interleave_groups;
 mod over_flags;

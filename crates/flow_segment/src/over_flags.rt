@@ -1,10 +1,9 @@
 // Workers over flags alone.
 
-ghost use Rattle.std.specs.Prelude.{◌≡◌, ◌≢◌, ◌≤◌, ◌<◌, ◌+◌, ℕ, true, false, [], ◌∷◌, get_or, length, take, IfSome};
-ghost use mathlib.Core.List.{IsPrefix};
+ghost use Rattle.std.specs.Prelude.{◌≡◌, ◌≢◌, ◌≤◌, ◌<◌, ◌+◌, ℕ, false, get_or, length, take, IfSome};
 ghost use Rattle.flow_messages.specs.Cells.{flag};
 ghost use Rattle.flow_messages.specs.Ends.{SameEnds};
-ghost use Rattle.flow_messages.specs.Signals.{Signal, carry};
+ghost use Rattle.flow_messages.specs.Signals.{carry};
 ghost use Rattle.flow_messages.specs.declared.message.Kind.TheVariants.{Bool as BoolKind};
 ghost use Rattle.flow_base.specs.Machines.{Leads, on_flag};
 ghost use Rattle.flow_base.specs.Nodes.{behaviour_of, node_state};
@@ -13,8 +12,8 @@ ghost use Rattle.flow_base.specs.declared.node.Phase.TheVariants.{Working};
 ghost use Rattle.flow_segment.specs.FlagTables.{over_flags, stage_view};
 ghost use Rattle.flow_segment.specs.FlagBlocks.{RunsOver};
 
-use flow_base::{Ask, BLOCK, Stop, Worker, put_in_space, take_front};
-use flow_messages::{Ends, Flat, Item, Kind, Msg};
+use flow_base::{Ask, BLOCK, Stop, Worker};
+use flow_messages::{Ends, Flat, Item, Kind};
 use snesl_data::FaultKind;
 use std::alloc::AllocError;
 
@@ -212,25 +211,6 @@ fn run_over<S: Stage>(
     ran
 }
 
-// The stage to which the flag at the front of the edge leads, where one is seen there and leads to one.
-#[inline(always)]
-fn stage_at<S: Copy, E: Ends>(
-    at_f: Result<S, FaultKind>,
-    at_t: Result<S, FaultKind>,
-    ends: &E,
-    edge: usize,
-) -> Option<S>
-    requires { (E.view ends.now).reads edge ≡ true }
-    ensures { IfSome result (λ next. (m : Signal) ×
-        IsPrefix (m ∷ []) ((E.view ends.now).coming edge) × Leads (on_flag at_f at_t) m next) }
-{
-    match ends.front(edge) {
-        Some(Msg::Item(Item::Bool(false))) => at_f.ok(),
-        Some(Msg::Item(Item::Bool(true))) => at_t.ok(),
-        _ => None,
-    }
-}
-
 impl<S: Stage> Worker for OverFlags<S> {
     ghost use Rattle.flow_segment.specs.FlagTables.{over_flags, stage_view};
 
@@ -325,45 +305,5 @@ impl<S: Stage> Worker for OverFlags<S> {
             }
             made += steps;
         }
-    }
-
-    // Each round is one step, so it may go on from everywhere, and its ports may have one edge.
-    #[inline(always)]
-    fn kernel<E: Ends>(
-        &mut self,
-        inputs: &[usize],
-        outputs: &[usize],
-        ends: &mut E,
-        most: usize,
-    ) -> usize {
-        for made in 0..most {
-            match self.stage.step() {
-                StageMove::Begin(at_f, at_t) => {
-                    let from = inputs[0];
-                    let Some(next) = stage_at(at_f, at_t, ends, from) else {
-                        return made;
-                    };
-                    take_front(ends, from);
-                    self.stage = next;
-                }
-                StageMove::Take(port, at_f, at_t) => {
-                    let from = inputs[port];
-                    let Some(next) = stage_at(at_f, at_t, ends, from) else {
-                        return made;
-                    };
-                    take_front(ends, from);
-                    self.stage = next;
-                }
-                StageMove::Give(port, flag, next) => {
-                    let to = outputs[port];
-                    if ends.space(to) == 0 {
-                        return made;
-                    }
-                    put_in_space(ends, to, Msg::Item(Item::Bool(flag)));
-                    self.stage = next;
-                }
-            }
-        }
-        most
     }
 }

@@ -9,9 +9,8 @@ ghost use Rattle.flow_base.specs.declared.node.Phase.TheVariants.{Working};
 ghost use Rattle.flow_segment.specs.PackMachine.{kept, trues, pack_machine, pack_view};
 ghost use Rattle.flow_segment.specs.declared.pack.Pair.TheVariants.{Start as StartState};
 
-use crate::fronts::{flag_in_front, scalar_in_front};
-use flow_base::{Ask, BLOCK, SHORT_BLOCK, Stop, Worker, put_in_space, take_front};
-use flow_messages::{Ends, Flat, Item, Kind, Msg};
+use flow_base::{Ask, BLOCK, SHORT_BLOCK, Stop, Worker};
+use flow_messages::{Ends, Flat, Item, Kind};
 use snesl_data::FaultKind;
 use std::alloc::AllocError;
 use std::mem;
@@ -281,44 +280,5 @@ impl Worker for Pack {
             return self.rounds(inputs, outputs, ends, most, &mut [0; SHORT_BLOCK]);
         }
         self.rounds(inputs, outputs, ends, most, &mut [0; BLOCK])
-    }
-
-    // A pair that is kept is three steps, and one that is not is two.
-    #[inline(always)]
-    fn kernel<E: Ends>(
-        &mut self,
-        inputs: &[usize],
-        outputs: &[usize],
-        ends: &mut E,
-        most: usize,
-    ) -> usize {
-        let Pair::Start = self.pair else {
-            return 0;
-        };
-        let truths = inputs[0];
-        let items = inputs[1];
-        // Two messages of one edge are not seen at once.
-        if truths == items {
-            return 0;
-        }
-        let to = outputs[0];
-        let mut made = 0;
-        for _ in 0..ends.space(to).min(most / 3) {
-            let Some(keep) = flag_in_front(ends, truths) else {
-                return made;
-            };
-            let Some(item) = scalar_in_front(ends, items, self.kind) else {
-                return made;
-            };
-            take_front(ends, truths);
-            take_front(ends, items);
-            if !keep {
-                made += 2;
-                continue;
-            }
-            put_in_space(ends, to, Msg::Item(item));
-            made += 3;
-        }
-        made
     }
 }
