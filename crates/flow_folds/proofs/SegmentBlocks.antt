@@ -1,5 +1,5 @@
--- What blocks of segments share: the flags of elements, what stays certain to come, and how many steps there are.
-use Rattle.std.proofs.Common.{◌≡◌, ℕ, zero, suc, ◌+◌, ◌*◌, Bool, false, List, [], ◌∷◌, sym, subst, arith, inl, inr}
+-- What blocks of segments share: the flags of elements, and what stays certain to come.
+use Rattle.std.proofs.Common.{ℕ, zero, suc, Bool, false, List, [], ◌∷◌, sym, subst, inl, inr}
 use Rattle.std.proofs.lemmas.Bool.{cases_eq}
 use mathlib.Core.List.{IsPrefix}
 use Rattle.flow_messages.specs.Ends.{View, PutAll}
@@ -17,7 +17,3 @@ coming_still v w f e ms put = elim (cases_eq e f) [
   | inl at ↦ subst (λ k. IsPrefix (v.coming k) (w.coming k)) (sym at) put.coming_here
   | inr ne ↦ prefix_same (v.coming e) (w.coming e) (put.coming e ne)
 ]
-
--- the steps of one instance more
-pub two_more : (n : ℕ) → (2 * n + 1) + 1 ≡ 2 * (n + 1)
-two_more n = omega arith

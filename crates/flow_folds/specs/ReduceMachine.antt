@@ -11,8 +11,7 @@ use Rattle.snesl_operators.specs.declared.operator.Reduction.{Reduction}
 use Rattle.snesl_operators.specs.declared.operator.Reduction.TheVariants.{Sum}
 use Rattle.flow_messages.specs.declared.message.Kind.{Kind}
 use Rattle.flow_messages.specs.declared.message.Kind.TheVariants.{Bool as BoolKind}
-use Rattle.flow_messages.specs.Signals.{Signal}
-use Rattle.flow_base.specs.Machines.{Taking, Leads, on_flag, on_kind, Move, begins, takes, gives, one_write, Machine}
+use Rattle.flow_base.specs.Machines.{Taking, on_flag, on_kind, Move, begins, takes, gives, one_write, Machine}
 use Rattle.flow_folds.specs.Scalars.{kind_of_type, cell_of_scalar, scalar_in}
 use Rattle.flow_folds.specs.OwnDialect.{InOwn}
 use Rattle.flow_folds.specs.Rows.{ReduceRow}
@@ -39,12 +38,6 @@ reduce_move dialect reduction Start = begins (at_flag (reduced_nothing reduction
 reduce_move dialect reduction (Flag so_far) = takes 0 (at_flag so_far)
 reduce_move dialect reduction (Element so_far) = takes 1 (on_kind (reduced_kind reduction) (λ x. at_element dialect reduction so_far (scalar_in x)))
 reduce_move dialect reduction (Value value) = gives 0 (cell_of_scalar value) Start
-
--- a flag comes at this stage, and the message is one that leads to the next
-abbrev pub LeadsAtFlag : Reduction → Stage → Signal → Stage → Type 0
-LeadsAtFlag reduction Start message next = Leads (at_flag (reduced_nothing reduction)) message next
-LeadsAtFlag reduction (Flag so_far) message next = Leads (at_flag so_far) message next
-LeadsAtFlag reduction _ message next = ⊥
 
 abbrev pub reduce_kind_in : Reduction → ℕ → Kind
 reduce_kind_in reduction zero = BoolKind
