@@ -1,5 +1,5 @@
 -- Where items lead that carry operands.
-use Rattle.std.proofs.Common.{◌≡◌, ℕ, ◌+◌, ◌*◌, false, Option, Some, None, Result, Ok, refl, ap, arith}
+use Rattle.std.proofs.Common.{◌≡◌, false, Option, Some, None, Result, Ok, refl, ap}
 use Rattle.std.specs.Prelude.{is_some}
 use Rattle.snesl_data.specs.declared.fault.FaultKind.{FaultKind}
 use Rattle.snesl_operators.specs.declared.scalar.Scalar.{Scalar}
@@ -20,10 +20,6 @@ operand_taken BoolType next (flag b) k e = let same : Truth b ≡ k = cc in ap n
 operand_taken BoolType next unit k e = absurd (cc)
 operand_taken BoolType next (int n) k e = absurd (cc)
 operand_taken BoolType next (datum v) k e = absurd (cc)
-
--- the steps of one instance more
-pub three_more : (n : ℕ) → ((3 * n + 1) + 1) + 1 ≡ 3 * (n + 1)
-three_more n = omega arith
 
 pub nothing : {A : Type 0} (o : Option A) → is_some o ≡ false → o ≡ None
 nothing None e = refl

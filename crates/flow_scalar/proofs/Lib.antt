@@ -8,5 +8,4 @@ pub mod SinkBlocks
 pub mod UnaryBlocks
 pub mod UnitsOfBlocks
 pub mod ValueBlocks
-pub mod ValueTypes
 pub mod Passers
