@@ -8,7 +8,7 @@ use Rattle.flow_messages.specs.Cells.{Cell, flag}
 use Rattle.flow_messages.specs.Ends.{View, LookedForRoom, TakenAll, PutAll}
 use Rattle.flow_messages.specs.Blocks.{flag_signals}
 use Rattle.flow_messages.specs.Signals.{Signal, carry}
-use Rattle.flow_base.specs.Machines.{Taking, state_after_item, begins, takes, gives, MachineLaws, SoundAt, ask_of, state_after_read, written_cell, state_after_write, Leads}
+use Rattle.flow_base.specs.Machines.{Taking, state_after_item, takes, gives, MachineLaws, SoundAt, ask_of, state_after_read, written_cell, state_after_write, Leads}
 use Rattle.flow_base.specs.Nodes.{NodeState, behaviour_of, node_state, want_for}
 use Rattle.flow_base.specs.Visits.{edge_of, Went}
 use Rattle.flow_base.specs.declared.node.Phase.TheVariants.{Working}
@@ -18,16 +18,10 @@ use Rattle.flow_segment.specs.FlagTables.{FlagTable, over_flags}
 use Rattle.flow_segment.specs.FlagBlocks.{two_blocks, one_block, Apart, RunsOver}
 use Rattle.flow_segment.proofs.Blocks.{no_block, no_blocks}
 
--- the ports are there of which a table reads, and to which it writes
+-- the ports are there of which a table reads
 module _ {S : Type 0} (t : FlagTable S) (laws : MachineLaws (over_flags t)) (s : S) where
-  pub first_there : (k : Taking S) → begins k ≡ t.move s → 0 < t.inputs
-  first_there k is = (subst (SoundAt (over_flags t) tt s) (sym is) (laws.sound tt s)).1.0
-
   pub input_there : (p : ℕ) (k : Taking S) → takes p k ≡ t.move s → p < t.inputs
   input_there p k is = (subst (SoundAt (over_flags t) tt s) (sym is) (laws.sound tt s)).0
-
-  pub output_there : (q : ℕ) (x : Cell) (next : S) → gives q x next ≡ t.move s → q < t.outputs
-  output_there q x next is = (subst (SoundAt (over_flags t) tt s) (sym is) (laws.sound tt s)).0
 
 -- more of the first of two blocks, and more of the second
 first_then : (b c : Bool) (xs ys ms : List Signal) → (b ≡ true → c ≡ true → ys ≡ []) → (cond b xs [] ++ cond c ys []) ++ cond b ms [] ≡ cond b (xs ++ ms) [] ++ cond c ys []
