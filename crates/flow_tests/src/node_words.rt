@@ -45,7 +45,7 @@ pub fn node_of(alloc: Global, words: &str, at: usize) -> Result<StreamNode, Word
             let (kind, outputs) = branches_of(parameters)?;
             Ok(StreamNode::Fork(Node::new(Fork::new(kind, outputs), at)))
         }
-        _ => kind_node(alloc, kind, named(&KINDS, parameters)?, at),
+        _ => kind_node(kind, named(&KINDS, parameters)?, at),
     }
 }
 
@@ -112,7 +112,7 @@ fn computing_node(dialect: Dialect, work: Work, at: usize) -> StreamNode
 }
 
 // A node whose parameter is the kind of its items.
-fn kind_node(alloc: Global, kind: &str, of: Kind, at: usize) -> Result<StreamNode, WordError>
+fn kind_node(kind: &str, of: Kind, at: usize) -> Result<StreamNode, WordError>
     ensures { IfOk result (λ node. node_behaviour.opening (state_of node) ≡ state_of node) }
 {
     match kind {

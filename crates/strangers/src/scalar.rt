@@ -5,7 +5,7 @@ use flow_scalar::{
     ScanAdd, Side, Sink, Source, Stream, Transducer, Unary, UnaryOperator, UnitsOf, Want, workers,
 };
 use snesl_values::Dialect;
-use std::alloc::{AllocError, Global};
+use std::alloc::AllocError;
 
 /// What a transducer wants.
 pub fn wanted(node: &impl Transducer) -> Want {
@@ -38,7 +38,7 @@ pub fn emitted<T: Transducer>(node: &mut T) -> Result<Option<Msg>, AllocError> {
 }
 
 /// The first unit of three.
-pub fn first_unit(alloc: Global) -> Result<Msg, AllocError> {
+pub fn first_unit() -> Result<Msg, AllocError> {
     let mut units = Source::new(Stream::Units(3));
     units.emit()
 }
@@ -76,7 +76,7 @@ pub fn operators() -> [Want; 2] {
 }
 
 /// What a copy to two outputs and a sink want.
-pub fn copies(alloc: Global) -> [Want; 2] {
+pub fn copies() -> [Want; 2] {
     let fork = Fork::new(workers::Fork::new(Kind::Unit, 2), 0);
     let sink = Sink::new(workers::Sink::new(Kind::Unit), 0);
     [wanted(&fork), wanted(&sink)]

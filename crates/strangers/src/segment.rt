@@ -22,7 +22,7 @@ pub fn flags() -> [Want; 7] {
 }
 
 /// What transducers want that move items of segments.
-pub fn items(alloc: Global) -> [Want; 4] {
+pub fn items() -> [Want; 4] {
     [
         Dist::new(workers::Dist::new(Kind::Int), 0).want(),
         Pack::new(workers::Pack::new(Kind::Int), 0).want(),
