@@ -36,7 +36,7 @@ pub fn squares(alloc: Global, count: u64) -> io::Result<Graph<StreamNode>>
     ensures { IfOk result (λ graph. AreOpened node_behaviour (states_of graph)) }
 {
     let mut builder = empty(alloc);
-    add_nodes(&mut builder, alloc, count)?;
+    add_nodes(&mut builder, count)?;
     add_edges(&mut builder)?;
     if !builder.complete() {
         return Err(Error::from(ErrorKind::InvalidInput));
@@ -45,7 +45,7 @@ pub fn squares(alloc: Global, count: u64) -> io::Result<Graph<StreamNode>>
 }
 
 // Adds the nodes to a builder, in the order of their numbers. It is lent, so nothing is let go where one is refused.
-fn add_nodes(builder: &mut GraphBuilder<StreamNode>, alloc: Global, count: u64) -> io::Result<()>
+fn add_nodes(builder: &mut GraphBuilder<StreamNode>, count: u64) -> io::Result<()>
     requires { AreOpened node_behaviour (states_so_far builder.old) }
     ensures { AreOpened node_behaviour (states_so_far builder.new) }
 {
