@@ -1,4 +1,5 @@
-//! Runs one of four programs by one of four peers of the product, none of which is proved, and prints the answer.
+//! Runs one of six programs by one of four peers of the product, none of which is proved, and prints the answer. The last
+//! two, which have vectors, run by the peers `vectors` and `plain` alone.
 //!
 //!     peers PEER PROGRAM ELEMENTS CHUNK CAPACITY
 //!
@@ -24,7 +25,7 @@ use std::process::ExitCode;
 use std::str::FromStr;
 
 const USAGE: &str =
-    "peers twin|vectors|plain|threads squares|wide|nest|deep ELEMENTS CHUNK CAPACITY";
+    "peers twin|vectors|plain|threads squares|wide|nest|deep|indices|sparse ELEMENTS CHUNK CAPACITY";
 
 fn main() -> ExitCode {
     let words: Vec<String> = env::args().skip(1).collect();
@@ -51,7 +52,7 @@ fn answered(words: &[String]) -> Option<String> {
     };
     let peer: Peer = peer.parse().ok()?;
     let program: Program = program.parse().ok()?;
-    let answer = peer.run(program, u32::from_str(elements).ok()?, settings);
+    let answer = peer.run(program, u32::from_str(elements).ok()?, settings)?;
     Some(answer.to_string())
 }
 
@@ -83,6 +84,8 @@ mod tests {
             "plain squares -1 16 256",
             "twin squares 4 0 256",
             "twin squares 4 16 0",
+            "twin sparse 4 16 256",
+            "threads indices 4 16 256",
         ] {
             assert_eq!(line(text), None, "{text}");
         }

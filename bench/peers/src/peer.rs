@@ -42,12 +42,13 @@ pub enum Answer {
 }
 
 impl Peer {
-    pub fn run(self, program: Program, elements: u32, settings: Settings) -> Answer {
+    /// What the program comes to, or none where the peer goes over networks and the program has none here.
+    pub fn run(self, program: Program, elements: u32, settings: Settings) -> Option<Answer> {
         match self {
-            Peer::Twin => twin::run(program.network(elements), settings),
-            Peer::Threads => threads::run(program.network(elements), settings.capacity),
-            Peer::Vectors => Answer::of(vectors::run(program, elements)),
-            Peer::Plain => Answer::of(plain::run(program, elements)),
+            Peer::Twin => Some(twin::run(program.network(elements)?, settings)),
+            Peer::Threads => Some(threads::run(program.network(elements)?, settings.capacity)),
+            Peer::Vectors => Some(Answer::of(vectors::run(program, elements))),
+            Peer::Plain => Some(Answer::of(plain::run(program, elements))),
         }
     }
 }
@@ -93,7 +94,7 @@ mod tests {
     const PEERS: [Peer; 4] = [Peer::Twin, Peer::Vectors, Peer::Plain, Peer::Threads];
 
     /// What each peer answers, which is to be the same at several settings.
-    fn answers(program: Program, elements: u32) -> Vec<Answer> {
+    fn answers(program: Program, elements: u32) -> Vec<Option<Answer>> {
         let settings = [(16, 256), (1, 2), (7, 3)];
         let run = |peer: Peer| {
             settings
@@ -117,8 +118,33 @@ mod tests {
             ];
             for (program, value) in values {
                 for answer in answers(program, elements) {
-                    assert_eq!(answer, Answer::Value(value), "{program:?} of {elements}");
+                    let wanted = Some(Answer::Value(value));
+                    assert_eq!(answer, wanted, "{program:?} of {elements}");
                 }
+            }
+        }
+    }
+
+    #[test]
+    fn programs_with_vectors_have_values_without_a_network() {
+        let settings = Settings {
+            chunk: 16,
+            capacity: 256,
+        };
+        for n in [0, 1, 9, 200] {
+            let entry = |i: i128, j: i128| (j + 1) * ((i * 7 + j * 13) % i128::from(n));
+            let entries = (0..i128::from(4 * n)).map(|k| entry(k / 4, k % 4));
+            let values = [
+                (Program::Indices, (0..i128::from(n)).sum()),
+                (Program::Sparse, entries.sum()),
+            ];
+            for (program, value) in values {
+                for peer in [Peer::Vectors, Peer::Plain] {
+                    let answer = peer.run(program, n, settings);
+                    assert_eq!(answer, Some(Answer::Value(value)), "{program:?} of {n}");
+                }
+                assert_eq!(Peer::Twin.run(program, n, settings), None);
+                assert_eq!(Peer::Threads.run(program, n, settings), None);
             }
         }
     }

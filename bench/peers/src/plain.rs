@@ -1,6 +1,6 @@
-//! Plain loops, which make no sequence.
+//! Plain loops, which make no sequence. A vector is a slice, and its elements are read by their index.
 
-use crate::program::{Program, DEPTH, ENTRIES, SUMS};
+use crate::program::{Program, COLUMN_STEP, DEPTH, ENTRIES, ROW_STEP, SPARSE_ENTRIES, SUMS};
 use std::hint::black_box;
 
 /// The value of the program, or none where a number is beyond 64 bits.
@@ -11,6 +11,8 @@ pub fn run(program: Program, elements: u32) -> Option<i64> {
         Program::Wide => wide(count / i64::from(SUMS)),
         Program::Nest => nest(count / i64::from(ENTRIES)),
         Program::Deep => deep(count),
+        Program::Indices => indices(count),
+        Program::Sparse => sparse(count),
     }
 }
 
@@ -53,6 +55,35 @@ fn deep(count: i64) -> Option<i64> {
             element = element.checked_add(1)?;
         }
         sum = sum.checked_add(element)?;
+    }
+    Some(sum)
+}
+
+fn indices(count: i64) -> Option<i64> {
+    // The compiler is not to know what the vector holds.
+    let vector: Vec<i64> = black_box((0..count).collect());
+    let mut sum = 0_i64;
+    for i in 0..count {
+        sum = sum.checked_add(*vector.get(usize::try_from(i).ok()?)?)?;
+    }
+    Some(sum)
+}
+
+fn sparse(rows: i64) -> Option<i64> {
+    let vector: Vec<i64> = black_box((0..rows).collect());
+    let entries = black_box(i64::from(SPARSE_ENTRIES));
+    let mut sum = 0_i64;
+    for i in 0..rows {
+        let mut row = 0_i64;
+        for j in 0..entries {
+            let column = i
+                .checked_mul(ROW_STEP)?
+                .checked_add(j.checked_mul(COLUMN_STEP)?)?
+                .checked_rem(rows)?;
+            let element = *vector.get(usize::try_from(column).ok()?)?;
+            row = row.checked_add(j.checked_add(1)?.checked_mul(element)?)?;
+        }
+        sum = sum.checked_add(row)?;
     }
     Some(sum)
 }

@@ -1,4 +1,4 @@
-//! The four programs, as the networks that the product makes of them.
+//! The programs, and the networks that the product makes of four of them.
 
 use crate::arithmetic::{Operator, Wide};
 use crate::network::{Network, Segments, Wire};
@@ -10,6 +10,11 @@ pub const SUMS: u32 = 8;
 pub const ENTRIES: u32 = 8;
 /// How many comprehensions `deep` has, one after another.
 pub const DEPTH: u32 = 20;
+/// How many entries a row of `sparse` has.
+pub const SPARSE_ENTRIES: u32 = 4;
+/// How far the columns of a row of `sparse` lie apart, and those of a row and of the next.
+pub const COLUMN_STEP: i64 = 13;
+pub const ROW_STEP: i64 = 7;
 
 /// A program, which goes over so many elements as it is told.
 #[derive(Clone, Copy, Debug, PartialEq, Eq)]
@@ -23,6 +28,12 @@ pub enum Program {
     Nest,
     /// `reduce_add({x + 1 : x in .. {x + 1 : x in iota(n)} ..})`, with 20 comprehensions
     Deep,
+    /// `let v = tab(iota(n)) in reduce_add({v ! i : i in iota(n)})`
+    Indices,
+    /// `let x = tab(iota(n)) in
+    /// reduce_add({reduce_add({(j + 1) * (x ! ((i * 7 + j * 13) % n)) : j in iota(4)}) : i in iota(n)})`: a sparse matrix of n
+    /// rows with 4 entries times a vector of n. For no elements it is 0.
+    Sparse,
 }
 
 impl FromStr for Program {
@@ -34,14 +45,16 @@ impl FromStr for Program {
             "wide" => Ok(Program::Wide),
             "nest" => Ok(Program::Nest),
             "deep" => Ok(Program::Deep),
+            "indices" => Ok(Program::Indices),
+            "sparse" => Ok(Program::Sparse),
             _ => Err(()),
         }
     }
 }
 
 impl Program {
-    /// Its network. Its nodes stand in the order of the product's.
-    pub fn network(self, elements: u32) -> Network {
+    /// Its network, where it has one here. Its nodes stand in the order of the product's.
+    pub fn network(self, elements: u32) -> Option<Network> {
         let mut network = Network::default();
         let start = network.source();
         let sum = match self {
@@ -49,9 +62,11 @@ impl Program {
             Program::Wide => wide(&mut network, start, elements / SUMS),
             Program::Nest => nest(&mut network, start, elements / ENTRIES),
             Program::Deep => deep(&mut network, start, elements),
+            // No peer has a node for a vector.
+            Program::Indices | Program::Sparse => return None,
         };
         network.print(sum);
-        network
+        Some(network)
     }
 }
 
@@ -134,6 +149,7 @@ fn deep(network: &mut Network, start: Wire, count: u32) -> Wire {
 #[cfg(test)]
 mod tests {
     use super::Program;
+    use crate::network::Network;
 
     #[test]
     fn networks_have_the_nodes_and_edges_of_the_product() {
@@ -144,10 +160,10 @@ mod tests {
             (Program::Deep, 66, 86),
         ];
         for (program, nodes, edges) in sizes {
-            let network = program.network(8);
+            let size = |it: Network| (it.places.len(), it.edges);
             assert_eq!(
-                (network.places.len(), network.edges),
-                (nodes, edges),
+                program.network(8).map(size),
+                Some((nodes, edges)),
                 "{program:?}"
             );
         }
@@ -161,7 +177,7 @@ mod tests {
             Program::Nest,
             Program::Deep,
         ] {
-            let network = program.network(8);
+            let network = program.network(8).expect("each of these has one");
             let mut writers = vec![None; network.edges];
             let mut readers = vec![0; network.edges];
             for (number, place) in network.places.iter().enumerate() {

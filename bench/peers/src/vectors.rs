@@ -1,7 +1,7 @@
 //! Whole vectors: each operation reads vectors and makes one, as a plain implementation of a data-parallel language
 //! does. Constants are spread over vectors too.
 
-use crate::program::{Program, DEPTH, ENTRIES, SUMS};
+use crate::program::{Program, COLUMN_STEP, DEPTH, ENTRIES, ROW_STEP, SPARSE_ENTRIES, SUMS};
 
 /// The value of the program, or none where a number is beyond 64 bits.
 pub fn run(program: Program, elements: u32) -> Option<i64> {
@@ -10,6 +10,8 @@ pub fn run(program: Program, elements: u32) -> Option<i64> {
         Program::Wide => wide(elements / SUMS),
         Program::Nest => nest(elements / ENTRIES),
         Program::Deep => deep(elements),
+        Program::Indices => sum(&gathered(&iota(elements), &iota(elements))?),
+        Program::Sparse => sparse(elements),
     }
 }
 
@@ -48,6 +50,32 @@ fn deep(count: u32) -> Option<i64> {
         numbers = sums(&numbers, &spread(1, numbers.len()))?;
     }
     sum(&numbers)
+}
+
+fn sparse(rows: u32) -> Option<i64> {
+    let vector = iota(rows);
+    let lengths = vec![SPARSE_ENTRIES; rows as usize];
+    let entries = iotas(&lengths);
+    let rows = repeated(&vector, &lengths);
+    let count = entries.len();
+    let columns = sums(
+        &products(&rows, &spread(ROW_STEP, count))?,
+        &products(&entries, &spread(COLUMN_STEP, count))?,
+    )?;
+    let width = spread(i64::try_from(vector.len()).ok()?, count);
+    let columns = paired(&columns, &width, i64::checked_rem)?;
+    let values = sums(&entries, &spread(1, count))?;
+    let terms = products(&values, &gathered(&vector, &columns)?)?;
+    sum(&segment_sums(&terms, &lengths)?)
+}
+
+/// The elements at these places, or none where there is no such place.
+fn gathered(elements: &[i64], places: &[i64]) -> Option<Vec<i64>> {
+    let mut made = Vec::with_capacity(places.len());
+    for &place in places {
+        made.push(*elements.get(usize::try_from(place).ok()?)?);
+    }
+    Some(made)
 }
 
 /// The numbers below `count`.
@@ -123,7 +151,7 @@ fn segment_sums(numbers: &[i64], lengths: &[u32]) -> Option<Vec<i64>> {
 
 #[cfg(test)]
 mod tests {
-    use super::{iotas, paired, repeated, segment_sums, sum};
+    use super::{gathered, iotas, paired, repeated, segment_sums, sum};
 
     #[test]
     fn segments_have_their_lengths() {
@@ -134,6 +162,13 @@ mod tests {
             segment_sums(&[1, 2, 3, 4, 5], &lengths),
             Some(vec![3, 0, 12])
         );
+    }
+
+    #[test]
+    fn elements_are_gathered_where_their_places_are() {
+        assert_eq!(gathered(&[7, 8, 9], &[2, 0, 2]), Some(vec![9, 7, 9]));
+        assert_eq!(gathered(&[7, 8, 9], &[3]), None);
+        assert_eq!(gathered(&[7, 8, 9], &[-1]), None);
     }
 
     #[test]
