@@ -15,7 +15,7 @@ from .networks import Network
 from .program import Program
 from .programs import Refused, Source, parts_of_job, refusal
 from .relations import Deriver
-from .values import plain
+from .values import key_of, plain
 
 CRATES = os.path.join(os.path.dirname(os.path.abspath(__file__)), "..", "..", "crates")
 MOST_STEPS = 100_000
@@ -48,6 +48,10 @@ def deriver(program):
     return program.deriver
 
 
+class OtherType(Exception):
+    """What is not of the type of its program."""
+
+
 class Job:
     """A job: its program with its tree and type, and the values of its inputs."""
 
@@ -67,6 +71,8 @@ class Job:
         inputs = self.declared["inputs"]
         cells = call("snesl_translation.specs.Programs", "cells_of", inputs, self.environment)
         self.plan = call("snesl_translation.specs.Programs", "program_plan", self.source.text, self.tree, inputs, cells)
+        if key_of(call("snesl_translation.specs.Wires", "type_of_wires", self.plan["given"])) != key_of(self.type):
+            raise OtherType(self.plan["given"])
         layout = call("flow_plans.specs.Layouts", "layout", self.plan["steps"])
         limits = "flow_networks.specs.Limits"
         edges = call("flow_plans.specs.Layouts", "edges_needed", layout)
@@ -78,6 +84,9 @@ class Job:
         """What evaluation answers, as a line."""
         answer = self.source.value(self.tree, self.environment)
         if answer.name == "gives":
+            is_of_type = self.definitions.call("snesl_data.specs.Values", "HasType", self.tree["dialect"], answer.given[0], self.type)
+            if not deriver(self.definitions).decide(is_of_type):
+                raise OtherType(answer.given[0])
             return bytes(plain(self.definitions.call("snesl_data.specs.Text", "text", answer.given[0])))
         return self.line("fault_line", *answer.given)
 

@@ -128,19 +128,36 @@ class Rows:
             for row in self.short[::WARMING]:
                 self.trial.differs(row)
 
+    def near(self, change):
+        """The cheap rows that reach a change, the cheapest first."""
+        return [self.short[one.number] for one in self.reached if (change.definition.key, change.at) in one.places]
+
     def for_change(self, change, seed):
         """The rows to try of a change: cheap ones that reach it, some of the others that do, some longer ones, those that have the
         text that is changed, and those about limits."""
-        place, chance = (change.definition.key, change.at), random.Random(seed)
-        near = [self.short[one.number] for one in self.reached if place in one.places]
+        near, chance = self.near(change), random.Random(seed)
         further = chance.sample(near, min(len(near), ROWS_EACH // 2))
         others = chance.sample(self.others, min(len(self.others), ROWS_EACH))
         others += [row for row in self.short + self.others if change.text and change.text in row.job][:ROWS_EACH]
         return near[:ROWS_EACH // 2] + further + others + [row for row in self.short + self.others if row.place.startswith(LIMITS)]
 
 
-def run(seed, most, seconds, processes):
-    """Tries so many changes at most, for so many seconds, and prints those that live without a reason; 1 where there are such."""
+class Part:
+    """Which changes of an order are tried: from the `first`-th on, so many at most, and of these those whose names have one of the texts."""
+
+    def __init__(self, first, most, texts):
+        self.first = first
+        self.most = most
+        self.texts = texts
+
+    def of(self, changes):
+        """Those changes, in order."""
+        some = changes[self.first - 1:][:self.most]
+        return [change for change in some if any(text in change.name for text in self.texts)]
+
+
+def run(seed, part, seconds, processes):
+    """Tries a part of the changes, for so many seconds, and prints those that live without a reason; 1 where there are such."""
     program = definitions()
     unknown_forms(program, whole_headline(program.modules, os.path.abspath(CRATES)))
     rows = Rows(program, processes)
@@ -154,13 +171,15 @@ def run(seed, most, seconds, processes):
         if time.time() > end:
             return None
         rows.warm()
-        status = verdict_apart(program, change, rows.for_change(change, seed))
+        tries = rows.near(change) if change.name in known else rows.for_change(change, seed)
+        status = verdict_apart(program, change, tries)
         if status == LIVES and change.name not in known:
             print(f"lives: {change.name}", flush=True)
         return status
 
-    found, _ = in_processes(tried, changes[:most], processes)
-    return summed(changes, found, known)
+    some = part.of(changes)
+    found, _ = in_processes(tried, some, processes)
+    return summed(some, found, known)
 
 
 def summed(changes, found, known):

@@ -2,10 +2,13 @@
 
 from collections import Counter
 
+from .argument_types import constructor_takes, differ_in_type
+from .matching import Match
 from .modules import explicit_parameters
 from .relations import header_of
 from .scope import NameMissing, Scope
 from .taken import fields_of
+from .terms import tokens_used
 from .tokens import Token, binder_names
 
 OTHERS = {
@@ -53,7 +56,7 @@ def changed_word(token):
 
 
 def siblings(scope, token):
-    """The next constructor of the same type in the place of one, by the names that the module knows them by."""
+    """The next constructor of the same type that takes the same, in the place of one, by the names that the module knows them by."""
     try:
         found = scope.own(str(token))
     except NameMissing:
@@ -69,7 +72,8 @@ def siblings(scope, token):
     else:
         names = same_type_imports(scope, str(token))
     at = names.index(str(token))
-    return names[(at + 1) % len(names)] if len(names) > 1 else None
+    takes = constructor_takes(scope, str(token))
+    return next((name for name in names[at + 1:] + names[:at] if constructor_takes(scope, name) == takes), None)
 
 
 def same_type_imports(scope, name):
@@ -89,8 +93,8 @@ def are_bound_for_once(tokens, names):
     return all(list(tokens).count(name) == 2 for name in names) and binder_names(tokens, ("{",)).issuperset(names)
 
 
-def exchanged(tokens, at, parameters):
-    """The tokens with two names that follow each other exchanged, where both are arguments; else None.
+def exchanged(scope, tokens, at, parameters):
+    """The tokens with two names that follow each other exchanged, where both are arguments, and of one type as far as is known; else None.
 
     The parameters of a relation are of different types, so their exchange is refused before it is run.
     """
@@ -102,9 +106,23 @@ def exchanged(tokens, at, parameters):
         return None
     if first in parameters or second in parameters or are_bound_for_once(tokens, (first, second)):
         return None
-    if first == second or first.endswith(".") or second.endswith("."):
+    if first == second or any(word.endswith(".") for word in words) or differ_in_type(scope, tokens, at):
         return None
     return tokens[:at] + [second, first] + tokens[at + 2:]
+
+
+def may_answer(scope, equation, following):
+    """Whether the answer of the case that follows is another one, and has no name that only its own patterns bind."""
+    own, others = names_bound(scope, equation), names_bound(scope, following)
+    return following.right != equation.right and not (tokens_used(following.right).keys() & others) - own
+
+
+def names_bound(scope, equation):
+    """The names that the patterns of an equation bind."""
+    match = Match(scope)
+    for pattern in equation.patterns:
+        match.take(pattern, "value")
+    return match.bound.keys()
 
 
 def changes_of(program, definition):
@@ -121,7 +139,7 @@ def changes_of(program, definition):
         fields = fields_of(equation.right)
         for what, right, place in changed_sides(scope, equation.right):
             yield Change(definition, number, what, equation.with_right(right), fields[place])
-        if number + 1 < len(equations) and equations[number + 1].right != equation.right:
+        if number + 1 < len(equations) and may_answer(scope, equation, equations[number + 1]):
             yield Change(definition, number, "the answer of the next case", equation.with_right(equations[number + 1].right))
 
 
@@ -129,7 +147,7 @@ def changed_sides(scope, right, parameters=()):
     """The changed right sides of an equation, each with what was changed, which is told from others of its name, and where."""
     names = Counter()
     for at, token in enumerate(right):
-        word, other = changed_word(token) or siblings(scope, token), exchanged(right, at, parameters)
+        word, other = changed_word(token) or siblings(scope, token), exchanged(scope, right, at, parameters)
         sides = [] if word in (None, token) or is_level(right, at) else [(f"`{token}` is `{word}`", with_token(right, at, word))]
         sides += [] if other is None else [(f"`{token}` and `{right[at + 1]}` exchanged", other)]
         for name, changed in sides:

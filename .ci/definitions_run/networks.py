@@ -2,7 +2,7 @@
 
 from collections import deque
 
-from .values import Built
+from .values import Built, key_of
 
 WANT = "Rattle.kahn.specs.declared.want.Want.TheVariants."
 OPERATION = "Rattle.flow_plans.specs.Plans."
@@ -36,12 +36,18 @@ MACHINES = {
 }
 
 
+class NotAsSaid(Exception):
+    """A node that is not what its operation says, or an edge that is not what its nodes say."""
+
+
 class Node:
     """A node: its behaviour, and the state that it is in."""
 
     def __init__(self, behaviour, state):
+        self.behaviour = behaviour
         self.process = behaviour["process"]
         self.state = state
+        self.kinds = None
         self.wanted = None
 
     def want(self):
@@ -54,6 +60,12 @@ class Node:
     def read(self, message):
         """Takes a message."""
         self.state, self.wanted = self.process["read"](self.state)(message), None
+
+    def ports(self):
+        """The kinds of its ports: of those where it reads, and of those where it writes."""
+        for count, kind in (("inputs", "kind_in"), ("outputs", "kind_out")):
+            kind_at = self.behaviour[kind](self.state)
+            yield tuple(kind_at(port) for port in range(self.behaviour[count](self.state)))
 
     def write(self):
         """Gives the message that it writes."""
@@ -68,12 +80,33 @@ class Network:
     def __init__(self, definitions, layout, capacity):
         self.definitions = definitions
         self.capacity = capacity
-        self.nodes = [self.opened(placed) for placed in layout]
+        self.kinds = {}
+        self.nodes = [self.performing(placed) for placed in layout]
         self.edges = definitions.call("flow_plans.specs.Layouts", "edges_between", layout)
         self.queues = [deque() for _ in self.edges]
         self.steps = 0
         self.read_from = {(edge["reader"], edge["reader_port"]): at for at, edge in enumerate(self.edges)}
         self.written_to = {(edge["writer"], edge["writer_port"]): at for at, edge in enumerate(self.edges)}
+        self.check_edges()
+
+    def performing(self, placed):
+        """The node of an operation, which is told to have the ports of it, and to be in its opening state (`Performs` of flow_plans)."""
+        node, operation = self.opened(placed), placed["operation"]
+        if operation not in self.kinds:
+            self.kinds[operation] = [tuple(self.definitions.call("flow_plans.specs.Ports", name, operation)) for name in ("kinds_read", "kinds_written")]
+            if self.kinds[operation] != list(node.ports()):
+                raise NotAsSaid(operation)
+        node.kinds = self.kinds[operation]
+        if len(placed["reads"]) != len(node.kinds[0]) or key_of(node.behaviour["opening"](node.state)) != key_of(node.state):
+            raise NotAsSaid(operation)
+        return node
+
+    def check_edges(self):
+        """Tells that each edge is of one kind at both of its ends."""
+        for edge in self.edges:
+            written = self.nodes[edge["writer"]].kinds[1][edge["writer_port"]]
+            if written != self.nodes[edge["reader"]].kinds[0][edge["reader_port"]]:
+                raise NotAsSaid(edge)
 
     def opened(self, placed):
         """The node of an operation, in the state in which it opens."""
@@ -138,6 +171,9 @@ class Network:
         wants = [node.want() for node in self.nodes]
         faults = [given[0] for want, given in wants if want == "Faulted"]
         if self.holds(deriver, "Value"):
+            # each node has read its streams to their ends (`IsLawfulFlow` of flow_networks)
+            if any(self.queues):
+                raise NotAsSaid("what was not read")
             return "value", bytes(self.nodes[-1].state["text"]), None
         if faults:
             named = [one for one in faults if all(self.is_before(deriver, one, other) for other in faults)]

@@ -4,6 +4,7 @@
 DRIVEN = {
     "process", "want", "read", "written", "wrote", "start", "operation", "at", "kind", "text",
     "writer", "writer_port", "reader", "reader_port", "dialect", "inputs", "steps",
+    "outputs", "kind_in", "kind_out", "reads", "writes", "opening",
 }
 
 
