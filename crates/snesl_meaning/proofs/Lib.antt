@@ -1,2 +1,4 @@
+pub mod InRange
 pub mod Meanings
+pub mod NotOfMemory
 pub mod SomeMeaning

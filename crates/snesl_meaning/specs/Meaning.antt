@@ -2,7 +2,7 @@
 use Rattle.std.specs.Prelude.{◌≡◌, ℕ, List, Ok, Err}
 use Rattle.snesl_data.specs.declared.fault.FaultKind.{FaultKind}
 use Rattle.snesl_data.specs.declared.refusal.Refusal.{Refusal}
-use Rattle.snesl_data.specs.declared.refusal.Refusal.TheVariants.{BadInput}
+use Rattle.snesl_data.specs.declared.refusal.Refusal.TheVariants.{BadInput, NoMemory}
 use Rattle.snesl_data.specs.Types.{Ty}
 use Rattle.snesl_data.specs.Values.{Value}
 use Rattle.snesl_values.specs.Inputs.{Environment, InputMeans, spells, refused_at}
@@ -45,3 +45,7 @@ HaveOneMeaning = (program input : List ℕ) (m n : Meaning) → Means program in
 -- a program and an input text have a meaning
 abbrev pub HaveSomeMeaning : Type 0
 HaveSomeMeaning = (program input : List ℕ) → (m : Meaning) × Means program input m
+
+-- none is that memory ran out
+abbrev pub IsNeverOfMemory : Type 0
+IsNeverOfMemory = (program input : List ℕ) → ¬ Means program input (is_refused NoMemory)

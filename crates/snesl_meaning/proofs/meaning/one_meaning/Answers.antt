@@ -1,4 +1,5 @@
 use Rattle.snesl_meaning.proofs.Meanings.{one_meaning}
+use Rattle.snesl_meaning.proofs.NotOfMemory.{never_of_memory}
 use Rattle.snesl_meaning.proofs.SomeMeaning.{some_meaning}
 use Rattle.snesl_meaning.proofs.meaning.one_meaning.Goals as goal
 
@@ -6,4 +7,5 @@ pub returns : goal.returns
 returns c = record {
   one = one_meaning c.one_answer.ensures.one c.one_input_meaning.ensures.one;
   some = some_meaning c.one_answer.ensures.some c.one_input_meaning.ensures.some;
+  memory = never_of_memory;
 }
