@@ -1,5 +1,6 @@
 -- A program with an input text has one network.
-use Rattle.std.proofs.Common.{◌≡◌, ℕ, List, Ok, sym, subst}
+use Rattle.std.proofs.Common.{◌≡◌, ℕ, List, Result, Ok, sym, ap, subst}
+use Rattle.snesl_data.specs.declared.refusal.Refusal.{Refusal}
 use Rattle.snesl_data.specs.Types.{Ty}
 use Rattle.snesl_values.specs.Inputs.{Environment, InputMeans, OneInputMeaning, spells}
 use Rattle.snesl_tree.specs.Tree.{ProgramTree}
@@ -14,10 +15,13 @@ use Rattle.snesl_network.specs.OneNetwork.{HaveOneNetwork}
 same_program : HaveOneAnswer → (text : List ℕ) (p q : ProgramTree) → Parses text (Ok p) → Parses text (Ok q) → p ≡ q
 same_program answers text p q one other = let e = answers text (Ok p) (Ok q) one other in cc
 
+-- the answers are variables, so that `cc` does not compute them
+one_ok : {A : Type 0} {x y : A} (r s : Result A Refusal) → r ≡ Ok x → s ≡ Ok y → r ≡ s → x ≡ y
+one_ok r s h k same = cc
+
 same_declared : (text : List ℕ) (p q : ProgramTree) (d e : Declared) (t u : Ty) → p ≡ q → program_verdict text p ≡ Ok (d, t) → program_verdict text q ≡ Ok (e, u) → d ≡ e
 same_declared text p q d e t u same h k =
-    let both : Ok (d, t) ≡ Ok (e, u) = cc (same, h, k) in
-    cc
+    ap (λ (found : Declared × Ty). found.0) (one_ok (program_verdict text p) (program_verdict text q) h k (ap (program_verdict text) same))
 
 same_environment : OneInputMeaning → (input : List ℕ) (p q : ProgramTree) (d e : Declared) (f g : Environment) → p ≡ q → d ≡ e
     → InputMeans p.dialect d.inputs input (spells f) → InputMeans q.dialect e.inputs input (spells g) → f ≡ g
