@@ -16,7 +16,7 @@ use Rattle.snesl_run.specs.Cuts.{CutsChangeNothing}
 use Rattle.snesl_run.specs.Prints.{Printed, PrintedFor, came_out, refused}
 use Rattle.snesl_syntax.specs.Parse.{HaveOneAnswer, Parses, too_long}
 use Rattle.snesl_tree.specs.Tree.{ProgramTree}
-use Rattle.snesl_values.specs.Inputs.{InputMeans, OneInputMeaning, greatest_input_length, refused_at, spells, too_long as input_too_long}
+use Rattle.snesl_values.specs.Inputs.{Environment, InputMeans, OneInputMeaning, greatest_input_length, refused_at, spells, too_long as input_too_long}
 use Rattle.snesl_data.specs.declared.refusal.Refusal.TheVariants.{BadConfig, NoMemory, NoThread, Output, Short, TooBig, TooLong}
 use Rattle.snesl_data.specs.declared.refusal.Refusal.{Refusal}
 
@@ -34,6 +34,13 @@ both_too_long answers program input program' input' m h k (ill_typed {program = 
 both_too_long answers program input program' input' m h k (bad_input {program = t} p d i) = no_tree answers program t p h
 both_too_long answers program input program' input' m h k (evaluated {program = t} p d i) = no_tree answers program t p h
 
+-- no verdict stands among what these are proved from, so that `cc` does not compute one
+same_place : (at other : ℕ) → refused_at at ≡ refused_at other → other ≡ at
+same_place at other e = cc
+
+not_spelled : (environment : Environment) (at : ℕ) → ¬ (spells environment ≡ refused_at at)
+not_spelled environment at = λ e. cc
+
 -- with two input texts over the limit a program means the same
 inputs_too_long : OneInputMeaning → (program input input' : List ℕ) (m : Meaning) → greatest_input_length < length input
     → greatest_input_length < length input' → Means program input m → Means program input' m
@@ -41,10 +48,10 @@ inputs_too_long inputs program input input' m h k (no_program p) = no_program p
 inputs_too_long inputs program input input' m h k (ill_typed p v) = ill_typed p v
 inputs_too_long inputs program input input' m h k (bad_input {program = t} {declared = all} {at = at} p d i) =
     let e = inputs t.dialect all.inputs input (refused_at at) (refused_at greatest_input_length) i (input_too_long h) in
-    let same : greatest_input_length ≡ at = cc in
+    let same : greatest_input_length ≡ at = same_place at greatest_input_length e in
     bad_input p d (subst (λ n. InputMeans t.dialect all.inputs input' (refused_at n)) same (input_too_long k))
 inputs_too_long inputs program input input' m h k (evaluated {program = t} {declared = all} {environment = f} p d i) =
-    absurd (let e = inputs t.dialect all.inputs input (spells f) (refused_at greatest_input_length) i (input_too_long h) in cc)
+    absurd (not_spelled f greatest_input_length (inputs t.dialect all.inputs input (spells f) (refused_at greatest_input_length) i (input_too_long h)))
 
 cut_length : (program : List ℕ) → most_of_program < length program → greatest_length < length (take 65537 program)
 cut_length program h = omega (arith, length-take-le 65537 program (omega arith))
