@@ -10,6 +10,7 @@ pub mod After
 pub mod RoundBegins
 pub mod RoundLooked
 pub mod RoundsFollow
+pub mod Sends
 pub mod ShareLists
 pub mod EpochMeets
 pub mod Pumps

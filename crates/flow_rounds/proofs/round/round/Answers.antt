@@ -4,6 +4,9 @@ use Rattle.flow_meetings.specs.SharedNetworks.{AreFed}
 use Rattle.flow_rounds.specs.Standing.{StandBetweenRounds}
 use Rattle.flow_rounds.proofs.Shares.{still_linked}
 use Rattle.flow_rounds.proofs.After.{stands_after, moves_after}
+use Rattle.flow_rounds.proofs.Sends.{boxes_send}
+use denote.Param.Send.{sendable}
+use Rattle.std.proofs.Crossing.{crosses}
 use Rattle.flow_rounds.proofs.round.round.Goals as goal
 
 pub meet-requires : goal.meet-requires
@@ -33,3 +36,7 @@ returns-clause-round g c =
       stand = stands_after laws s refl (λ a b same. same) shares back c.in_ok-met.met.items stand c.in_ok-back.ensures.count c.in_ok-back.ensures.each fed c.in_ok-met.ensures;
       moves = moves_after laws s refl (λ a b same. same) shares back c.in_ok-met.met.items stand c.in_ok-back.ensures.count c.in_ok-back.ensures.each fed c.in_ok-met.ensures;
     }
+
+-- a share with its boxes may go to another thread
+pub run_all-requires-send-E : goal.run_all-requires-send-E
+run_all-requires-send-E g c κs within = search (boxes_send, crosses, sendable) depth 60 fits 20000
