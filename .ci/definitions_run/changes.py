@@ -143,7 +143,7 @@ class Rows:
 
 
 class Part:
-    """Which changes of an order are tried: from the `first`-th on, so many at most, and of these those whose names have one of the texts."""
+    """Which changes of an order are tried: from the `first`-th on, so many at most, and of these such as have one of the texts in their names."""
 
     def __init__(self, first, most, texts):
         self.first = first
