@@ -6,7 +6,7 @@ ghost use Rattle.std.specs.List.{All};
 use anyhow::Result;
 use flow_boxes::Boxes;
 use flow_drives::NoGate;
-use flow_scalar::Source;
+use flow_scalar::Iota;
 use flow_shares::{AlwaysStart, Share, run_all};
 use std::alloc::{AllocError, Global};
 use std::rt::Clock;
@@ -31,7 +31,7 @@ pub fn idle_rounds<R: Clock + AllocGlobal + Threads>(
 }
 
 // So many shares without nodes.
-fn bare_shares(alloc: Global, count: usize) -> Result<Vec<Share<Source, Boxes>>, AllocError>
+fn bare_shares(alloc: Global, count: usize) -> Result<Vec<Share<Iota, Boxes>>, AllocError>
     ensures { IfOk result (λ shares. All (λ share. share.starved ≡ false) shares.items) }
 {
     let mut shares = Vec::new(alloc);
