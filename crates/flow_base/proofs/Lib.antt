@@ -4,3 +4,5 @@ pub mod Reached
 pub mod Batches
 pub mod Passing
 pub mod Visits
+pub mod Along
+pub mod Slices

@@ -28,3 +28,4 @@ pub mod RowPorts
 pub mod Visits
 pub mod Passing
 pub mod Following
+pub mod Along
