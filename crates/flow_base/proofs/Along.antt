@@ -10,7 +10,7 @@ use Rattle.flow_messages.specs.declared.message.Kind.{Kind}
 use Rattle.flow_messages.specs.declared.message.Kind.TheVariants.{Unit as UnitKind, Bool as BoolKind, Int as IntKind, Vec as VecKind}
 use Rattle.flow_base.specs.Machines.{Machine, ask_of, state_after_read, written_cell, state_after_write}
 use Rattle.flow_base.specs.Nodes.{behaviour_of, node_state, want_for, moved}
-use Rattle.flow_base.specs.Along.{RunsAlong, IsWithin, shown_signals, written_signals, written_at}
+use Rattle.flow_base.specs.Along.{MovesAlong, RunsAlong, shown_signals, written_signals, written_at}
 use Rattle.flow_base.specs.declared.node.Phase.TheVariants.{Working}
 use Rattle.flow_base.specs.declared.slices.Moved.{Moved}
 use Rattle.flow_base.specs.declared.slices.Shown.{Shown}
@@ -35,16 +35,6 @@ nothing_written block BoolKind = refl
 nothing_written block IntKind = refl
 nothing_written block VecKind = refl
 
-pub within_nothing : (first second : Shown) (space most : ℕ) (made : Moved) → made ≡ still → IsWithin first second space most made
-within_nothing first second space most made is = subst (IsWithin first second space most) (sym is) (record {
-  first = omega arith;
-  second = omega arith;
-  units = omega arith;
-  flags = omega arith;
-  ints = omega arith;
-  steps = omega arith;
-})
-
 -- what one output gets, and no other
 abbrev pub only : List Signal → ℕ → List Signal
 only zs q = cond (eqb q 0) zs []
@@ -54,16 +44,25 @@ module _ {P S : Type 0} (m : Machine P S) where
   written_nowhere : (p : P) (block : Written) (q : ℕ) → no_messages ≡ written_at m p block still q
   written_nowhere p block q = sym (ap (λ l. cond (nat_lt q (m.outputs p)) l no_messages) (nothing_written block (m.kind_out p q)) ∙ nothing_said (nat_lt q (m.outputs p)))
 
-  pub ran_nothing : (s : P × S) (first second : Shown) (block : Written) (made : Moved) → made ≡ still →
-      RunsAlong m s s (take made.first (shown_signals first)) (take made.second (shown_signals second)) (written_at m s.0 block made) made.steps
-  ran_nothing s first second block made is = subst (λ k. RunsAlong m s s (take k.first (shown_signals first)) (take k.second (shown_signals second)) (written_at m s.0 block k) k.steps) (sym is) (record {
-    history = [];
-    does = λ at. refl;
-    counts = refl;
-    reads_first = refl;
-    reads_second = refl;
-    no_others = λ q over. refl;
-    writes_are = written_nowhere s.0 block;
+  pub moved_nothing : (s : P × S) (first second : Shown) (space most : ℕ) (block : Written) (made : Moved) → made ≡ still → MovesAlong m s s first second space most block made
+  moved_nothing s first second space most block made is = subst (MovesAlong m s s first second space most block) (sym is) (record {
+    within = record {
+      first = omega arith;
+      second = omega arith;
+      units = omega arith;
+      flags = omega arith;
+      ints = omega arith;
+      steps = omega arith;
+    };
+    ran = record {
+      history = [];
+      does = λ at. refl;
+      counts = refl;
+      reads_first = refl;
+      reads_second = refl;
+      no_others = λ q over. refl;
+      writes_are = written_nowhere s.0 block;
+    };
   })
 
   module _ (p : P) where

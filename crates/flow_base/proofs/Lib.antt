@@ -5,4 +5,4 @@ pub mod Batches
 pub mod Passing
 pub mod Visits
 pub mod Along
-pub mod Slices
+pub mod OverSlices

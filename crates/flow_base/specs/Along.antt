@@ -55,6 +55,12 @@ module _ {P S : Type 0} (m : Machine P S) where
     pub no_others : (p : ℕ) → 1 < p → reads p history ≡ []
     pub writes_are : (q : ℕ) → writes q history ≡ written q
 
+  -- What a worker did along what it was shown: within what it may, steps that read the first of the items and wrote what
+  -- lies in the block.
+  pub record MovesAlong (old new : P × S) (first second : Shown) (space most : ℕ) (block : Written) (moved : Moved) : Type 0 where
+    pub within : IsWithin first second space most moved
+    pub ran : RunsAlong old new (take moved.first (shown_signals first)) (take moved.second (shown_signals second)) (written_at old.0 block moved) moved.steps
+
 -- each of these edges is another
 abbrev pub AreApart : List ℕ → Type 0
 AreApart edges = (p q : ℕ) → p < q → q < length edges → edge_of edges p ≢ edge_of edges q

@@ -60,8 +60,8 @@ impl From<AllocError> for Stop {
 ///
 /// Its laws speak of an abstract state, and of what items carry.
 pub trait Worker {
-    ghost use Rattle.std.specs.Prelude.{◌≤◌, ℕ, Bool, true, take};
-    ghost use Rattle.flow_base.specs.Along.{IsWithin, RunsAlong, shown_signals, written_at};
+    ghost use Rattle.std.specs.Prelude.{◌≤◌, ℕ, Bool, true};
+    ghost use Rattle.flow_base.specs.Along.{MovesAlong};
     ghost use Rattle.flow_messages.specs.Cells.{cell_of};
     ghost use Rattle.flow_messages.specs.Signals.{signal_of, is_stop};
     ghost use Rattle.flow_messages.specs.Flats.{message_of};
@@ -165,10 +165,8 @@ pub trait Worker {
         most: usize,
     ) -> Moved
         requires { space ≤ 256 }
-        ensures within { IsWithin first second space most result }
-        ensures ran { RunsAlong machine (state self.old) (state self.new)
-            (take result.first (shown_signals first)) (take result.second (shown_signals second))
-            (written_at machine (state self.old).0 block.new result) result.steps }
+        ensures { MovesAlong machine (state self.old) (state self.new) first second space most
+            block.new result }
     {
         let _ = (first, second, space, most);
         let _ = block.ints.len();

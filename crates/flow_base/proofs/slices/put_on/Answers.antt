@@ -2,7 +2,7 @@ use Rattle.std.proofs.Common.{sym, subst}
 use Rattle.flow_messages.specs.Ends.{PutAll}
 use Rattle.flow_messages.specs.Kinds.{TakesKind}
 use Rattle.flow_base.specs.Along.{written_signals}
-use Rattle.flow_base.proofs.Slices.{put_nothing}
+use Rattle.flow_base.proofs.OverSlices.{put_nothing}
 use Rattle.flow_base.proofs.slices.put_on.Goals as goal
 
 -- the edge takes items of the kind

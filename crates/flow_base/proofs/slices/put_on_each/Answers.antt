@@ -6,7 +6,7 @@ use Rattle.flow_messages.specs.Signals.{Signal}
 use Rattle.flow_messages.proofs.Fitting.{takes_still}
 use Rattle.flow_base.specs.Along.{written_signals}
 use Rattle.flow_base.specs.Visits.{edge_of}
-use Rattle.flow_base.proofs.Slices.{put_on_none, put_on_more, written_free}
+use Rattle.flow_base.proofs.OverSlices.{put_on_none, put_on_more, written_free}
 use Rattle.flow_base.proofs.slices.put_on_each.Goals as goal
 
 pub loop-port-init : goal.loop-port-init

@@ -1,7 +1,7 @@
 use Rattle.std.proofs.Common.{◌≡◌, take, sym, subst, arith}
 use Rattle.flow_messages.specs.Ends.{TakenAll}
 use Rattle.flow_base.specs.Visits.{edge_of}
-use Rattle.flow_base.proofs.Slices.{took_nothing}
+use Rattle.flow_base.proofs.OverSlices.{took_nothing}
 use Rattle.flow_base.proofs.slices.skip_at.Goals as goal
 
 -- it took nothing

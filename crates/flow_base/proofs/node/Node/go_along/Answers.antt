@@ -9,7 +9,7 @@ use Rattle.flow_base.specs.declared.node.Phase.TheVariants.{Working}
 use Rattle.flow_base.proofs.Batches.{shown, taken_all_room}
 use Rattle.flow_base.proofs.Carried.{same_ends_then}
 use Rattle.flow_base.proofs.Kernels.{went_none, went_alone, went_further}
-use Rattle.flow_base.proofs.Slices.{along_still, along_went, kinds_still, port_there, prefix_long, reads_still, same_parameters, second_certain, second_taken, take_nothing, writes_still}
+use Rattle.flow_base.proofs.OverSlices.{along_still, along_went, kinds_still, port_there, prefix_long, reads_still, same_parameters, second_certain, second_taken, take_nothing, writes_still}
 use Rattle.flow_base.proofs.node.Node.go_along.Goals as goal
 
 pub least_space-requires : goal.least_space-requires

@@ -3,7 +3,7 @@ use Rattle.flow_base.specs.Members.{node_of}
 use Rattle.flow_base.specs.Visits.{Went}
 use Rattle.flow_base.proofs.Carried.{same_ends_refl, same_ends_then}
 use Rattle.flow_base.proofs.Kernels.{made_went, went_none, went_further}
-use Rattle.flow_base.proofs.Slices.{risen_apart}
+use Rattle.flow_base.proofs.OverSlices.{risen_apart}
 use Rattle.flow_base.proofs.Visits.{placed_on}
 use Rattle.flow_base.proofs.node.Node.over_slices.Goals as goal
 
