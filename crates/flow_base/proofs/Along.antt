@@ -4,6 +4,7 @@ use Rattle.std.proofs.lemmas.Bool.Decides.{nat_tests}
 use Rattle.kahn.specs.declared.want.Want.TheVariants.{Read, Write}
 use Rattle.kahn.specs.Processes.{Event, Reads, Writes, reads, writes}
 use Rattle.kahn.proofs.History.{does_then, reads_append, writes_append}
+use Rattle.flow_messages.specs.Blocks.{unit_signals, flag_signals, int_signals}
 use Rattle.flow_messages.specs.Cells.{Cell}
 use Rattle.flow_messages.specs.Signals.{Signal, carry, ended}
 use Rattle.flow_messages.specs.declared.message.Kind.{Kind}
@@ -35,6 +36,13 @@ nothing_written block BoolKind = refl
 nothing_written block IntKind = refl
 nothing_written block VecKind = refl
 
+-- where nothing was written of any kind
+none_written : (block : Written) (made : Moved) (kind : Kind) → made.units ≡ 0 → made.flags ≡ 0 → made.ints ≡ 0 → written_signals block made kind ≡ no_messages
+none_written block made UnitKind units flags ints = ap unit_signals units
+none_written block made BoolKind units flags ints = ap (λ n. flag_signals (take n block.flags)) flags
+none_written block made IntKind units flags ints = ap (λ n. int_signals (take n block.ints)) ints
+none_written block made VecKind units flags ints = refl
+
 -- what one output gets, and no other
 abbrev pub only : List Signal → ℕ → List Signal
 only zs q = cond (eqb q 0) zs []
@@ -43,6 +51,9 @@ module _ {P S : Type 0} (m : Machine P S) where
   -- nothing was written to any output
   written_nowhere : (p : P) (block : Written) (q : ℕ) → no_messages ≡ written_at m p block still q
   written_nowhere p block q = sym (ap (λ l. cond (nat_lt q (m.outputs p)) l no_messages) (nothing_written block (m.kind_out p q)) ∙ nothing_said (nat_lt q (m.outputs p)))
+
+  pub no_writes : (p : P) (block : Written) (made : Moved) → made.units ≡ 0 → made.flags ≡ 0 → made.ints ≡ 0 → (q : ℕ) → no_messages ≡ written_at m p block made q
+  no_writes p block made units flags ints q = sym (ap (λ l. cond (nat_lt q (m.outputs p)) l no_messages) (none_written block made (m.kind_out p q) units flags ints) ∙ nothing_said (nat_lt q (m.outputs p)))
 
   pub moved_nothing : (s : P × S) (first second : Shown) (space most : ℕ) (block : Written) (made : Moved) → made ≡ still → MovesAlong m s s first second space most block made
   moved_nothing s first second space most block made is = subst (MovesAlong m s s first second space most block) (sym is) (record {
@@ -167,7 +178,7 @@ module _ {P S : Type 0} (m : Machine P S) where
     single_then {n = n} {k = k} xs ys zs xs' ys' zs' before after = ran_as (ran_then before after) (xs ++ xs') (ys ++ ys') (only (zs ++ zs')) (n + k) refl refl (λ q. block_then (eqb q 0) zs zs') refl
 
     -- what the only output gets
-    first_only : (block : Written) (made : Moved) (zs : List Signal) → m.outputs p ≡ 1 → zs ≡ written_signals block made (m.kind_out p 0) → (q : ℕ) → only zs q ≡ written_at m p block made q
+    pub first_only : (block : Written) (made : Moved) (zs : List Signal) → m.outputs p ≡ 1 → zs ≡ written_signals block made (m.kind_out p 0) → (q : ℕ) → only zs q ≡ written_at m p block made q
     first_only block made zs one is zero = is ∙ ap (λ b. cond b (written_signals block made (m.kind_out p 0)) []) (sym (ap (nat_lt 0) one))
     first_only block made zs one is (suc q) =
         let other : eqb (suc q) 0 ≡ false = ne_eqb (suc q) 0 (λ e. omega (arith, e)) in

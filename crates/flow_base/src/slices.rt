@@ -3,6 +3,7 @@
 ghost use Rattle.std.specs.Prelude.{◌≡◌, ◌<◌, ◌≤◌, ℕ, true, List, [], length, take};
 ghost use Rattle.std.specs.List.{All};
 ghost use mathlib.Core.List.{IsPrefix};
+ghost use Rattle.flow_messages.specs.Blocks.{unit_signals, flag_signals, int_signals};
 ghost use Rattle.flow_messages.specs.Ends.{SameEnds, held, TakenAll, PutAll};
 ghost use Rattle.flow_messages.specs.Kinds.{TakesKind};
 ghost use Rattle.flow_base.specs.Along.{AreApart, HasRoom, PutOnEach, shown_signals, written_signals};
@@ -26,6 +27,41 @@ pub enum Shown<'a> {
     Flags(&'a [bool]),
     /// These integers of 64 bits.
     Ints(&'a [i64]),
+}
+
+impl<'a> Shown<'a> {
+    /// How many units it shows.
+    #[inline(always)]
+    pub fn units(self) -> usize
+        ensures { IsPrefix (unit_signals result) (shown_signals self) }
+    {
+        match self {
+            Shown::Units(count) => count,
+            _ => 0,
+        }
+    }
+
+    /// The truth values that it shows.
+    #[inline(always)]
+    pub fn flags(self) -> &'a [bool]
+        ensures { IsPrefix (flag_signals result.now) (shown_signals self) }
+    {
+        match self {
+            Shown::Flags(flags) => flags,
+            _ => &[],
+        }
+    }
+
+    /// The integers that it shows.
+    #[inline(always)]
+    pub fn ints(self) -> &'a [i64]
+        ensures { IsPrefix (int_signals result.now) (shown_signals self) }
+    {
+        match self {
+            Shown::Ints(ints) => ints,
+            _ => &[],
+        }
+    }
 }
 
 /// Where a worker puts what it writes. Each output gets what is there of its kind. It is lent, and what it held before is

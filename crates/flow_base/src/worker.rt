@@ -168,8 +168,6 @@ pub trait Worker {
         ensures { MovesAlong machine (state self.old) (state self.new) first second space most
             block.new result }
     {
-        let _ = (first, second, space, most);
-        let _ = block.ints.len();
         Moved::nothing()
     }
 
