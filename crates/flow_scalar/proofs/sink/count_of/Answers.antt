@@ -3,7 +3,7 @@ use Rattle.flow_messages.specs.Blocks.{unit_signals, flag_signals, int_signals}
 use Rattle.flow_base.proofs.Batches.{length_units, length_flags, length_ints}
 use Rattle.flow_scalar.specs.SinkShown.{EachFits}
 use Rattle.flow_scalar.proofs.SinkBlocks.{fit_units, fit_flags, fit_ints}
-use Rattle.flow_scalar.proofs.sink.shown_of.Goals as goal
+use Rattle.flow_scalar.proofs.sink.count_of.Goals as goal
 
 pub returns-in-Unit : goal.returns-in-Unit
 returns-in-Unit g c = let block = unit_signals c.units.result in record {
