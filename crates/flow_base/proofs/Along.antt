@@ -1,6 +1,7 @@
 -- What a worker makes of slices: the steps of its machine, one after another, at the level of its ports.
-use Rattle.std.proofs.Common.{◌≡◌, ℕ, zero, suc, ◌+◌, ◌<◌, ◌≤◌, Bool, true, false, cond, eqb, nat_lt, List, [], ◌∷◌, ◌++◌, length, take, Ok, refl, sym, ◌∙◌, ap, subst, arith, append-nil, length-append, ne_eqb}
+use Rattle.std.proofs.Common.{◌≡◌, ℕ, ℤ, zero, suc, ◌+◌, ◌<◌, ◌≤◌, Bool, true, false, cond, eqb, nat_lt, List, [], ◌∷◌, ◌++◌, length, take, Ok, refl, sym, ◌∙◌, ap, subst, arith, append-nil, length-append, ne_eqb}
 use Rattle.std.proofs.lemmas.Bool.Decides.{nat_tests}
+use mathlib.Core.List.{IsPrefix}
 use Rattle.kahn.specs.declared.want.Want.TheVariants.{Read, Write}
 use Rattle.kahn.specs.Processes.{Event, Reads, Writes, reads, writes}
 use Rattle.kahn.proofs.History.{does_then, reads_append, writes_append}
@@ -16,7 +17,7 @@ use Rattle.flow_base.specs.declared.node.Phase.TheVariants.{Working}
 use Rattle.flow_base.specs.declared.slices.Moved.{Moved}
 use Rattle.flow_base.specs.declared.slices.Shown.{Shown}
 use Rattle.flow_base.specs.declared.slices.Written.{Written}
-use Rattle.flow_base.proofs.Batches.{block_then}
+use Rattle.flow_base.proofs.Batches.{block_then, length_flags, length_ints, length_units, shown, take_flags, take_ints, take_units}
 
 -- no message
 abbrev pub no_messages : List Signal
@@ -42,6 +43,28 @@ none_written block made UnitKind units flags ints = ap unit_signals units
 none_written block made BoolKind units flags ints = ap (λ n. flag_signals (take n block.flags)) flags
 none_written block made IntKind units flags ints = ap (λ n. int_signals (take n block.ints)) ints
 none_written block made VecKind units flags ints = refl
+
+-- the first of what is shown, where it is of one kind
+pub units_shown : (s : Shown) (n k : ℕ) → IsPrefix (unit_signals n) (shown_signals s) → k ≤ n → unit_signals k ≡ take k (shown_signals s)
+units_shown s n k seen within = sym (take_units k n within) ∙ sym (shown (unit_signals n) (shown_signals s) k seen (omega (arith, within, length_units n)))
+
+pub flags_shown : (s : Shown) (bs : List Bool) (k : ℕ) → IsPrefix (flag_signals bs) (shown_signals s) → k ≤ length bs → flag_signals (take k bs) ≡ take k (shown_signals s)
+flags_shown s bs k seen within = sym (take_flags k bs) ∙ sym (shown (flag_signals bs) (shown_signals s) k seen (omega (arith, within, length_flags bs)))
+
+pub ints_shown : (s : Shown) (ns : List ℤ) (k : ℕ) → IsPrefix (int_signals ns) (shown_signals s) → k ≤ length ns → int_signals (take k ns) ≡ take k (shown_signals s)
+ints_shown s ns k seen within = sym (take_ints k ns) ∙ sym (shown (int_signals ns) (shown_signals s) k seen (omega (arith, within, length_ints ns)))
+
+prefix_longer : (ms c : List Signal) → IsPrefix ms c → length ms ≤ length c
+prefix_longer ms c (more, is) = omega (arith, length-append ms more, ap length is)
+
+pub units_within : (s : Shown) (n : ℕ) → IsPrefix (unit_signals n) (shown_signals s) → n ≤ length (shown_signals s)
+units_within s n seen = omega (arith, prefix_longer (unit_signals n) (shown_signals s) seen, length_units n)
+
+pub flags_within : (s : Shown) (bs : List Bool) → IsPrefix (flag_signals bs) (shown_signals s) → length bs ≤ length (shown_signals s)
+flags_within s bs seen = omega (arith, prefix_longer (flag_signals bs) (shown_signals s) seen, length_flags bs)
+
+pub ints_within : (s : Shown) (ns : List ℤ) → IsPrefix (int_signals ns) (shown_signals s) → length ns ≤ length (shown_signals s)
+ints_within s ns seen = omega (arith, prefix_longer (int_signals ns) (shown_signals s) seen, length_ints ns)
 
 -- what one output gets, and no other
 abbrev pub only : List Signal → ℕ → List Signal
