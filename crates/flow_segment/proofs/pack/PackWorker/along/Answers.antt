@@ -1,6 +1,7 @@
-use Rattle.std.proofs.Common.{◌≡◌, ◌+◌, ◌*◌, ◌≤◌, List, length, map, replicate, take, refl, sym, ◌∙◌, ap, subst, arith}
+use Rattle.std.proofs.Common.{◌≡◌, ◌+◌, ◌*◌, ◌≤◌, List, length, map, take, refl, sym, ◌∙◌, ap, subst, arith}
+use Rattle.std.specs.Prelude.{replicate}
 use Rattle.std.proofs.lemmas.List.{length-replicate, length-take-le}
-use Rattle.flow_messages.specs.Cells.{flag, int, unit}
+use Rattle.flow_messages.specs.Cells.{Cell, flag, int, unit}
 use Rattle.flow_messages.specs.Signals.{carry}
 use Rattle.flow_messages.specs.Blocks.{unit_signals, flag_signals, int_signals}
 use Rattle.flow_messages.specs.declared.message.Kind.{Kind}
@@ -96,12 +97,13 @@ returns-in-Unit g c =
     let items = c.units-items.result in
     let n = c.min-whole-in-Unit.result in
     let count = c.trues_in-count.result in
-    let xs = replicate n (tt {0}) in
+    let xs : List (Unit {0}) = replicate n tt in
+    let said : Unit {0} → Cell = λ _. unit in
     let zs = kept (take n bs) (take n xs) in
     let made : Moved = record { first = n; second = n; units = count; flags = 0; ints = 0; steps = 2 * n + count } in
     let in_bs : n ≤ length bs = omega (arith, c.min.ensures, c.min-room.ensures, c.min-whole-in-Unit.ensures) in
     let in_items : n ≤ items = omega (arith, c.min-whole-in-Unit.ensures) in
-    let long : length xs ≡ n = length-replicate n (tt {0}) in
+    let long : length xs ≡ n = length-replicate n tt in
     let in_xs : n ≤ length xs = omega (arith, long) in
     let as_long : length (take n xs) ≡ length (take n bs) = length-take-le n xs in_xs ∙ sym (length-take-le n bs in_bs) in
     let counts : length zs ≡ count = trues_kept (take n bs) (take n xs) as_long ∙ sym c.trues_in-count.ensures.trues in
@@ -109,7 +111,7 @@ returns-in-Unit g c =
     let steps : 2 * n + length zs ≡ 2 * n + count = omega (arith, counts) in
     let seconds = units_one_by_one (take n xs) ∙ ap unit_signals (length-take-le n xs in_xs) ∙ units_shown second items n c.units-items.ensures in_items in
     let told = units_one_by_one zs ∙ ap unit_signals counts in
-    let ran = single_ran pack_machine UnitKind (flag_signals (take n bs)) (map (λ _. carry unit) (take n xs)) (map (λ _. carry unit) zs) (first_pairs UnitKind (λ _. unit) (λ x. refl) bs xs n in_bs in_xs) first second c.args.block.now made refl (flags_shown first bs n c.flags-truths.ensures in_bs) seconds told steps in
+    let ran = single_ran pack_machine UnitKind (flag_signals (take n bs)) (map (λ x. carry (said x)) (take n xs)) (map (λ x. carry (said x)) zs) (first_pairs UnitKind said (λ x. refl) bs xs n in_bs in_xs) first second c.args.block.now made refl (flags_shown first bs n c.flags-truths.ensures in_bs) seconds told steps in
     let state : Kind → Pair → Kind × PackState = λ k pair. (k, pack_state pair) in
     subst (λ k. MovesAlong pack_machine (state k c.args.self.now.pair) (state k c.args.self.now.pair) first second c.args.space c.args.most c.args.block.now made) (sym c.in-Unit.is) (subst (λ pair. MovesAlong pack_machine (state UnitKind pair) (state UnitKind pair) first second c.args.space c.args.most c.args.block.now made) (sym c.in-Start.is) (record {
       within = record {
