@@ -6,3 +6,4 @@ pub mod Passing
 pub mod Visits
 pub mod Along
 pub mod OverSlices
+pub mod Walks

@@ -29,3 +29,4 @@ pub mod Visits
 pub mod Passing
 pub mod Following
 pub mod Along
+pub mod Walks

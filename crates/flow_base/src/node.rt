@@ -10,7 +10,8 @@ ghost use Rattle.flow_base.specs.Nodes.{behaviour_of, closing, node_state, opene
 ghost use Rattle.flow_base.specs.Passing.{MayCome, PassedOn};
 ghost use Rattle.flow_base.specs.Following.{node_passes};
 ghost use Rattle.flow_base.specs.Along.{AreApart};
-ghost use Rattle.flow_base.specs.Visits.{IsPlaced, Went, WentOn, Visited, BrokeOff};
+ghost use Rattle.flow_base.specs.Visits.{IsPlaced, WentOn, Visited, BrokeOff};
+ghost use Rattle.flow_base.specs.Walks.{Walk};
 ghost use Rattle.flow_base.specs.declared.node.Phase.TheVariants.{Working, Ending};
 
 use crate::certain::look_for_messages;
@@ -224,12 +225,9 @@ impl<W: Worker> Node<W> {
         requires inputs { AreApart inputs.now }
         requires outputs { AreApart outputs.now }
         ensures works { self.new.phase ≡ Working }
-        ensures same { E.same ends.old ends.new }
-        ensures ends { SameEnds (E.view ends.old) (E.view ends.new) }
-        ensures within { result ≤ most }
-        ensures went { Went inputs.now outputs.now ⟦<Node<W> as Transducer>⟧.behaviour
-            (⟦<Node<W> as Transducer>⟧.state self.old) (E.view ends.old)
-            (⟦<Node<W> as Transducer>⟧.state self.new) (E.view ends.new) result }
+        ensures walk { Walk E.view E.same inputs.now outputs.now
+            ⟦<Node<W> as Transducer>⟧.behaviour (⟦<Node<W> as Transducer>⟧.state self.old) ends.old
+            (⟦<Node<W> as Transducer>⟧.state self.new) ends.new most result }
     {
         let space = least_space(ends, outputs).min(PLACES);
         let first = shown_at(ends, inputs, 0, self.worker.kind_in(0));
@@ -260,12 +258,9 @@ impl<W: Worker> Node<W> {
         requires placed { IsPlaced ⟦<Node<W> as Transducer>⟧.behaviour inputs.now outputs.now
             (⟦<Node<W> as Transducer>⟧.state self.old) (E.view ends.old) }
         ensures works { self.new.phase ≡ Working }
-        ensures same { E.same ends.old ends.new }
-        ensures ends { SameEnds (E.view ends.old) (E.view ends.new) }
-        ensures within { result ≤ most }
-        ensures went { Went inputs.now outputs.now ⟦<Node<W> as Transducer>⟧.behaviour
-            (⟦<Node<W> as Transducer>⟧.state self.old) (E.view ends.old)
-            (⟦<Node<W> as Transducer>⟧.state self.new) (E.view ends.new) result }
+        ensures walk { Walk E.view E.same inputs.now outputs.now
+            ⟦<Node<W> as Transducer>⟧.behaviour (⟦<Node<W> as Transducer>⟧.state self.old) ends.old
+            (⟦<Node<W> as Transducer>⟧.state self.new) ends.new most result }
     {
         // Slices of one edge are not seen at once, and its room is certain for one output alone.
         if !at_most_two_apart(inputs) || !rise(outputs) {
@@ -293,12 +288,9 @@ impl<W: Worker> Node<W> {
         requires works { self.old.phase ≡ Working }
         requires placed { IsPlaced ⟦<Node<W> as Transducer>⟧.behaviour inputs.now outputs.now
             (⟦<Node<W> as Transducer>⟧.state self.old) (E.view ends.old) }
-        ensures same { E.same ends.old ends.new }
-        ensures ends { SameEnds (E.view ends.old) (E.view ends.new) }
-        ensures within { result ≤ most }
-        ensures went { Went inputs.now outputs.now ⟦<Node<W> as Transducer>⟧.behaviour
-            (⟦<Node<W> as Transducer>⟧.state self.old) (E.view ends.old)
-            (⟦<Node<W> as Transducer>⟧.state self.new) (E.view ends.new) result }
+        ensures walk { Walk E.view E.same inputs.now outputs.now
+            ⟦<Node<W> as Transducer>⟧.behaviour (⟦<Node<W> as Transducer>⟧.state self.old) ends.old
+            (⟦<Node<W> as Transducer>⟧.state self.new) ends.new most result }
     {
         let along = self.over_slices(inputs, outputs, ends, most);
         let whole = self.worker.blocks(inputs, outputs, ends, most - along);

@@ -2,20 +2,21 @@ use Rattle.std.proofs.Common.{refl, sym, subst}
 use Rattle.flow_base.specs.Members.{node_of}
 use Rattle.flow_base.specs.Nodes.{node_state}
 use Rattle.flow_base.specs.Visits.{Went}
-use Rattle.flow_base.proofs.Carried.{same_ends_then}
-use Rattle.flow_base.proofs.Kernels.{made_went, went_further, wired}
+use Rattle.flow_base.proofs.Kernels.{made_went, wired}
 use Rattle.flow_base.proofs.Visits.{placed_on}
+use Rattle.flow_base.proofs.Walks.{walk_then}
 use Rattle.flow_base.proofs.node.Node.blocks.Goals as goal
 
 pub blocks-whole-requires : goal.blocks-whole-requires
 blocks-whole-requires g c =
     let node = node_of g.W.Worker.state g.W.Worker.machine g.met.W.Worker.laws in
     let along = c.over_slices-along in
-    let placed = placed_on node.laws c.requires.placed (made_went (along.result, along.ensures.went, refl) node.laws c.requires.placed along.ensures.ends) in
+    let walk = along.ensures.walk in
+    let placed = placed_on node.laws c.requires.placed (made_went (along.result, walk.went, refl) node.laws c.requires.placed walk.ends) in
     record { wired = wired node.behaviour c.args.inputs.now c.args.outputs.now (node.state along.new.self) (g.E.Ends.view along.new.ends) placed; kinds = placed.kinds }
 
-pub returns-clause-went : goal.returns-clause-went
-returns-clause-went g c =
+pub returns-clause-walk : goal.returns-clause-walk
+returns-clause-walk g c =
     let state = g.W.Worker.state in
     let node = node_of state g.W.Worker.machine g.met.W.Worker.laws in
     let b = node.behaviour in
@@ -25,13 +26,5 @@ returns-clause-went g c =
     let along = c.over_slices-along in
     let whole = c.blocks-whole in
     let n = along.new.self in
-    let next = subst (λ p. Went ins outs b (node_state (state n.worker) p n.at) (view along.new.ends) (node_state (state whole.new.self) p n.at) (view whole.new.ends) whole.result) (sym along.ensures.works) (whole.ensures.went n.at) in
-    went_further b ins outs along.ensures.went next
-
-pub returns-clause-same : goal.returns-clause-same
-returns-clause-same g c = g.met.E.Ends.same_trans c.args.ends.now c.over_slices-along.new.ends c.blocks-whole.new.ends c.over_slices-along.ensures.same c.blocks-whole.ensures.same
-
-pub returns-clause-ends : goal.returns-clause-ends
-returns-clause-ends g c =
-    let view = g.E.Ends.view in
-    same_ends_then (view c.args.ends.now) (view c.over_slices-along.new.ends) (view c.blocks-whole.new.ends) c.over_slices-along.ensures.ends c.blocks-whole.ensures.ends
+    let went = subst (λ p. Went ins outs b (node_state (state n.worker) p n.at) (view along.new.ends) (node_state (state whole.new.self) p n.at) (view whole.new.ends) whole.result) (sym along.ensures.works) (whole.ensures.went n.at) in
+    walk_then view g.E.Ends.same ins outs b g.met.E.Ends.same_trans along.ensures.walk (record { same = whole.ensures.same; ends = whole.ensures.ends; within = whole.ensures.within; went = went })

@@ -106,8 +106,8 @@ put_on_each-requires-clause-places g c =
     (omega (arith, within.units, c.min-space.ensures), omega (arith, within.flags, c.min-space.ensures), omega (arith, within.ints, c.min-space.ensures))
 
 -- it only looked for room
-pub returns-then-steps-eq0-clause-went : goal.returns-then-steps-eq0-clause-went
-returns-then-steps-eq0-clause-went g c =
+pub returns-then-steps-eq0-clause-walk : goal.returns-then-steps-eq0-clause-walk
+returns-then-steps-eq0-clause-walk g c =
     let state = g.W.Worker.state in
     let m = g.W.Worker.machine in
     let node = node_of state m g.met.W.Worker.laws in
@@ -119,11 +119,16 @@ returns-then-steps-eq0-clause-went g c =
     let a = view c.args.ends.now in
     let v = view c.least_space.new.ends in
     let looked = went_alone b ins outs (went_none b ins outs (node.state n) a) v (c.least_space.ensures.alone ins) in
-    subst (λ k. Went ins outs b (node.state n) a (node_state k n.phase n.at) v 0) (along_still m c.along-moved.ensures.ran c.if-steps-eq0.true) looked
+    record {
+      same = c.least_space.ensures.same;
+      ends = c.least_space.ensures.ends;
+      within = omega arith;
+      went = subst (λ k. Went ins outs b (node.state n) a (node_state k n.phase n.at) v 0) (along_still m c.along-moved.ensures.ran c.if-steps-eq0.true) looked;
+    }
 
 -- what was shown is taken, and what was written is put
-pub returns-clause-went : goal.returns-clause-went
-returns-clause-went g c =
+pub returns-clause-walk : goal.returns-clause-walk
+returns-clause-walk g c =
     let state = g.W.Worker.state in
     let m = g.W.Worker.machine in
     let node = node_of state m g.met.W.Worker.laws in
@@ -157,19 +162,11 @@ returns-clause-went g c =
     let went = along_went m block made ins outs n.at xs ys ran c.requires.inputs c.requires.outputs c.requires.placed.each_output (λ le. take_nothing made.first firsts (none_first le)) (λ le. take_nothing made.second seconds (none_second le)) some v v1 v2 w first second put in
     let here = subst (λ p. Went ins outs b (node_state old p n.at) v (node_state new p n.at) w made.steps) (sym c.requires.works) went in
     let looked = went_alone b ins outs (went_none b ins outs (node.state n) a) v (c.least_space.ensures.alone ins) in
-    went_further b ins outs looked here
-
-pub returns-clause-same : goal.returns-clause-same
-returns-clause-same g c =
     let E = g.met.E.Ends in
-    let a = c.args.ends.now in
-    E.same_trans a c.skip_at-2.new.ends c.put_on_each.new.ends (E.same_trans a c.skip_at.new.ends c.skip_at-2.new.ends (E.same_trans a c.least_space.new.ends c.skip_at.new.ends c.least_space.ensures.same c.skip_at.ensures.same) c.skip_at-2.ensures.same) c.put_on_each.ensures.same
-
-pub returns-clause-ends : goal.returns-clause-ends
-returns-clause-ends g c =
-    let view = g.E.Ends.view in
-    let a = view c.args.ends.now in
-    let v = view c.least_space.new.ends in
-    let v1 = view c.skip_at.new.ends in
-    let v2 = view c.skip_at-2.new.ends in
-    same_ends_then a v2 (view c.put_on_each.new.ends) (same_ends_then a v1 v2 (same_ends_then a v v1 c.least_space.ensures.ends c.skip_at.ensures.taken.ends) c.skip_at-2.ensures.taken.ends) c.put_on_each.ensures.put.ends
+    let start = c.args.ends.now in
+    record {
+      same = E.same_trans start c.skip_at-2.new.ends c.put_on_each.new.ends (E.same_trans start c.skip_at.new.ends c.skip_at-2.new.ends (E.same_trans start c.least_space.new.ends c.skip_at.new.ends c.least_space.ensures.same c.skip_at.ensures.same) c.skip_at-2.ensures.same) c.put_on_each.ensures.same;
+      ends = same_ends_then a v2 w (same_ends_then a v1 v2 (same_ends_then a v v1 c.least_space.ensures.ends c.skip_at.ensures.taken.ends) c.skip_at-2.ensures.taken.ends) c.put_on_each.ensures.put.ends;
+      within = within.steps;
+      went = subst (Went ins outs b (node.state n) a (node_state new n.phase n.at) w) (let none : 0 + made.steps ≡ made.steps = omega arith in none) (went_further b ins outs looked here);
+    }

@@ -45,4 +45,4 @@ returns-then-chunk-outputs-clause-went g c =
     let first = went_on_alone b ins outs 0 (0, went_none b ins outs (node.state n) a, refl) w (c.look_for_messages.ensures.looked outs) in
     let k = whole.result in
     let none : 0 + k ≡ k = omega arith in
-    subst (λ m. WentOn ins outs b (node.state n) a (node.state whole.new.self) (view whole.new.ends) (nat_lt 0 m)) none (went_then b ins outs 0 first whole.ensures.went)
+    subst (λ m. WentOn ins outs b (node.state n) a (node.state whole.new.self) (view whole.new.ends) (nat_lt 0 m)) none (went_then b ins outs 0 first whole.ensures.walk.went)

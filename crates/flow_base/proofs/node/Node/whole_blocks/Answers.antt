@@ -35,4 +35,4 @@ returns-in-Working-clause-went g c =
     let outs = c.args.outputs.now in
     let w = g.E.Ends.view c.look_for_messages.new.ends in
     let first = went_on_alone b ins outs c.in_ok-first.first c.in_ok-first.ensures.went w (c.look_for_messages.ensures.looked outs) in
-    went_then b ins outs c.in_ok-first.first first c.blocks-whole.ensures.went
+    went_then b ins outs c.in_ok-first.first first c.blocks-whole.ensures.walk.went
