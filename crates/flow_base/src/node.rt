@@ -262,8 +262,12 @@ impl<W: Worker> Node<W> {
             ⟦<Node<W> as Transducer>⟧.behaviour (⟦<Node<W> as Transducer>⟧.state self.old) ends.old
             (⟦<Node<W> as Transducer>⟧.state self.new) ends.new most result }
     {
-        // Slices of one edge are not seen at once, and its room is certain for one output alone.
-        if !at_most_two_apart(inputs) || !rise(outputs) {
+        // Slices of one edge are not seen at once.
+        if !at_most_two_apart(inputs) {
+            return 0;
+        }
+        // The room of an edge is certain for one output alone.
+        if !rise(outputs) {
             return 0;
         }
         let mut made = 0;

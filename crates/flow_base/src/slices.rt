@@ -66,7 +66,7 @@ impl<'a> Shown<'a> {
 
 /// Where a worker puts what it writes. Each output gets what is there of its kind. It is lent, and what it held before is
 /// nobody's.
-#[derive(Clone, Copy)]
+#[derive(Drop)]
 pub struct Written {
     pub flags: [bool; PLACES],
     pub ints: [i64; PLACES],

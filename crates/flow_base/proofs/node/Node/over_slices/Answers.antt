@@ -13,6 +13,11 @@ returns-then-not-at_most_two_apart-clause-walk g c =
     let node = node_of g.W.Worker.state g.W.Worker.machine g.met.W.Worker.laws in
     walk_none g.E.Ends.view g.E.Ends.same c.args.inputs.now c.args.outputs.now node.behaviour g.met.E.Ends.same_refl (node.state c.args.self.now) c.args.ends.now c.args.most
 
+pub returns-then-not-rise-clause-walk : goal.returns-then-not-rise-clause-walk
+returns-then-not-rise-clause-walk g c =
+    let node = node_of g.W.Worker.state g.W.Worker.machine g.met.W.Worker.laws in
+    walk_none g.E.Ends.view g.E.Ends.same c.args.inputs.now c.args.outputs.now node.behaviour g.met.E.Ends.same_refl (node.state c.args.self.now) c.args.ends.now c.args.most
+
 pub rounds-init : goal.rounds-init
 rounds-init g c =
     let node = node_of g.W.Worker.state g.W.Worker.machine g.met.W.Worker.laws in
@@ -29,7 +34,10 @@ go_along-steps-requires-clause-placed g c =
     placed_on node.laws c.requires.placed (made_went (c.rounds.made, walk.went, refl) node.laws c.requires.placed walk.ends)
 
 pub go_along-steps-requires-clause-outputs : goal.go_along-steps-requires-clause-outputs
-go_along-steps-requires-clause-outputs g c = risen_apart c.args.outputs.now (cc (c.rise.ensures))
+go_along-steps-requires-clause-outputs g c = risen_apart c.args.outputs.now (c.rise.ensures (cc (c.if-not-rise.false)))
+
+pub go_along-steps-requires-clause-inputs : goal.go_along-steps-requires-clause-inputs
+go_along-steps-requires-clause-inputs g c = c.at_most_two_apart.ensures (cc (c.if-not-at_most_two_apart.false))
 
 -- nothing went on
 pub returns-then-steps-eq0-clause-walk : goal.returns-then-steps-eq0-clause-walk
