@@ -102,7 +102,8 @@ pub struct Moved {
 impl Moved {
     /// It moved nothing.
     pub fn nothing() -> Moved
-        ensures { result ≡ record { first = 0; second = 0; units = 0; flags = 0; ints = 0; steps = 0 } }
+        ensures { result ≡
+            record { first = 0; second = 0; units = 0; flags = 0; ints = 0; steps = 0 } }
     {
         Moved {
             first: 0,
