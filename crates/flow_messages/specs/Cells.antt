@@ -18,7 +18,7 @@ abbrev pub cell_of : Item → Cell
 cell_of UnitItem = unit
 cell_of (BoolItem b) = flag b
 cell_of (IntItem n) = int n
-cell_of (VecItem elements) = datum (a_vec (elements_of elements))
+cell_of (VecItem vector) = datum (a_vec (elements_of vector.elements))
 
 -- whether the cell is of the kind
 abbrev pub is_of : Kind → Cell → Bool

@@ -1,12 +1,16 @@
 // What an edge carries.
-ghost use Rattle.std.specs.Prelude.{◌≡◌, false, IfOk, IsOk};
+ghost use Rattle.std.specs.Prelude.{◌≡◌, true, false, IfOk, IsOk};
+ghost use Rattle.snesl_data.specs.Types.{ty_of};
 ghost use Rattle.snesl_data.specs.Values.{a_vec, elements_of};
+ghost use Rattle.flow_messages.specs.Shapes.{all_are};
 ghost use Rattle.flow_messages.specs.Cells.{cell_of, datum as datum_cell, is_of};
 ghost use Rattle.flow_messages.specs.Signals.{signal_of, is_stop};
 ghost use Rattle.flow_messages.specs.Flats.{is_scalar};
 
-use snesl_data::Elements;
+use crate::vector::Vector;
+use snesl_data::{Elements, Ty};
 use std::alloc::AllocError;
+use std::sync::Arc;
 
 /// What kind of items a stream carries.
 #[derive(Clone, Copy, Debug, PartialEq, Eq)]
@@ -44,15 +48,23 @@ pub enum Item {
     Unit,
     Bool(bool),
     Int(i128),
-    Vec(Elements),
+    Vec(Vector),
 }
 
 impl Item {
-    /// An item that carries the vector of these elements.
+    /// An item that carries the vector of these elements, of which no type is known.
     pub fn of_elements(all: Elements) -> Item
         ensures { cell_of result ≡ datum_cell (a_vec (elements_of all)) }
     {
-        Item::Vec(all)
+        Item::Vec(Vector::new(all))
+    }
+
+    /// The same, where its elements are known to be of this type.
+    pub fn of_known(all: Elements, of: Arc<Ty>) -> Item
+        requires { all_are (ty_of of.value) (elements_of all) ≡ true }
+        ensures { cell_of result ≡ datum_cell (a_vec (elements_of all)) }
+    {
+        Item::Vec(Vector::known(all, of))
     }
 
     /// An item that carries the same. It takes no memory: its only error is that too many share a vector.
@@ -65,7 +77,7 @@ impl Item {
             Item::Unit => Ok(Item::Unit),
             Item::Bool(truth) => Ok(Item::Bool(*truth)),
             Item::Int(number) => Ok(Item::Int(*number)),
-            Item::Vec(elements) => Ok(Item::Vec(elements.share()?)),
+            Item::Vec(vector) => Ok(Item::Vec(vector.share()?)),
         }
     }
 }

@@ -11,9 +11,8 @@ ghost use Rattle.flow_scalar.specs.Streams.{stream_kind, stream_cells, items_of}
 ghost use Rattle.flow_scalar.specs.SourceBehaviour.{is_vector, source_opening, source_behaviour};
 
 use flow_base::{Port, Side, Transducer};
-use flow_messages::{Item, Kind, Msg};
+use flow_messages::{Item, Kind, Msg, Vector};
 use kahn::Want;
-use snesl_data::Elements;
 use std::alloc::AllocError;
 
 /// The items of a stream, all of one kind.
@@ -23,8 +22,7 @@ pub enum Stream {
     Units(usize),
     Bools(Vec<bool>),
     Ints(Vec<i128>),
-    /// Vectors, by their elements.
-    Vectors(Vec<Elements>),
+    Vectors(Vec<Vector>),
 }
 
 impl Stream {
@@ -63,7 +61,7 @@ impl Stream {
                 None => None,
             }),
             Stream::Vectors(all) => match all.get(index) {
-                Some(elements) => Ok(Some(Item::of_elements(elements.share()?))),
+                Some(vector) => Ok(Some(Item::Vec(vector.share()?))),
                 None => Ok(None),
             },
         }
