@@ -17,7 +17,7 @@ mod store;
 mod table;
 mod table_ends;
 mod theorems;
-mod vector;
+mod typed;
 mod whole;
 
 pub use counted::CountedEnds;
@@ -31,5 +31,5 @@ pub use theorems::{
     counts_are_exact, nothing_after_stop, put_adds_one, take_gives_oldest,
     take_gives_what_was_certain,
 };
-pub use vector::Vector;
+pub use typed::Typed;
 pub use whole::WholeEnds;

@@ -7,7 +7,7 @@ ghost use Rattle.flow_messages.specs.Cells.{cell_of, datum as datum_cell, is_of}
 ghost use Rattle.flow_messages.specs.Signals.{signal_of, is_stop};
 ghost use Rattle.flow_messages.specs.Flats.{is_scalar};
 
-use crate::vector::Vector;
+use crate::typed::Typed;
 use snesl_data::{Elements, Ty};
 use std::alloc::AllocError;
 use std::sync::Arc;
@@ -36,19 +36,20 @@ impl Kind {
             (Kind::Unit, Item::Unit)
                 | (Kind::Bool, Item::Bool(_))
                 | (Kind::Int, Item::Int(_))
-                | (Kind::Vec, Item::Vec(_))
+                | (Kind::Vec, Item::Vec(_) | Item::Typed(_))
         )
     }
 }
 
-/// One item of a stream. Each variant is of the `Kind` of its name. The elements of a vector are shared, so that all items
-/// are small, and none takes long to copy.
+/// One item of a stream. Each variant is of the `Kind` of its name, and `Typed` is a vector too, the type of whose elements
+/// is known. The elements of a vector are shared, so that all items are small, and none takes long to copy.
 #[derive(Debug, Drop)]
 pub enum Item {
     Unit,
     Bool(bool),
     Int(i128),
-    Vec(Vector),
+    Vec(Elements),
+    Typed(Typed),
 }
 
 impl Item {
@@ -56,7 +57,7 @@ impl Item {
     pub fn of_elements(all: Elements) -> Item
         ensures { cell_of result ≡ datum_cell (a_vec (elements_of all)) }
     {
-        Item::Vec(Vector::new(all))
+        Item::Vec(all)
     }
 
     /// The same, where its elements are known to be of this type.
@@ -64,7 +65,7 @@ impl Item {
         requires { all_are (ty_of of.value) (elements_of all) ≡ true }
         ensures { cell_of result ≡ datum_cell (a_vec (elements_of all)) }
     {
-        Item::Vec(Vector::known(all, of))
+        Item::Typed(Typed { elements: all, of })
     }
 
     /// An item that carries the same. It takes no memory: its only error is that too many share a vector.
@@ -77,7 +78,8 @@ impl Item {
             Item::Unit => Ok(Item::Unit),
             Item::Bool(truth) => Ok(Item::Bool(*truth)),
             Item::Int(number) => Ok(Item::Int(*number)),
-            Item::Vec(vector) => Ok(Item::Vec(vector.share()?)),
+            Item::Vec(elements) => Ok(Item::Vec(elements.share()?)),
+            Item::Typed(typed) => Ok(Item::Typed(typed.share()?)),
         }
     }
 }
@@ -107,7 +109,7 @@ impl Msg {
         ensures { result ≡ is_scalar (signal_of self.now) }
     {
         match self {
-            Msg::Item(Item::Vec(_)) => false,
+            Msg::Item(Item::Vec(_) | Item::Typed(_)) => false,
             Msg::Item(Item::Unit | Item::Bool(_) | Item::Int(_)) | Msg::End => true,
         }
     }

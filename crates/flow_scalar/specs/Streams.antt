@@ -2,7 +2,6 @@
 use Rattle.std.specs.Prelude.{◌≡◌, ℕ, zero, suc, true, List, [], ◌∷◌, map, replicate, refl}
 use Rattle.snesl_data.specs.Values.{a_vec, elements_of}
 use Rattle.flow_messages.specs.Cells.{Cell, unit, flag, int, datum, is_of}
-use Rattle.flow_messages.specs.declared.vector.Vector.{Vector}
 use Rattle.flow_messages.specs.declared.message.Kind.{Kind}
 use Rattle.flow_messages.specs.declared.message.Kind.TheVariants.{Unit as UnitKind, Bool as BoolKind, Int as IntKind, Vec as VecKind}
 use Rattle.flow_base.specs.Ranges.{AllOf}
@@ -20,7 +19,7 @@ abbrev pub stream_cells : Stream → List Cell
 stream_cells (Units n) = replicate n unit
 stream_cells (Bools all) = map flag all.items
 stream_cells (Ints all) = map int all.items
-stream_cells (Vectors all) = map (λ (vector : Vector). datum (a_vec (elements_of vector.elements))) all.items
+stream_cells (Vectors all) = map (λ elements. datum (a_vec (elements_of elements))) all.items
 
 -- What items carry, in order, all of one kind.
 pub record Items : Type 0 where
@@ -43,7 +42,7 @@ pub stream_all_of : (stream : Stream) → AllOf (stream_kind stream) (stream_cel
 stream_all_of (Units n) = units_all_of n
 stream_all_of (Bools all) = map_all_of BoolKind flag (λ b. refl) all.items
 stream_all_of (Ints all) = map_all_of IntKind int (λ n. refl) all.items
-stream_all_of (Vectors all) = map_all_of VecKind (λ (vector : Vector). datum (a_vec (elements_of vector.elements))) (λ vector. refl) all.items
+stream_all_of (Vectors all) = map_all_of VecKind (λ elements. datum (a_vec (elements_of elements))) (λ elements. refl) all.items
 
 -- the items of a stream
 abbrev pub items_of : Stream → Items

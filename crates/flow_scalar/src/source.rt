@@ -11,8 +11,9 @@ ghost use Rattle.flow_scalar.specs.Streams.{stream_kind, stream_cells, items_of}
 ghost use Rattle.flow_scalar.specs.SourceBehaviour.{is_vector, source_opening, source_behaviour};
 
 use flow_base::{Port, Side, Transducer};
-use flow_messages::{Item, Kind, Msg, Vector};
+use flow_messages::{Item, Kind, Msg};
 use kahn::Want;
+use snesl_data::Elements;
 use std::alloc::AllocError;
 
 /// The items of a stream, all of one kind.
@@ -22,7 +23,8 @@ pub enum Stream {
     Units(usize),
     Bools(Vec<bool>),
     Ints(Vec<i128>),
-    Vectors(Vec<Vector>),
+    /// Vectors, by their elements.
+    Vectors(Vec<Elements>),
 }
 
 impl Stream {
@@ -61,7 +63,7 @@ impl Stream {
                 None => None,
             }),
             Stream::Vectors(all) => match all.get(index) {
-                Some(vector) => Ok(Some(Item::Vec(vector.share()?))),
+                Some(elements) => Ok(Some(Item::of_elements(elements.share()?))),
                 None => Ok(None),
             },
         }

@@ -80,7 +80,7 @@ fn known(alloc: Global, datum: Datum, ty: &Ty) -> Result<[bool; 2], AllocError> 
 
 fn is_known(item: &Item) -> bool {
     match item {
-        Item::Vec(vector) => vector.of.is_some(),
+        Item::Typed(_) => true,
         _ => false,
     }
 }

@@ -6,12 +6,11 @@ use Rattle.std.specs.Global.{Global}
 use Rattle.std.specs.declared.sync.Arc.{Arc}
 use Rattle.snesl_data.specs.declared.ty.Ty.{Ty as TyTree}
 use Rattle.snesl_data.specs.Types.{Ty, ty_of, int, bool, pair, vec, seq}
-use Rattle.snesl_data.specs.Values.{Value, an_int, a_bool, a_pair, a_vec, a_seq, list_of, HasShape}
+use Rattle.snesl_data.specs.Values.{Value, Values, an_int, a_bool, a_pair, a_vec, a_seq, list_of, HasShape}
+pub use Rattle.flow_messages.specs.Shapes.{is_a, all_are}
 use Rattle.flow_messages.specs.Cells.{Cell, flag, int as int_cell, datum}
 use Rattle.flow_messages.specs.declared.message.Kind.{Kind}
 use Rattle.flow_messages.specs.declared.message.Kind.TheVariants.{Unit as UnitKind, Bool as BoolKind, Int as IntKind, Vec as VecKind}
-
-pub use Rattle.flow_messages.specs.Shapes.{is_a, all_are}
 
 -- whether it is the type of integers
 abbrev pub is_int_type : Ty → Bool
@@ -73,6 +72,11 @@ kept_types bool = None ∷ []
 kept_types (vec item) = kept_type item ∷ []
 kept_types (pair first second) = kept_types first ++ kept_types second
 kept_types (seq item) = None ∷ kept_types item
+
+-- whether the values are of the type that is kept of them, where one is
+abbrev pub are_as_known : Option (Arc TyTree Global) → Values → Bool
+are_as_known None vs = true
+are_as_known (Some of) vs = all_are (ty_of (arc_value of)) vs
 
 -- the type that is shared
 abbrev pub shared_type : Option (Arc TyTree Global) → Option Ty

@@ -8,7 +8,7 @@ ghost use Rattle.flow_values.specs.Shapes.{is_a, all_are, is_int_type, is_bool_t
 ghost use Rattle.flow_values.specs.Flats.{width};
 ghost use Rattle.flow_values.specs.Parts.{part_fits};
 
-use flow_messages::{Item, Kind, Vector};
+use flow_messages::{Item, Kind, Typed};
 use snesl_data::{Datum, Elements, Ty, copy_ty};
 use std::alloc::{AllocError, Global};
 use std::sync::Arc;
@@ -52,16 +52,14 @@ fn are_values(item: &Ty, all: &[Datum]) -> bool
     true
 }
 
-/// Whether each element of the vector is of the type. Where that type is known of it, it looks at no element.
-pub fn is_vector_of(element: &Ty, vector: &Vector) -> bool
-    ensures { result ≡ all_are (ty_of element.now) (elements_of vector.now.elements) }
+/// Whether each element is of the type. Where it is the type that is known of them, it looks at none.
+pub fn is_typed(element: &Ty, typed: &Typed) -> bool
+    ensures { result ≡ all_are (ty_of element.now) (elements_of typed.now.elements) }
 {
-    if let Some(of) = &vector.of {
-        if of.is(element) {
-            return true;
-        }
+    if typed.of.is(element) {
+        return true;
     }
-    are_elements(element, &vector.elements)
+    are_elements(element, &typed.elements)
 }
 
 fn is_int(ty: &Ty) -> bool
@@ -170,7 +168,8 @@ pub fn part_fits(ty: &Ty, place: usize, item: &Item) -> bool
 {
     match (ty, item) {
         (Ty::Int, Item::Int(_)) | (Ty::Bool, Item::Bool(_)) => place == 0,
-        (Ty::Vec(element), Item::Vec(vector)) => place == 0 && is_vector_of(element, vector),
+        (Ty::Vec(element), Item::Vec(elements)) => place == 0 && are_elements(element, elements),
+        (Ty::Vec(element), Item::Typed(typed)) => place == 0 && is_typed(element, typed),
         (Ty::Pair(first, second), _) => {
             let edges = edge_count(first);
             if place < edges {

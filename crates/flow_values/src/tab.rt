@@ -3,7 +3,7 @@
 ghost use Rattle.std.specs.Prelude.{◌≡◌, [], map, List, IfOk, OnOk, true, false};
 ghost use Rattle.snesl_data.specs.Types.{Ty as ElementType, ty_of, seq};
 ghost use Rattle.snesl_data.specs.Values.{Value, Values, value_of, values_of, a_pair};
-ghost use Rattle.flow_messages.specs.Shapes.{all_are, are_as_known};
+ghost use Rattle.flow_values.specs.Shapes.{all_are, are_as_known};
 ghost use Rattle.snesl_data.specs.Builders.{built_in};
 ghost use Rattle.flow_messages.specs.Cells.{cell_of};
 ghost use Rattle.flow_base.specs.Workers.{Takes};
@@ -12,7 +12,7 @@ ghost use Rattle.flow_values.specs.Parts.{built, PartsFit};
 ghost use Rattle.flow_base.specs.Machines.{state_after_item, with_parameters};
 ghost use Rattle.flow_values.specs.TabMachine.{TabState, start, tab_state, staged, flag_taking, grown, item_given, item_port, MakesDatum};
 
-use crate::shapes::{add_kinds, is_vector_of, kept, kind_at, part_fits};
+use crate::shapes::{add_kinds, are_elements, is_typed, kept, kind_at, part_fits};
 use flow_base::{Ask, Stop, Worker};
 use flow_messages::{Flat, Item, Kind};
 use snesl_data::{Builder, Datum, FaultKind, Ty};
@@ -202,9 +202,16 @@ fn build(alloc: Global, ty: &Ty, items: &mut VecDeque<Item>) -> Result<Datum, St
             _ => Err(Stop::Faulted(FaultKind::Shape)),
         },
         Ty::Vec(element) => match items.pop_front() {
-            Some(Item::Vec(vector)) => {
-                if is_vector_of(element, &vector) {
-                    Ok(Datum::Vec(vector.elements))
+            Some(Item::Vec(all)) => {
+                if are_elements(element, &all) {
+                    Ok(Datum::Vec(all))
+                } else {
+                    Err(Stop::Faulted(FaultKind::Shape))
+                }
+            }
+            Some(Item::Typed(typed)) => {
+                if is_typed(element, &typed) {
+                    Ok(Datum::Vec(typed.elements))
                 } else {
                     Err(Stop::Faulted(FaultKind::Shape))
                 }

@@ -6,7 +6,7 @@ ghost use Rattle.snesl_data.specs.Values.{Values, a_vec, elements_of};
 ghost use Rattle.flow_messages.specs.Cells.{cell_of, datum};
 ghost use Rattle.flow_values.specs.Shapes.{all_are};
 
-use crate::shapes::{are_elements, is_vector_of};
+use crate::shapes::{are_elements, is_typed};
 use flow_messages::Item;
 use snesl_data::{Elements, FaultKind, Ty};
 use std::alloc::AllocError;
@@ -20,13 +20,22 @@ pub fn vector_in(element: &Ty, item: Item) -> Result<Elements, FaultKind>
     ensures none { OnErr result ((vs : Values) → cell_of item ≡ datum (a_vec vs) →
         all_are (ty_of element.now) vs ≡ false) }
 {
-    let Item::Vec(vector) = item else {
-        return Err(FaultKind::Shape);
-    };
-    if is_vector_of(element, &vector) {
-        Ok(vector.elements)
-    } else {
-        Err(FaultKind::Shape)
+    match item {
+        Item::Vec(all) => {
+            if are_elements(element, &all) {
+                Ok(all)
+            } else {
+                Err(FaultKind::Shape)
+            }
+        }
+        Item::Typed(typed) => {
+            if is_typed(element, &typed) {
+                Ok(typed.elements)
+            } else {
+                Err(FaultKind::Shape)
+            }
+        }
+        Item::Unit | Item::Bool(_) | Item::Int(_) => Err(FaultKind::Shape),
     }
 }
 

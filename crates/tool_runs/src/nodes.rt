@@ -12,7 +12,7 @@ use anyhow::{Result, ensure};
 use feeding::Fed;
 use flow_base::{Node, Printing, Transducer};
 use flow_inputs::TextSource;
-use flow_messages::{Kind, Vector};
+use flow_messages::Kind;
 use flow_nodes::StreamNode;
 use flow_scalar::workers::Fork;
 use flow_scalar::{Source, Stream};
@@ -41,8 +41,8 @@ pub fn try_nodes<R: Print + AllocGlobal>(rt: &R) -> Result<()> {
 fn try_source<R: Print + AllocGlobal>(rt: &R) -> Result<()> {
     let alloc = rt.alloc();
     let mut all = Vec::new(alloc);
-    all.push(Vector::new(vector(alloc, &[1, 2])?))?;
-    all.push(Vector::new(vector(alloc, &[])?))?;
+    all.push(vector(alloc, &[1, 2])?)?;
+    all.push(vector(alloc, &[])?)?;
     let none = Vec::new(alloc);
     let node = StreamNode::Source(Source::new(Stream::Vectors(all)));
     try_node(rt, "source", node, none)

@@ -140,8 +140,12 @@ fn word_of(alloc: Global, way: char, port: usize, message: &Msg) -> Result<Strin
         Msg::Item(Item::Unit) => format!(in alloc; " {way}{port} unit"),
         Msg::Item(Item::Bool(truth)) => format!(in alloc; " {way}{port} {truth}"),
         Msg::Item(Item::Int(number)) => format!(in alloc; " {way}{port} {number}"),
-        Msg::Item(Item::Vec(vector)) => {
-            let text = text_of(alloc, &Datum::Vec(vector.elements.share()?))?;
+        Msg::Item(Item::Vec(elements)) => {
+            let text = text_of(alloc, &Datum::Vec(elements.share()?))?;
+            format!(in alloc; " {way}{port} {}", text.escape_ascii())
+        }
+        Msg::Item(Item::Typed(typed)) => {
+            let text = text_of(alloc, &Datum::Vec(typed.elements.share()?))?;
             format!(in alloc; " {way}{port} {}", text.escape_ascii())
         }
     }

@@ -1,7 +1,7 @@
 use Rattle.std.proofs.Common.{◌≡◌, ◌∙◌, true, sym, ap, map}
 use Rattle.snesl_data.specs.Values.{values_of, elements_of, a_vec}
 use Rattle.snesl_data.specs.Builders.{built_in}
-use Rattle.flow_messages.specs.Shapes.{all_are, are_as_known}
+use Rattle.flow_values.specs.Shapes.{all_are, are_as_known}
 use Rattle.flow_messages.specs.Cells.{cell_of, datum}
 use Rattle.snesl_data.specs.Types.{ty_of}
 use Rattle.flow_base.specs.Machines.{written_cell, state_after_write}
