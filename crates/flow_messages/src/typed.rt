@@ -23,7 +23,8 @@ pub struct Typed {
 impl Typed {
     /// The same elements and the same type, shared. It takes no memory: its only error is that too many share them.
     pub fn share(&self) -> Result<Typed, AllocError>
-        ensures { IfOk result (λ shared. elements_of shared.elements ≡ elements_of self.now.elements) }
+        ensures { IfOk result (λ shared. elements_of shared.elements ≡
+            elements_of self.now.elements) }
     {
         let elements = self.elements.share()?;
         let of = Arc::try_clone(&self.of)?;
