@@ -1,5 +1,4 @@
 pub mod Building
-pub mod Known
 pub mod Layings
 pub mod Members
 pub mod Printing
