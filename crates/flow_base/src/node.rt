@@ -312,7 +312,7 @@ impl<W: Worker> Node<W> {
                     }
                     let item = self.worker.give()?;
                     // Only after End is the message refused, and no lawful node writes after End.
-                    let _ = ends.put(edge, Msg::Item(item));
+                    drop(ends.put(edge, Msg::Item(item)));
                 }
                 Want::Ended | Want::Faulted(_) => return Ok(made),
             }

@@ -71,7 +71,7 @@ impl Fork {
             result }
     {
         let item = match &self.held {
-            None | Some(Item::Vec(_)) => return 0,
+            None | Some(Item::Vec(_) | Item::Typed(_)) => return 0,
             Some(item) => copy_of(item),
         };
         // An item of another kind is left to single steps; it holds none.
@@ -434,7 +434,7 @@ fn copy_of(item: &Item) -> Item
         Item::Unit => Item::Unit,
         Item::Bool(truth) => Item::Bool(*truth),
         Item::Int(number) => Item::Int(*number),
-        Item::Vec(_) => unreachable!(),
+        Item::Vec(_) | Item::Typed(_) => unreachable!(),
     }
 }
 
@@ -455,7 +455,7 @@ fn put_copy<E: Ends>(ends: &mut E, edge: usize, item: &Item)
             Ok(narrow) => ends.put_ints(edge, &[narrow]),
             Err(_) => put_in_space(ends, edge, Msg::Item(Item::Int(*number))),
         },
-        Item::Vec(_) => unreachable!(),
+        Item::Vec(_) | Item::Typed(_) => unreachable!(),
     }
 }
 

@@ -121,7 +121,7 @@ fn put_copies<E: Ends>(item: &Item, to: usize, count: usize, ends: &mut E, block
             }
             ends.put_ints(to, copies);
         }
-        Item::Vec(_) => unreachable!(),
+        Item::Vec(_) | Item::Typed(_) => unreachable!(),
     }
 }
 

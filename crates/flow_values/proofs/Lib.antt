@@ -1,4 +1,5 @@
 pub mod Building
+pub mod Known
 pub mod Layings
 pub mod Members
 pub mod Printing

@@ -8,22 +8,14 @@ ghost use Rattle.flow_values.specs.Rows.{element_at};
 ghost use Rattle.flow_values.specs.IndexMachine.{writing, holds_such};
 
 use crate::dues::{Due, add_value};
-use crate::shapes::{kind_at, kinds};
+use crate::shapes::{add_types, kind_at, kinds};
 use crate::vectors::vector_in;
 use flow_base::{Ask, Stop, Worker};
 use flow_messages::{Flat, Item, Kind};
 use snesl_data::{Datum, Elements, FaultKind, Ty};
 use std::alloc::{AllocError, Global};
 use std::collections::VecDeque;
-
-/// How far an instance is.
-#[derive(Drop)]
-pub enum Stage {
-    /// A vector was read.
-    Held(Elements),
-    /// These items are due. Where there are none, the next instance may begin.
-    Writing(VecDeque<Due>),
-}
+use std::sync::Arc;
 
 /// Writes of each vector the element at an index, counted from 0. A vector and its index are an instance.
 ///
@@ -40,9 +32,14 @@ pub struct Index {
     element: Ty,
     // Of the outputs.
     kinds: Vec<Kind>,
-    stage: Stage,
+    // Of the vectors on them, as far as they are kept.
+    types: Vec<Option<Arc<Ty>>>,
+    // A vector that was read, and whose index is due.
+    held: Option<Elements>,
+    // These items are due where no vector is held. Where there are none, the next instance may begin.
+    dues: VecDeque<Due>,
     ghost kinds_are: { kinds.items ≡ kinds_of (ty_of element) },
-    ghost holds: { holds_such (ty_of element) stage ≡ true },
+    ghost holds: { holds_such (ty_of element) held ≡ true },
 }
 
 impl Index {
@@ -53,11 +50,15 @@ impl Index {
             (ty_of element, writing [])) }
     {
         let kinds = kinds(alloc, &element)?;
+        let mut types = Vec::new(alloc);
+        add_types(&mut types, alloc, &element)?;
         Ok(Index {
             alloc,
             element,
             kinds,
-            stage: Stage::Writing(VecDeque::new(alloc)),
+            types,
+            held: None,
+            dues: VecDeque::new(alloc),
         })
     }
 }
@@ -82,7 +83,7 @@ impl Worker for Index {
 
     ghost State = { IndexState };
 
-    ghost state = { λ n. (ty_of n.element, index_state n.stage) };
+    ghost state = { λ n. (ty_of n.element, index_state n.held n.dues.items) };
 
     ghost machine = { index_machine };
 
@@ -92,12 +93,10 @@ impl Worker for Index {
 
     #[inline(always)]
     fn ask(&self) -> Ask {
-        match &self.stage {
-            Stage::Held(_) => Ask::Take(1),
-            Stage::Writing(dues) => match dues.front() {
-                None => Ask::Begin,
-                Some(due) => Ask::Give(due.output(self.kinds.len())),
-            },
+        match (&self.held, self.dues.front()) {
+            (Some(_), _) => Ask::Take(1),
+            (None, Some(due)) => Ask::Give(due.output(self.kinds.len())),
+            (None, None) => Ask::Begin,
         }
     }
 
@@ -131,35 +130,28 @@ impl Worker for Index {
 
     #[inline(always)]
     fn take(&mut self, item: Item) -> Result<(), Stop> {
-        match &self.stage {
-            Stage::Writing(_) => {
-                let all = vector_in(&self.element, item)?;
-                self.stage = Stage::Held(all);
-                Ok(())
-            }
-            Stage::Held(all) => {
-                let Item::Int(index) = item else {
-                    return Err(Stop::Faulted(FaultKind::Shape));
-                };
-                let Some(datum) = element_at(self.alloc, all, index)? else {
-                    return Err(Stop::Faulted(FaultKind::Index));
-                };
-                let mut dues = VecDeque::new(self.alloc);
-                add_value(&mut dues, &self.element, 0, &datum)?;
-                self.stage = Stage::Writing(dues);
-                Ok(())
-            }
-        }
+        let Some(all) = &self.held else {
+            let all = vector_in(&self.element, item)?;
+            self.held = Some(all);
+            return Ok(());
+        };
+        let Item::Int(index) = item else {
+            return Err(Stop::Faulted(FaultKind::Shape));
+        };
+        let Some(datum) = element_at(self.alloc, all, index)? else {
+            return Err(Stop::Faulted(FaultKind::Index));
+        };
+        self.dues.clear();
+        add_value(&mut self.dues, &self.types, &self.element, 0, &datum)?;
+        self.held = None;
+        Ok(())
     }
 
     #[inline(always)]
     fn give(&mut self) -> Result<Item, AllocError> {
-        match &mut self.stage {
-            Stage::Writing(dues) => match dues.pop_front() {
-                Some(due) => Ok(due.item),
-                None => unreachable!(),
-            },
-            Stage::Held(_) => unreachable!(),
+        match self.dues.pop_front() {
+            Some(due) => Ok(due.item),
+            None => unreachable!(),
         }
     }
 }
