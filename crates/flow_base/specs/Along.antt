@@ -31,9 +31,9 @@ written_signals block moved IntKind = int_signals (take moved.ints block.ints)
 written_signals block moved VecKind = []
 
 -- it read no more than it was shown, wrote no more than there is room for, and made no more steps than it may
-pub record IsWithin (first second : Shown) (space most : ℕ) (moved : Moved) : Type 0 where
-  pub first : moved.first ≤ length (shown_signals first)
-  pub second : moved.second ≤ length (shown_signals second)
+pub record IsWithin (at_first at_second : Shown) (space most : ℕ) (moved : Moved) : Type 0 where
+  pub first : moved.first ≤ length (shown_signals at_first)
+  pub second : moved.second ≤ length (shown_signals at_second)
   pub units : moved.units ≤ space
   pub flags : moved.flags ≤ space
   pub ints : moved.ints ≤ space

@@ -33,7 +33,7 @@ impl<'a> Shown<'a> {
     /// How many units it shows.
     #[inline(always)]
     pub fn units(self) -> usize
-        ensures { IsPrefix (unit_signals result) (shown_signals self) }
+        ensures { IsPrefix (unit_signals result) (shown_signals self.entry) }
     {
         match self {
             Shown::Units(count) => count,
@@ -44,7 +44,7 @@ impl<'a> Shown<'a> {
     /// The truth values that it shows.
     #[inline(always)]
     pub fn flags(self) -> &'a [bool]
-        ensures { IsPrefix (flag_signals result.now) (shown_signals self) }
+        ensures { IsPrefix (flag_signals result.now) (shown_signals self.entry) }
     {
         match self {
             Shown::Flags(flags) => flags,
@@ -55,7 +55,7 @@ impl<'a> Shown<'a> {
     /// The integers that it shows.
     #[inline(always)]
     pub fn ints(self) -> &'a [i64]
-        ensures { IsPrefix (int_signals result.now) (shown_signals self) }
+        ensures { IsPrefix (int_signals result.now) (shown_signals self.entry) }
     {
         match self {
             Shown::Ints(ints) => ints,

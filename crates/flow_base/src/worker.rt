@@ -165,8 +165,8 @@ pub trait Worker {
         most: usize,
     ) -> Moved
         requires { space ≤ 256 }
-        ensures { MovesAlong machine (state self.old) (state self.new) first second space most
-            block.new result }
+        ensures { MovesAlong machine (state self.old) (state self.new) first.entry second.entry
+            space most block.new result }
     {
         Moved::nothing()
     }
