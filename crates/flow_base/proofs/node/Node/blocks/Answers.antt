@@ -15,8 +15,8 @@ blocks-whole-requires g c =
     let placed = placed_on node.laws c.requires.placed (made_went (along.result, walk.went, refl) node.laws c.requires.placed walk.ends) in
     record { wired = wired node.behaviour c.args.inputs.now c.args.outputs.now (node.state along.new.self) (g.E.Ends.view along.new.ends) placed; kinds = placed.kinds }
 
-pub returns-clause-walk : goal.returns-clause-walk
-returns-clause-walk g c =
+pub returns : goal.returns
+returns g c =
     let state = g.W.Worker.state in
     let node = node_of state g.W.Worker.machine g.met.W.Worker.laws in
     let b = node.behaviour in

@@ -39,19 +39,19 @@ skip_at-requires-clause-certain g c =
     let v = g.E.Ends.view c.least_space.new.ends in
     omega (arith, c.along-moved.ensures.within.first, prefix_long (shown_signals c.shown_at-first.result) (v.coming (edge_of c.args.inputs.now 0)) c.shown_at-first.ensures.shown)
 
-pub skip_at-2-requires-clause-reads : goal.skip_at-2-requires-clause-reads
-skip_at-2-requires-clause-reads g c =
+pub skip_at-requires-2-clause-reads : goal.skip_at-requires-2-clause-reads
+skip_at-requires-2-clause-reads g c =
     let view = g.E.Ends.view in
     let a = view c.args.ends.now in
     let v = view c.least_space.new.ends in
     let v1 = view c.skip_at.new.ends in
     reads_still a v1 c.args.inputs.now (same_ends_then a v v1 c.least_space.ensures.ends c.skip_at.ensures.taken.ends) c.requires.placed.reads
 
-pub skip_at-2-requires-clause-there : goal.skip_at-2-requires-clause-there
-skip_at-2-requires-clause-there g c = port_there c.args.inputs.now 1 c.along-moved.result.second (shown_signals c.shown_at-second.result) c.along-moved.ensures.within.second c.shown_at-second.ensures.none
+pub skip_at-requires-2-clause-there : goal.skip_at-requires-2-clause-there
+skip_at-requires-2-clause-there g c = port_there c.args.inputs.now 1 c.along-moved.result.second (shown_signals c.shown_at-second.result) c.along-moved.ensures.within.second c.shown_at-second.ensures.none
 
-pub skip_at-2-requires-clause-certain : goal.skip_at-2-requires-clause-certain
-skip_at-2-requires-clause-certain g c =
+pub skip_at-requires-2-clause-certain : goal.skip_at-requires-2-clause-certain
+skip_at-requires-2-clause-certain g c =
     let ins = c.args.inputs.now in
     let view = g.E.Ends.view in
     let v = view c.least_space.new.ends in

@@ -6,8 +6,8 @@ use Rattle.flow_base.proofs.slices.Shown.flags.Goals as goal
 
 -- all of them
 pub returns-in-Flags : goal.returns-in-Flags
-returns-in-Flags g c = subst (λ s. IsPrefix (flag_signals c.in-Flags.flags.now) (shown_signals s)) (sym c.in-Flags.is) ([], append-nil (flag_signals c.in-Flags.flags.now))
+returns-in-Flags c = subst (λ s. IsPrefix (flag_signals c.in-Flags.flags.now) (shown_signals s)) (sym c.in-Flags.is) ([], append-nil (flag_signals c.in-Flags.flags.now))
 
 -- items of another kind
 pub returns-in_default : goal.returns-in_default
-returns-in_default g c = (shown_signals c.args.self, refl)
+returns-in_default c = (shown_signals c.args.self, refl)

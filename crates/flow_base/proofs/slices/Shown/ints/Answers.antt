@@ -6,8 +6,8 @@ use Rattle.flow_base.proofs.slices.Shown.ints.Goals as goal
 
 -- all of them
 pub returns-in-Ints : goal.returns-in-Ints
-returns-in-Ints g c = subst (λ s. IsPrefix (int_signals c.in-Ints.ints.now) (shown_signals s)) (sym c.in-Ints.is) ([], append-nil (int_signals c.in-Ints.ints.now))
+returns-in-Ints c = subst (λ s. IsPrefix (int_signals c.in-Ints.ints.now) (shown_signals s)) (sym c.in-Ints.is) ([], append-nil (int_signals c.in-Ints.ints.now))
 
 -- items of another kind
 pub returns-in_default : goal.returns-in_default
-returns-in_default g c = (shown_signals c.args.self, refl)
+returns-in_default c = (shown_signals c.args.self, refl)
