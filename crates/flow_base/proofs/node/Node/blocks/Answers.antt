@@ -27,4 +27,11 @@ returns g c =
     let whole = c.blocks-whole in
     let n = along.new.self in
     let went = subst (λ p. Went ins outs b (node_state (state n.worker) p n.at) (view along.new.ends) (node_state (state whole.new.self) p n.at) (view whole.new.ends) whole.result) (sym along.ensures.works) (whole.ensures.went n.at) in
-    walk_then view g.E.Ends.same ins outs b g.met.E.Ends.same_trans along.ensures.walk (record { same = whole.ensures.same; ends = whole.ensures.ends; within = whole.ensures.within; went = went })
+    record {
+      walk = walk_then view g.E.Ends.same ins outs b g.met.E.Ends.same_trans along.ensures.walk (record {
+        same = whole.ensures.same;
+        ends = whole.ensures.ends;
+        within = whole.ensures.within;
+        went = went;
+      });
+    }
