@@ -1,13 +1,13 @@
 -- What a worker makes of slices: the steps of its machine, one after another, at the level of its ports.
-use Rattle.std.proofs.Common.{◌≡◌, ℕ, ℤ, zero, suc, ◌+◌, ◌<◌, ◌≤◌, Bool, true, false, cond, eqb, nat_lt, List, [], ◌∷◌, ◌++◌, length, take, Ok, refl, sym, ◌∙◌, ap, subst, arith, append-nil, length-append, ne_eqb}
+use Rattle.std.proofs.Common.{◌≡◌, ℕ, ℤ, zero, suc, ◌+◌, ◌≤◌, Bool, true, false, cond, eqb, nat_lt, List, [], ◌∷◌, ◌++◌, length, take, Ok, refl, sym, ◌∙◌, ap, subst, arith, length-append, ne_eqb}
 use Rattle.std.proofs.lemmas.Bool.Decides.{nat_tests}
 use mathlib.Core.List.{IsPrefix}
 use Rattle.kahn.specs.declared.want.Want.TheVariants.{Read, Write}
-use Rattle.kahn.specs.Processes.{Event, Reads, Writes, reads, writes}
+use Rattle.kahn.specs.Processes.{Reads, Writes, reads, writes}
 use Rattle.kahn.proofs.History.{does_then, reads_append, writes_append}
 use Rattle.flow_messages.specs.Blocks.{unit_signals, flag_signals, int_signals}
 use Rattle.flow_messages.specs.Cells.{Cell}
-use Rattle.flow_messages.specs.Signals.{Signal, carry, ended}
+use Rattle.flow_messages.specs.Signals.{Signal, carry}
 use Rattle.flow_messages.specs.declared.message.Kind.{Kind}
 use Rattle.flow_messages.specs.declared.message.Kind.TheVariants.{Unit as UnitKind, Bool as BoolKind, Int as IntKind, Vec as VecKind}
 use Rattle.flow_base.specs.Machines.{Machine, ask_of, state_after_read, written_cell, state_after_write}

@@ -15,7 +15,9 @@ ghost use Rattle.flow_base.specs.Walks.{Walk};
 ghost use Rattle.flow_base.specs.declared.node.Phase.TheVariants.{Working, Ending};
 
 use crate::certain::look_for_messages;
-use crate::slices::{PLACES, Written, at_most_two_apart, least_space, put_on_each, rise, shown_at, skip_at};
+use crate::slices::{
+    PLACES, Written, at_most_two_apart, least_space, put_on_each, rise, shown_at, skip_at,
+};
 use crate::transducer::{Port, Side, Transducer};
 use crate::worker::{Ask, Stop, Worker};
 use flow_messages::{Block, Ends, Flat, Msg};

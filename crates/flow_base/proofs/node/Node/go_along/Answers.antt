@@ -1,11 +1,9 @@
-use Rattle.std.proofs.Common.{◌≡◌, ℕ, zero, ◌+◌, ◌<◌, ◌≤◌, List, [], length, take, sym, ◌∙◌, ap, subst, arith}
+use Rattle.std.proofs.Common.{◌≡◌, ◌+◌, ◌<◌, ◌≤◌, length, take, sym, subst, arith}
 use Rattle.flow_messages.specs.Ends.{TakenAll}
-use Rattle.flow_messages.specs.Signals.{Signal}
 use Rattle.flow_base.specs.Along.{PutOnEach, shown_signals, written_signals}
 use Rattle.flow_base.specs.Members.{node_of}
 use Rattle.flow_base.specs.Nodes.{node_state}
 use Rattle.flow_base.specs.Visits.{edge_of, TakeKinds, Went}
-use Rattle.flow_base.specs.declared.node.Phase.TheVariants.{Working}
 use Rattle.flow_base.proofs.Batches.{shown, taken_all_room}
 use Rattle.flow_base.proofs.Carried.{same_ends_then}
 use Rattle.flow_base.proofs.Kernels.{went_none, went_alone, went_further}
