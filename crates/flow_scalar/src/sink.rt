@@ -19,7 +19,7 @@ pub struct Sink {
 // How many items of the kind are shown.
 #[inline(always)]
 fn count_of(kind: Kind, shown: Shown<'_>) -> usize
-    ensures { CountOf kind result (shown_signals shown) }
+    ensures { CountOf kind result (shown_signals shown.entry) }
 {
     match kind {
         Kind::Unit => shown.units(),

@@ -14,17 +14,17 @@ use Rattle.flow_scalar.proofs.binary.BinaryWorker.along.Goals as goal
 
 -- it moved nothing
 pub returns-in_default : goal.returns-in_default
-returns-in_default g c = moved_nothing binary_machine (binary_view c.args.self.now) c.args.first c.args.second c.args.space c.args.most c.args.block.now c.nothing.result c.nothing.ensures
+returns-in_default c = moved_nothing binary_machine (binary_view c.args.self.now) c.args.first c.args.second c.args.space c.args.most c.args.block.now c.nothing.result c.nothing.ensures
 
 pub returns-in_default-2 : goal.returns-in_default-2
-returns-in_default-2 g c = moved_nothing binary_machine (binary_view c.args.self.now) c.args.first c.args.second c.args.space c.args.most c.args.block.now c.nothing-in_default-2.result c.nothing-in_default-2.ensures
+returns-in_default-2 c = moved_nothing binary_machine (binary_view c.args.self.now) c.args.first c.args.second c.args.space c.args.most c.args.block.now c.nothing-in_default-2.result c.nothing-in_default-2.ensures
 
 pub returns-in_default-3 : goal.returns-in_default-3
-returns-in_default-3 g c = moved_nothing binary_machine (binary_view c.args.self.now) c.args.first c.args.second c.args.space c.args.most c.args.block.now c.nothing-in_default-3.result c.nothing-in_default-3.ensures
+returns-in_default-3 c = moved_nothing binary_machine (binary_view c.args.self.now) c.args.first c.args.second c.args.space c.args.most c.args.block.now c.nothing-in_default-3.result c.nothing-in_default-3.ensures
 
 -- along pairs
 pub returns-in-Int : goal.returns-in-Int
-returns-in-Int g c =
+returns-in-Int c =
     let m = binary_machine in
     let n = c.args.self.now in
     let p = (n.dialect, n.operator) in
@@ -56,7 +56,7 @@ returns-in-Int g c =
     })
 
 pub returns-in-Bool : goal.returns-in-Bool
-returns-in-Bool g c =
+returns-in-Bool c =
     let m = binary_machine in
     let n = c.args.self.now in
     let p = (n.dialect, n.operator) in

@@ -16,14 +16,14 @@ use Rattle.flow_scalar.proofs.constant.ConstWorker.along.Goals as goal
 
 -- it moved nothing
 pub returns-then-self : goal.returns-then-self
-returns-then-self g c = moved_nothing const_machine (const_view c.args.self.now) c.args.first c.args.second c.args.space c.args.most c.args.block.now c.nothing.result c.nothing.ensures
+returns-then-self c = moved_nothing const_machine (const_view c.args.self.now) c.args.first c.args.second c.args.space c.args.most c.args.block.now c.nothing.result c.nothing.ensures
 
 pub returns-in_default : goal.returns-in_default
-returns-in_default g c = moved_nothing const_machine (const_view c.args.self.now) c.args.first c.args.second c.args.space c.args.most c.args.block.now c.nothing-in_default.result c.nothing-in_default.ensures
+returns-in_default c = moved_nothing const_machine (const_view c.args.self.now) c.args.first c.args.second c.args.space c.args.most c.args.block.now c.nothing-in_default.result c.nothing-in_default.ensures
 
 -- a truth value for each unit
 pub returns-in-Bool : goal.returns-in-Bool
-returns-in-Bool g c =
+returns-in-Bool c =
     let m = const_machine in
     let first = c.args.first in
     let second = c.args.second in
@@ -50,7 +50,7 @@ returns-in-Bool g c =
 
 -- an integer for each unit
 pub returns-in-Int : goal.returns-in-Int
-returns-in-Int g c =
+returns-in-Int c =
     let m = const_machine in
     let first = c.args.first in
     let second = c.args.second in

@@ -13,14 +13,14 @@ use Rattle.flow_scalar.proofs.unary.UnaryWorker.along.Goals as goal
 
 -- it moved nothing
 pub returns-then-is_some : goal.returns-then-is_some
-returns-then-is_some g c = moved_nothing unary_machine (unary_view c.args.self.now) c.args.first c.args.second c.args.space c.args.most c.args.block.now c.nothing.result c.nothing.ensures
+returns-then-is_some c = moved_nothing unary_machine (unary_view c.args.self.now) c.args.first c.args.second c.args.space c.args.most c.args.block.now c.nothing.result c.nothing.ensures
 
 pub returns-in_default : goal.returns-in_default
-returns-in_default g c = moved_nothing unary_machine (unary_view c.args.self.now) c.args.first c.args.second c.args.space c.args.most c.args.block.now c.nothing-in_default.result c.nothing-in_default.ensures
+returns-in_default c = moved_nothing unary_machine (unary_view c.args.self.now) c.args.first c.args.second c.args.space c.args.most c.args.block.now c.nothing-in_default.result c.nothing-in_default.ensures
 
 -- along integers
 pub returns-in-Ints : goal.returns-in-Ints
-returns-in-Ints g c =
+returns-in-Ints c =
     let m = unary_machine in
     let n = c.args.self.now in
     let p = (n.dialect, n.operator) in
@@ -49,7 +49,7 @@ returns-in-Ints g c =
 
 -- along truth values
 pub returns-in-Flags : goal.returns-in-Flags
-returns-in-Flags g c =
+returns-in-Flags c =
     let m = unary_machine in
     let n = c.args.self.now in
     let p = (n.dialect, n.operator) in

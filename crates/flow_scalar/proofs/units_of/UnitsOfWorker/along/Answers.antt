@@ -12,14 +12,14 @@ use Rattle.flow_scalar.proofs.units_of.UnitsOfWorker.along.Goals as goal
 
 -- it moved nothing
 pub returns-then-self : goal.returns-then-self
-returns-then-self g c = moved_nothing units_of_machine (units_of_view c.args.self.now) c.args.first c.args.second c.args.space c.args.most c.args.block.now c.nothing.result c.nothing.ensures
+returns-then-self c = moved_nothing units_of_machine (units_of_view c.args.self.now) c.args.first c.args.second c.args.space c.args.most c.args.block.now c.nothing.result c.nothing.ensures
 
 pub returns-in_default : goal.returns-in_default
-returns-in_default g c = moved_nothing units_of_machine (units_of_view c.args.self.now) c.args.first c.args.second c.args.space c.args.most c.args.block.now c.nothing-in_default.result c.nothing-in_default.ensures
+returns-in_default c = moved_nothing units_of_machine (units_of_view c.args.self.now) c.args.first c.args.second c.args.space c.args.most c.args.block.now c.nothing-in_default.result c.nothing-in_default.ensures
 
 -- it went along flags
 pub returns : goal.returns
-returns g c =
+returns c =
     let m = units_of_machine in
     let shown = c.in-Flags.flags.now in
     let whole = c.min-whole.result in
