@@ -46,7 +46,7 @@ module _ (dialect : Dialect) (op : BinaryOperator) where
   pair : (x y : ℤ) (v : Scalar) → binary_value dialect op (Int x) (Int y) ≡ Ok v → Pairs (carry (int x) ∷ []) (carry (int y) ∷ []) (carry (cell_of_scalar v) ∷ []) 3
   pair x y v e =
       let m = binary_machine in
-      let p = (dialect, op) in
+      let p : Dialect × BinaryOperator = (dialect, op) in
       let type = binary_operand op in
       let is : type ≡ IntType = takes_ints dialect op x y v e in
       let first : operand_in type (int x) ≡ Ok (Int x) = ap (λ t. operand_in t (int x)) is in
@@ -71,7 +71,7 @@ module _ (dialect : Dialect) (op : BinaryOperator) where
     block_more : (xs ys : List ℤ) (zs : List A) (n : ℕ) → n < length xs → n < length ys → n < length zs → binary_value dialect op (Int (get_or xs n (pos 0))) (Int (get_or ys n (pos 0))) ≡ Ok (said (get_or zs n none)) → Block xs ys zs n → Block xs ys zs (n + 1)
     block_more xs ys zs n in_xs in_ys in_zs value made =
         let m = binary_machine in
-        let p = (dialect, op) in
+        let p : Dialect × BinaryOperator = (dialect, op) in
         let x = get_or xs n (pos 0) in
         let y = get_or ys n (pos 0) in
         let z = get_or zs n none in

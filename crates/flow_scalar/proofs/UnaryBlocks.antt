@@ -49,7 +49,7 @@ module _ (dialect : Dialect) (op : UnaryOperator) where
   one_value : (x v : Scalar) → unary_value dialect op x ≡ Ok v → Ones (carry (cell_of_scalar x) ∷ []) (carry (cell_of_scalar v) ∷ []) 2
   one_value x v e =
       let m = unary_machine in
-      let p = (dialect, op) in
+      let p : Dialect × UnaryOperator = (dialect, op) in
       let type = unary_operand op in
       let begin = on_operand type (unary_next dialect op) in
       let leads : state_after_item begin (cell_of_scalar x) ≡ Ok (Some v) = operand_taken type (unary_next dialect op) (cell_of_scalar x) x (takes_it dialect op x v e) ∙ ap (λ r. and_then r (λ k. Ok (Some k))) e in
@@ -68,7 +68,7 @@ module _ (dialect : Dialect) (op : UnaryOperator) where
     block_more : (xs zs : List A) (n : ℕ) → n < length xs → n < length zs → unary_value dialect op (said (get_or xs n none)) ≡ Ok (said (get_or zs n none)) → Block xs zs n → Block xs zs (n + 1)
     block_more xs zs n in_xs in_zs value made =
         let m = unary_machine in
-        let p = (dialect, op) in
+        let p : Dialect × UnaryOperator = (dialect, op) in
         let tell = λ (k : A). carry (cell_of_scalar (said k)) in
         let x = get_or xs n none in
         let z = get_or zs n none in

@@ -1,6 +1,6 @@
 // Operators on two scalars.
 
-ghost use Rattle.std.specs.Prelude.{◌≡◌, ◌*ℤ◌, ◌≤◌, length, Ok, IfSome};
+ghost use Rattle.std.specs.Prelude.{◌≡◌, ◌*ℤ◌, ◌≤◌, length, Ok, IfSome, false};
 ghost use Rattle.snesl_operators.specs.Operators.{binary_value};
 ghost use Rattle.snesl_operators.specs.declared.scalar.Scalar.TheVariants.{Int};
 ghost use Rattle.flow_scalar.specs.BinaryMachine.{IntsAt, FlagsAt};

@@ -1,6 +1,6 @@
 // Operators on one scalar.
 
-ghost use Rattle.std.specs.Prelude.{◌≡◌, ◌≤◌, length, Ok, None, IfSome};
+ghost use Rattle.std.specs.Prelude.{◌≡◌, ◌≤◌, length, Ok, None, IfSome, false};
 ghost use Rattle.snesl_operators.specs.Operators.{unary_value};
 ghost use Rattle.snesl_operators.specs.declared.scalar.Scalar.TheVariants.{Int};
 ghost use Rattle.flow_scalar.specs.UnaryMachine.{IntsAt, FlagsAt};

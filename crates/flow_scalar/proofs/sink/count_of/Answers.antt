@@ -6,7 +6,7 @@ use Rattle.flow_scalar.proofs.SinkBlocks.{fit_units, fit_flags, fit_ints}
 use Rattle.flow_scalar.proofs.sink.count_of.Goals as goal
 
 pub returns-in-Unit : goal.returns-in-Unit
-returns-in-Unit g c = let block = unit_signals c.units.result in record {
+returns-in-Unit c = let block = unit_signals c.units.result in record {
   block = block;
   first = c.units.ensures;
   long = length_units c.units.result;
@@ -14,7 +14,7 @@ returns-in-Unit g c = let block = unit_signals c.units.result in record {
 }
 
 pub returns-in-Bool : goal.returns-in-Bool
-returns-in-Bool g c = let block = flag_signals c.flags.result.now in record {
+returns-in-Bool c = let block = flag_signals c.flags.result.now in record {
   block = block;
   first = c.flags.ensures;
   long = length_flags c.flags.result.now;
@@ -22,7 +22,7 @@ returns-in-Bool g c = let block = flag_signals c.flags.result.now in record {
 }
 
 pub returns-in-Int : goal.returns-in-Int
-returns-in-Int g c = let block = int_signals c.ints.result.now in record {
+returns-in-Int c = let block = int_signals c.ints.result.now in record {
   block = block;
   first = c.ints.ensures;
   long = length_ints c.ints.result.now;

@@ -1,4 +1,6 @@
 use Rattle.std.proofs.Common.{◌≡◌, ◌*◌, ◌≤◌, pos, false, length, take, refl, sym, ◌∙◌, ap, subst, arith}
+use Rattle.snesl_data.specs.declared.dialect.Dialect.{Dialect}
+use Rattle.snesl_operators.specs.declared.operator.BinaryOperator.{BinaryOperator}
 use Rattle.snesl_operators.specs.declared.scalar.Scalar.TheVariants.{Int, Bool as Truth}
 use Rattle.flow_folds.specs.Scalars.{kind_of_type}
 use Rattle.flow_messages.specs.Blocks.{int_signals}
@@ -19,15 +21,12 @@ returns-in_default c = moved_nothing binary_machine (binary_view c.args.self.now
 pub returns-in_default-2 : goal.returns-in_default-2
 returns-in_default-2 c = moved_nothing binary_machine (binary_view c.args.self.now) c.args.first c.args.second c.args.space c.args.most c.args.block.now c.nothing-in_default-2.result c.nothing-in_default-2.ensures
 
-pub returns-in_default-3 : goal.returns-in_default-3
-returns-in_default-3 c = moved_nothing binary_machine (binary_view c.args.self.now) c.args.first c.args.second c.args.space c.args.most c.args.block.now c.nothing-in_default-3.result c.nothing-in_default-3.ensures
-
 -- along pairs
 pub returns-in-Int : goal.returns-in-Int
 returns-in-Int c =
     let m = binary_machine in
     let n = c.args.self.now in
-    let p = (n.dialect, n.operator) in
+    let p : Dialect × BinaryOperator = (n.dialect, n.operator) in
     let first = c.args.first in
     let second = c.args.second in
     let xs = c.in-Ints-Ints.lefts.now in
@@ -59,7 +58,7 @@ pub returns-in-Bool : goal.returns-in-Bool
 returns-in-Bool c =
     let m = binary_machine in
     let n = c.args.self.now in
-    let p = (n.dialect, n.operator) in
+    let p : Dialect × BinaryOperator = (n.dialect, n.operator) in
     let first = c.args.first in
     let second = c.args.second in
     let xs = c.in-Ints-Ints.lefts.now in

@@ -49,8 +49,8 @@ returns-in-Bool c =
     }))
 
 -- an integer for each unit
-pub returns-in-Int : goal.returns-in-Int
-returns-in-Int c =
+pub returns-in-Ok : goal.returns-in-Ok
+returns-in-Ok c =
     let m = const_machine in
     let first = c.args.first in
     let second = c.args.second in

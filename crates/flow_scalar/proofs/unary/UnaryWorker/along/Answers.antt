@@ -1,4 +1,6 @@
 use Rattle.std.proofs.Common.{◌≡◌, ◌*◌, ◌≤◌, pos, false, [], length, take, refl, sym, ◌∙◌, ap, subst, arith}
+use Rattle.snesl_data.specs.declared.dialect.Dialect.{Dialect}
+use Rattle.snesl_operators.specs.declared.operator.UnaryOperator.{UnaryOperator}
 use Rattle.snesl_operators.specs.declared.scalar.Scalar.TheVariants.{Int, Bool as Truth}
 use Rattle.flow_base.specs.Along.{MovesAlong, shown_signals}
 use Rattle.flow_base.specs.declared.slices.Moved.{Moved}
@@ -23,7 +25,7 @@ pub returns-in-Ints : goal.returns-in-Ints
 returns-in-Ints c =
     let m = unary_machine in
     let n = c.args.self.now in
-    let p = (n.dialect, n.operator) in
+    let p : Dialect × UnaryOperator = (n.dialect, n.operator) in
     let first = c.args.first in
     let second = c.args.second in
     let xs = c.in-Ints.operands.now in
@@ -35,7 +37,7 @@ returns-in-Ints c =
     let all : length (shown_signals first) ≡ length xs = ap (λ s. length (shown_signals s)) c.in-Ints.is ∙ length_ints xs in
     let firsts : values_said Int (take count xs) ≡ take count (shown_signals first) = sym (take_ints count xs) ∙ ap (λ s. take count (shown_signals s)) (sym c.in-Ints.is) in
     let ran = single_ran m p (values_said Int (take count xs)) [] (values_said Int (take count zs)) (block n.dialect n.operator Int (pos 0) xs zs count values.operands values.block values.values) first second written made refl firsts refl (ints_written n.dialect n.operator xs zs c.args.block.now.flags count values.values) refl in
-    subst (λ v. MovesAlong m (p, v) (p, v) first second c.args.space c.args.most written made) (sym (nothing n.value c.if-is_some.false)) (record {
+    subst (λ v. MovesAlong m (p, v) (p, v) first second c.args.space c.args.most written made) (sym (nothing n.value (sym c.is_some.ensures ∙ c.if-is_some.false))) (record {
       within = record {
         first = omega (arith, all, values.operands);
         second = omega arith;
@@ -52,7 +54,7 @@ pub returns-in-Flags : goal.returns-in-Flags
 returns-in-Flags c =
     let m = unary_machine in
     let n = c.args.self.now in
-    let p = (n.dialect, n.operator) in
+    let p : Dialect × UnaryOperator = (n.dialect, n.operator) in
     let first = c.args.first in
     let second = c.args.second in
     let xs = c.in-Flags.operands.now in
@@ -64,7 +66,7 @@ returns-in-Flags c =
     let all : length (shown_signals first) ≡ length xs = ap (λ s. length (shown_signals s)) c.in-Flags.is ∙ length_flags xs in
     let firsts : values_said Truth (take count xs) ≡ take count (shown_signals first) = sym (take_flags count xs) ∙ ap (λ s. take count (shown_signals s)) (sym c.in-Flags.is) in
     let ran = single_ran m p (values_said Truth (take count xs)) [] (values_said Truth (take count zs)) (block n.dialect n.operator Truth false xs zs count values.operands values.block values.values) first second written made refl firsts refl (flags_written n.dialect n.operator xs zs c.args.block.now.ints count values.values) refl in
-    subst (λ v. MovesAlong m (p, v) (p, v) first second c.args.space c.args.most written made) (sym (nothing n.value c.if-is_some.false)) (record {
+    subst (λ v. MovesAlong m (p, v) (p, v) first second c.args.space c.args.most written made) (sym (nothing n.value (sym c.is_some.ensures ∙ c.if-is_some.false))) (record {
       within = record {
         first = omega (arith, all, values.operands);
         second = omega arith;
