@@ -1,6 +1,6 @@
 // How many elements each segment has.
 
-ghost use Rattle.std.specs.Prelude.{◌≡◌, ◌+◌, ◌≤◌, true, length, take};
+ghost use Rattle.std.specs.Prelude.{◌≡◌, ◌+◌, ◌≤◌, true, false, length, take};
 ghost use Rattle.snesl_data.specs.Integers.{greatest_integer};
 ghost use Rattle.flow_folds.specs.LengthMachine.{one_element_more, length_at_end};
 ghost use Rattle.flow_folds.specs.LengthBlocks.{LengthsAlong};

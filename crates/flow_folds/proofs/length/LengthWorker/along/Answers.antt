@@ -14,14 +14,14 @@ use Rattle.flow_folds.proofs.length.LengthWorker.along.Goals as goal
 
 -- it moved nothing
 pub returns-in_default : goal.returns-in_default
-returns-in_default g c = moved_nothing length_machine (length_view c.args.self.now) c.args.first c.args.second c.args.space c.args.most c.args.block.now c.nothing.result c.nothing.ensures
+returns-in_default c = moved_nothing length_machine (length_view c.args.self.now) c.args.first c.args.second c.args.space c.args.most c.args.block.now c.nothing.result c.nothing.ensures
 
 pub returns-then-not-stays_in_range : goal.returns-then-not-stays_in_range
-returns-then-not-stays_in_range g c = moved_nothing length_machine (length_view c.args.self.now) c.args.first c.args.second c.args.space c.args.most c.args.block.now c.nothing-then-not-stays_in_range.result c.nothing-then-not-stays_in_range.ensures
+returns-then-not-stays_in_range c = moved_nothing length_machine (length_view c.args.self.now) c.args.first c.args.second c.args.space c.args.most c.args.block.now c.nothing-then-not-stays_in_range.result c.nothing-then-not-stays_in_range.ensures
 
 -- the counts stay within 64 bits
 pub lengths_along-passed-requires-clause-narrow : goal.lengths_along-passed-requires-clause-narrow
-lengths_along-passed-requires-clause-narrow g c =
+lengths_along-passed-requires-clause-narrow c =
     let bs = c.flags-flags.result.now in
     let ahead = c.min-ahead.result in
     let stays = c.stays_in_range.ensures.narrow (search rules) in
@@ -29,7 +29,7 @@ lengths_along-passed-requires-clause-narrow g c =
 
 -- it went along flags
 pub returns : goal.returns
-returns g c =
+returns c =
     let m = length_machine in
     let d = c.args.self.now.dialect in
     let first = c.args.first in

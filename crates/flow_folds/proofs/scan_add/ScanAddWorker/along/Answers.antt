@@ -11,11 +11,11 @@ use Rattle.flow_folds.proofs.scan_add.ScanAddWorker.along.Goals as goal
 
 -- it moved nothing
 pub returns-in_default : goal.returns-in_default
-returns-in_default g c = moved_nothing scan_add_machine (scan_add_view c.args.self.now) c.args.first c.args.second c.args.space c.args.most c.args.block.now c.nothing.result c.nothing.ensures
+returns-in_default c = moved_nothing scan_add_machine (scan_add_view c.args.self.now) c.args.first c.args.second c.args.space c.args.most c.args.block.now c.nothing.result c.nothing.ensures
 
 -- it went along flags and elements
 pub returns : goal.returns
-returns g c =
+returns c =
     let m = scan_add_machine in
     let d = c.args.self.now.dialect in
     let s = c.args.self.now.stage in

@@ -17,14 +17,14 @@ use Rattle.flow_segment.proofs.pack.PackWorker.along.Goals as goal
 
 -- it moved nothing
 pub returns-in_default : goal.returns-in_default
-returns-in_default g c = moved_nothing pack_machine (pack_view c.args.self.now) c.args.first c.args.second c.args.space c.args.most c.args.block.now c.nothing.result c.nothing.ensures
+returns-in_default c = moved_nothing pack_machine (pack_view c.args.self.now) c.args.first c.args.second c.args.space c.args.most c.args.block.now c.nothing.result c.nothing.ensures
 
 pub returns-in-Vec : goal.returns-in-Vec
-returns-in-Vec g c = moved_nothing pack_machine (pack_view c.args.self.now) c.args.first c.args.second c.args.space c.args.most c.args.block.now c.nothing-in-Vec.result c.nothing-in-Vec.ensures
+returns-in-Vec c = moved_nothing pack_machine (pack_view c.args.self.now) c.args.first c.args.second c.args.space c.args.most c.args.block.now c.nothing-in-Vec.result c.nothing-in-Vec.ensures
 
 -- pairs with integers, with truth values, and with units
 pub returns-in-Int : goal.returns-in-Int
-returns-in-Int g c =
+returns-in-Int c =
     let first = c.args.first in
     let second = c.args.second in
     let bs = c.flags-truths.result.now in
@@ -57,7 +57,7 @@ returns-in-Int g c =
     }))
 
 pub returns-in-Bool : goal.returns-in-Bool
-returns-in-Bool g c =
+returns-in-Bool c =
     let first = c.args.first in
     let second = c.args.second in
     let bs = c.flags-truths.result.now in
@@ -90,7 +90,7 @@ returns-in-Bool g c =
     }))
 
 pub returns-in-Unit : goal.returns-in-Unit
-returns-in-Unit g c =
+returns-in-Unit c =
     let first = c.args.first in
     let second = c.args.second in
     let bs = c.flags-truths.result.now in
