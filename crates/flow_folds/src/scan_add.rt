@@ -1,6 +1,6 @@
 // Running sums of segments.
 
-ghost use Rattle.std.specs.Prelude.{◌≡◌, ◌≤◌, Ok, length, take, IfSome};
+ghost use Rattle.std.specs.Prelude.{◌≡◌, ◌≤◌, false, Ok, length, take, IfSome};
 ghost use Rattle.flow_base.specs.Flags.{F};
 ghost use Rattle.flow_base.specs.Machines.{state_after_read};
 ghost use Rattle.flow_folds.specs.ScanAddMachine.{scan_add_move};

@@ -1,6 +1,6 @@
 // The items that are to be kept.
 
-ghost use Rattle.std.specs.Prelude.{◌≡◌, ◌≤◌, length, take};
+ghost use Rattle.std.specs.Prelude.{◌≡◌, ◌≤◌, false, length, take};
 ghost use Rattle.flow_segment.specs.PackMachine.{kept, trues};
 
 use flow_base::{Ask, Moved, Shown, Stop, Worker, Written};
