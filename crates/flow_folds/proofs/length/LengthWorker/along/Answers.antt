@@ -1,8 +1,8 @@
-use Rattle.std.proofs.Common.{◌≡◌, ◌+◌, ◌≤◌, [], length, take, refl, sym, ◌∙◌, ap, subst, arith, rules}
+use Rattle.std.proofs.Common.{◌≡◌, ◌+◌, ◌≤◌, [], length, take, refl, sym, subst, arith, rules}
 use Rattle.std.proofs.lemmas.List.{length-take-le, take-take}
 use Rattle.snesl_data.specs.Integers.{greatest_integer}
 use Rattle.flow_messages.specs.Blocks.{flag_signals, int_signals}
-use Rattle.flow_base.specs.Along.{MovesAlong, shown_signals}
+use Rattle.flow_base.specs.Along.{MovesAlong}
 use Rattle.flow_base.specs.declared.slices.Moved.{Moved}
 use Rattle.flow_base.specs.declared.slices.Written.{Written}
 use Rattle.flow_base.proofs.Along.{flags_shown, flags_within, moved_nothing, single_ran}

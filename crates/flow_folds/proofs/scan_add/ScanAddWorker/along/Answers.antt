@@ -1,4 +1,4 @@
-use Rattle.std.proofs.Common.{◌≡◌, ◌+◌, ◌*◌, ◌≤◌, length, take, refl, sym, ◌∙◌, ap, subst, arith}
+use Rattle.std.proofs.Common.{◌≡◌, ◌+◌, ◌*◌, ◌≤◌, length, take, refl, subst, arith}
 use Rattle.std.proofs.lemmas.List.{length-take-le, take-take}
 use Rattle.flow_messages.specs.Blocks.{flag_signals, int_signals}
 use Rattle.flow_base.specs.declared.slices.Moved.{Moved}
