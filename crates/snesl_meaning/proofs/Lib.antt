@@ -1,3 +1,4 @@
+pub mod Giving
 pub mod InRange
 pub mod Meanings
 pub mod NotOfMemory
