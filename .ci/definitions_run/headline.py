@@ -5,6 +5,8 @@ import os
 from .closure import clauses_of, closure_of, file_of_function
 
 HEADLINE = (("snesl_run", "run"), ("snesl_network", "drive_program"))
+# What the value that `run` writes rests on, which the pages count.
+VALUE = ("snesl_run", "run", "value")
 
 
 def clauses(modules, root, crate, function, names=()):
@@ -16,6 +18,12 @@ def clauses(modules, root, crate, function, names=()):
 def rests_on(modules, root, crate, function, names=()):
     """What these clauses rest on."""
     return closure_of(modules, clauses(modules, root, crate, function, names))
+
+
+def value_rests_on(modules, root):
+    """What the value that `run` writes rests on."""
+    crate, function, clause = VALUE
+    return rests_on(modules, root, crate, function, (clause,))
 
 
 def whole_headline(modules, root):

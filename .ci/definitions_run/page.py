@@ -2,7 +2,7 @@
 
 import os
 
-from .headline import HEADLINE, clauses, counts, one_name, rests_on, short_path
+from .headline import HEADLINE, VALUE, clauses, counts, one_name, rests_on, short_path, value_rests_on
 
 BEGIN, END = "<!-- .ci/definitions writes this -->\n", "<!-- up to here -->\n"
 TOP = os.path.join(os.path.dirname(os.path.abspath(__file__)), "..", "..")
@@ -36,7 +36,7 @@ def written(modules, root, unread):
     """The part of the page that is written by the command."""
     lines = count_rows(modules, root, unread)
     lines += ["", "`.ci/definitions_unread` names those that no row runs: types, claims that are not decided, and what these cite."]
-    lines += ["", "What `wrote` rests on:", ""] + file_rows(rests_on(modules, root, "snesl_run", "run", ("wrote",)), root)
+    lines += ["", f"What `{VALUE[2]}` rests on:", ""] + file_rows(value_rests_on(modules, root), root)
     return "\n".join(lines) + "\n"
 
 
@@ -45,7 +45,7 @@ class Pages:
 
     def __init__(self, modules, root, unread):
         self.lists = written(modules, root, unread)
-        self.number = counts(rests_on(modules, root, "snesl_run", "run", ("wrote",)))
+        self.number = counts(value_rests_on(modules, root))
 
     def rewritten(self, page):
         """The text of the page with its lists written anew."""
@@ -56,7 +56,7 @@ class Pages:
         """What is said of the texts of both pages."""
         said = [] if page == self.rewritten(page) else ["docs/TRUST.md says otherwise: .ci/definitions --write writes it anew"]
         if self.number not in " ".join(readme.split()):
-            said.append(f"README.md says otherwise of `wrote`: it rests on {self.number}")
+            said.append(f"README.md says otherwise of `{VALUE[2]}`: it rests on {self.number}")
         return said
 
 

@@ -298,6 +298,12 @@ class Deriver:
         relation = self.relation_of_record(definition)
         return self.by_rule(relation, relation.rules[0], given)
 
+    def has_instance(self, definition, given, fields):
+        """Whether there is an instance of a record: its claims, where its other fields have these values."""
+        relation = self.relation_of_record(definition)
+        premises = [term for name, term in zip(definition.parts, relation.rules[0].premises) if name not in fields]
+        return self.meet(relation, relation.rules[0], premises, dict(zip(relation.parameters, given)) | fields)
+
     def relation_of_record(self, definition):
         """A record as a relation of one rule, whose premises are its fields."""
         if definition.key not in self.relations:

@@ -9,6 +9,7 @@ from .values import key_of
 LEXICAL = "snesl_lexer.specs.Lexical"
 PROGRAMS = "snesl_types.specs.Programs"
 INPUT_TOKENS = "snesl_values.specs.InputTokens"
+MEANING = "snesl_meaning.specs.Value"
 MOST_RULED = 120
 BAD_CONFIGURATION = b"refused 10"
 
@@ -110,12 +111,15 @@ class Trial:
         return None if holds else "the rules of typing hold of something else"
 
     def spelled_otherwise(self, job):
-        """What is said where `HasTokens` and `Spells` do not hold of what a short input text spells."""
+        """What is said where other inputs are declared, or `IsInputOf` does not hold of what a short input text spells."""
+        declared = self.definitions.call(MEANING, "declared_inputs", job.source.text, job.tree["declarations"])
+        if key_of(declared) != key_of(job.declared["inputs"]):
+            return "`declared_inputs` gives other inputs than those that are declared"
         text, tokens = job.input.text, tuple(job.input.found)
         if len(text) > MOST_RULED:
             return None
-        declarations = tuple((name, ty) for name, ty in job.declared["inputs"])
         found = self.derived(INPUT_TOKENS, "HasTokens", text, 0, tokens, HOLE)
-        spells = self.derived("snesl_values.specs.Inputs", "Spells", job.tree["dialect"], declarations, job.environment, tokens)
-        ends = found and self.definitions.call(INPUT_TOKENS, "next_token", text, found[3]).tag == "None"
-        return None if ends and spells is not None else "`HasTokens` and `Spells` do not hold of the input text"
+        given = job.tree["dialect"], declared, text, job.environment
+        is_input = self.definitions.definition(MEANING, "IsInputOf")
+        holds = found and self.deriver.has_instance(is_input, given, {"tokens": tokens, "end": found[3]})
+        return None if holds else "`IsInputOf` does not hold of what the input text spells"

@@ -26,7 +26,7 @@ use Rattle.snesl_types.specs.Programs.{Declared, and_then, small_type, written_t
 use Rattle.snesl_types.specs.Verdicts.{program_verdict}
 use Rattle.snesl_types.proofs.ProgramSound.{has_typing}
 use Rattle.snesl_meaning.specs.Meaning.{Meaning, Means, meaning_of, no_program, ill_typed, bad_input, evaluated, is_refused}
-use Rattle.snesl_meaning.specs.Value.{type_of, inputs_of, IsTextOf, IsInputOf, Gives, GiveOneAnswer, MeaningsAreGiven}
+use Rattle.snesl_meaning.specs.Value.{type_of_tree, declared_inputs, IsTextOf, IsInputOf, ProgramGives, GiveOneAnswer, MeaningsAreGiven}
 
 -- the types that are written
 
@@ -41,7 +41,7 @@ small_from t u e = by_test (is_small t) e
     by_test true e = cc
     by_test false e = absurd (cc)
 
-written_from : (written : TypeTree) (t : Ty) → written_type written ≡ Ok t → type_of written ≡ t
+written_from : (written : TypeTree) (t : Ty) → written_type written ≡ Ok t → type_of_tree written ≡ t
 written_from (int_type at) t e = cc
 written_from (bool_type at) t e = cc
 written_from (pair_type at first second) t e =
@@ -62,21 +62,21 @@ written_from (sequence_type at item) t e =
 -- the inputs that are declared
 
 names_are : {text : List ℕ} {earlier all : List Declaration} {first : Typed} → NamesType text earlier (first ∷ []) all
-    → all ≡ earlier ++ ((spelling text first.place, type_of first.written) ∷ [])
+    → all ≡ earlier ++ ((spelling text first.place, type_of_tree first.written) ∷ [])
 names_are {text = text} {earlier = earlier} (more_names {first = first} {t = t} e w no_names) =
     ap (λ u. earlier ++ ((spelling text first.place, u) ∷ [])) (sym (written_from first.written t w))
 
 declares : {dialect : Dialect} {text : List ℕ} {earlier all : Declared} {declarations : List DeclarationTree} → DeclarationsType dialect text earlier declarations all
-    → all.inputs ≡ earlier.inputs ++ inputs_of text declarations
+    → all.inputs ≡ earlier.inputs ++ declared_inputs text declarations
 declares {earlier = earlier} no_declarations = sym (append-nil earlier.inputs)
 declares {text = text} {earlier = earlier} (input_declared {declared = declared} {others = others} names rest) =
     declares rest
-    ∙ ap (λ l. l ++ inputs_of text others) (names_are names)
-    ∙ append_assoc earlier.inputs ((spelling text declared.place, type_of declared.written) ∷ []) (inputs_of text others)
+    ∙ ap (λ l. l ++ declared_inputs text others) (names_are names)
+    ∙ append_assoc earlier.inputs ((spelling text declared.place, type_of_tree declared.written) ∷ []) (declared_inputs text others)
 declares (function_declared f rest) = declares rest
 
 inputs_are : (text : List ℕ) (program : ProgramTree) (found : Declared) (t : Ty) → program_verdict text program ≡ Ok (found, t)
-    → found.inputs ≡ inputs_of text program.declarations
+    → found.inputs ≡ declared_inputs text program.declarations
 inputs_are text program found t is = let h = has_typing text program found t is in sym h.2 ∙ declares h.1.declarations
 
 -- what is parsed and read
@@ -105,7 +105,7 @@ same_answer (gives v) (faults kind at) e = absurd (cc)
 same_answer (faults kind at) (gives v) e = absurd (cc)
 same_answer (faults kind at) (faults other there) e = cc
 
-given_by : {text input : List ℕ} {m : Meaning} (answer : Answer Value) → Means text input m → m ≡ meaning_of answer → Gives text input answer
+given_by : {text input : List ℕ} {m : Meaning} (answer : Answer Value) → Means text input m → m ≡ meaning_of answer → ProgramGives text input answer
 given_by answer (no_program {refusal = r} p) e = absurd (not_refused answer r e)
 given_by answer (ill_typed {refusal = r} p v) e = absurd (not_refused answer r e)
 given_by answer (bad_input p h i) e = absurd (not_refused answer _ e)
@@ -145,7 +145,7 @@ one_input inputs {dialect = dialect} {declarations = declarations} {text = text}
 pub one_given : OneInputMeaning → GiveOneAnswer
 one_given inputs text input a b one other =
     let tree = one_text one.is_text other.is_text in
-    let moved = subst (λ (p : ProgramTree). IsInputOf p.dialect (inputs_of text p.declarations) input other.environment) (sym tree) other.is_input in
+    let moved = subst (λ (p : ProgramTree). IsInputOf p.dialect (declared_inputs text p.declarations) input other.environment) (sym tree) other.is_input in
     let values = one_input inputs one.is_input moved in
     sym one.comes_out
     ∙ ap (λ (p : ProgramTree). program_value text p one.environment) tree

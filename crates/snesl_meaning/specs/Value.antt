@@ -1,5 +1,5 @@
 -- What a program gives for an input text: a value or a fault, by its grammar and its evaluation alone. The rules of typing and the
--- limits on sizes are not asked: a program that they refuse gives something too. What has a meaning by evaluation gives that.
+-- limits on a program's length, depth and sizes are not asked: one that they refuse may give something too.
 use Rattle.std.specs.Prelude.{◌≡◌, ℕ, ◌≤◌, List, [], ◌∷◌, length, None}
 use Rattle.snesl_data.specs.declared.dialect.Dialect.{Dialect}
 use Rattle.snesl_data.specs.declared.fault.FaultKind.{FaultKind}
@@ -17,18 +17,18 @@ use Rattle.snesl_evaluation.specs.Eval.{program_value}
 use Rattle.snesl_meaning.specs.Meaning.{Means, meaning_of}
 
 -- the type that is written
-abbrev pub type_of : TypeTree → Ty
-type_of (int_type at) = int
-type_of (bool_type at) = bool
-type_of (pair_type at first second) = pair (type_of first) (type_of second)
-type_of (vector_type at item) = vec (type_of item)
-type_of (sequence_type at item) = seq (type_of item)
+abbrev pub type_of_tree : TypeTree → Ty
+type_of_tree (int_type at) = int
+type_of_tree (bool_type at) = bool
+type_of_tree (pair_type at first second) = pair (type_of_tree first) (type_of_tree second)
+type_of_tree (vector_type at item) = vec (type_of_tree item)
+type_of_tree (sequence_type at item) = seq (type_of_tree item)
 
 -- the inputs that are declared
-abbrev pub inputs_of : List ℕ → List DeclarationTree → List Declaration
-inputs_of text [] = []
-inputs_of text (declares_input declared ∷ others) = (spelling text declared.place, type_of declared.written) ∷ inputs_of text others
-inputs_of text (declares_function place parameters result body ∷ others) = inputs_of text others
+abbrev pub declared_inputs : List ℕ → List DeclarationTree → List Declaration
+declared_inputs text [] = []
+declared_inputs text (declares_input declared ∷ others) = (spelling text declared.place, type_of_tree declared.written) ∷ declared_inputs text others
+declared_inputs text (declares_function place parameters result body ∷ others) = declared_inputs text others
 
 -- The bytes of the text are tokens, in the dialect that it names, and these are the program.
 pub record IsTextOf (text : List ℕ) (program : ProgramTree) : Type 0 where
@@ -46,25 +46,25 @@ pub record IsInputOf (dialect : Dialect) (declarations : List Declaration) (text
   pub are_values : Spells dialect declarations environment tokens
 
 -- The program is evaluated to this with the values that the input text spells.
-pub record Gives (text input : List ℕ) (answer : Answer Value) : Type 0 where
+pub record ProgramGives (text input : List ℕ) (answer : Answer Value) : Type 0 where
   pub program : ProgramTree
   pub environment : Environment
   pub is_text : IsTextOf text program
-  pub is_input : IsInputOf program.dialect (inputs_of text program.declarations) input environment
+  pub is_input : IsInputOf program.dialect (declared_inputs text program.declarations) input environment
   pub comes_out : program_value text program environment ≡ answer
 
 -- it gives this value
 abbrev pub GivesValue : (text input : List ℕ) → Value → Type 0
-GivesValue text input v = Gives text input (gives v)
+GivesValue text input v = ProgramGives text input (gives v)
 
 -- it gives a fault
 abbrev pub GivesFault : (text input : List ℕ) → Type 0
-GivesFault text input = (kind : FaultKind) × (at : ℕ) × Gives text input (faults kind at)
+GivesFault text input = (kind : FaultKind) × (at : ℕ) × ProgramGives text input (faults kind at)
 
 -- no program and input text give two answers
 abbrev pub GiveOneAnswer : Type 0
-GiveOneAnswer = (text input : List ℕ) (one other : Answer Value) → Gives text input one → Gives text input other → one ≡ other
+GiveOneAnswer = (text input : List ℕ) (one other : Answer Value) → ProgramGives text input one → ProgramGives text input other → one ≡ other
 
 -- what is meant by evaluation is given
 abbrev pub MeaningsAreGiven : Type 0
-MeaningsAreGiven = (text input : List ℕ) (answer : Answer Value) → Means text input (meaning_of answer) → Gives text input answer
+MeaningsAreGiven = (text input : List ℕ) (answer : Answer Value) → Means text input (meaning_of answer) → ProgramGives text input answer

@@ -10,8 +10,9 @@ use Rattle.flow_nodes.specs.StreamNodes.{text_in}
 use Rattle.flow_drives.specs.declared.config.Config.{Config}
 use Rattle.flow_drives.specs.Texts.{last_text}
 use Rattle.snesl_meaning.specs.Meaning.{Means, has_value}
+use Rattle.snesl_meaning.specs.Value.{MeaningsAreGiven}
 use Rattle.snesl_network.specs.Driven.{WasRefused}
-use Rattle.snesl_run.specs.Runs.{view_in_report, outcome_of, refusal_of, value_line, CameOut, WroteFor, HasWritten, IsReported, IsCutShort, HasError, IsErrorOf, IsRefusedWith}
+use Rattle.snesl_run.specs.Runs.{view_in_report, outcome_of, refusal_of, value_line, CameOut, WroteFor, HasWritten, WroteGiven, IsReported, IsCutShort, HasError, IsErrorOf, IsRefusedWith}
 use Rattle.snesl_console.specs.Streams.{WriteEffect, IsWrittenWhole, IsCutOff, HasSent}
 use Rattle.snesl_run.specs.declared.report.Report.{Report}
 use Rattle.snesl_run.specs.declared.report.RunError.{RunError}
@@ -64,6 +65,14 @@ module _ (program input : List ℕ) (config : Config) (report : Report) (reporte
     nothing_written (Failed f) is not untouched =
         subst (WroteFor program input out) (sym is) (reported.came.fault f (subst (CameOut (view_in_report report)) is reported.outcome), untouched)
     nothing_written (Stalled e) is not untouched = subst (WroteFor program input out) (sym is) untouched
+
+-- what was written for what the program means was written for what it gives
+pub given_for : MeaningsAreGiven → (program input : List ℕ) (out : WriteEffect) (outcome : Outcome) → WroteFor program input out outcome
+    → WroteGiven program input out outcome
+given_for given program input out Ended wrote = (wrote.0, given program input _ wrote.1, wrote.2)
+given_for given program input out (Failed f) wrote =
+    ((wrote.0.0, wrote.0.1, given program input _ wrote.0.2), wrote.1)
+given_for given program input out (Stalled e) wrote = wrote
 
 -- where a start of a thread was refused, and not before, the run is refused for it
 module _ {A Now Before : Type 0} where

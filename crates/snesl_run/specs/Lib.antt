@@ -7,6 +7,7 @@ pub use Rattle.snesl_data.specs.Counted
 pub use Rattle.snesl_data.specs.Refusals
 pub use Rattle.snesl_data.specs.declared.refusal.Refusal
 pub use Rattle.snesl_meaning.specs.Meaning
+pub use Rattle.snesl_meaning.specs.Value
 pub use Rattle.kahn.specs.declared.outcome.Outcome
 pub use Rattle.flow_drives.specs.Configs
 pub use Rattle.snesl_network.specs.Driven

@@ -12,6 +12,7 @@ use Rattle.flow_drives.specs.declared.config.Config.{Config}
 use Rattle.flow_drives.specs.Drives.{ComesOut}
 use Rattle.snesl_flatten.specs.Networks.{NodeState}
 use Rattle.snesl_meaning.specs.Meaning.{Means, has_value, has_fault}
+use Rattle.snesl_meaning.specs.Value.{GivesValue, GivesFault}
 use Rattle.snesl_network.specs.NodesAtRest.{FinalView, final_view}
 use Rattle.snesl_network.specs.WhichDrive.{WasDrivenBy}
 use Rattle.snesl_network.specs.Driven.{CameToRest, WasRefused}
@@ -53,6 +54,17 @@ WroteFor program input out (Stalled e) = out.nothing
 -- and so for a report
 abbrev pub HasWritten : (program input : List ℕ) → WriteEffect → Report → Type 0
 HasWritten program input out report = WroteFor program input out (outcome_of report)
+
+-- The same by what the program gives, which neither rules of typing nor limits on sizes say: where all nodes have ended, the
+-- line of the value that it gives was written; where a fault is named, it gives one, perhaps another, and nothing was written.
+abbrev pub WroteGiven : (program input : List ℕ) → WriteEffect → Outcome → Type 0
+WroteGiven program input out Ended = (v : Value) × GivesValue program input v × IsWrittenWhole out (value_line v)
+WroteGiven program input out (Failed f) = GivesFault program input × out.nothing
+WroteGiven program input out (Stalled e) = out.nothing
+
+-- and so for a report
+abbrev pub HasWrittenGiven : (program input : List ℕ) → WriteEffect → Report → Type 0
+HasWrittenGiven program input out report = WroteGiven program input out (outcome_of report)
 
 -- What rests in a report: the network of the program with its input, driven by the drive of the configuration; and how it came
 -- out.

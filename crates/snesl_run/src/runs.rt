@@ -7,13 +7,14 @@ ghost use Rattle.flow_drives.specs.Resteds.{rested_rounds, rested_epochs};
 ghost use Rattle.flow_drives.specs.Starts.{AskedBy};
 ghost use Rattle.snesl_console.specs.Streams.{write_effect};
 ghost use Rattle.snesl_run.specs.Alike.{IsTheOneWay};
-ghost use Rattle.snesl_run.specs.Runs.{IsReported, HasWritten, IsErrorOf, IsRefusedWith};
+ghost use Rattle.snesl_run.specs.Runs.{IsReported, HasWritten, HasWrittenGiven, IsErrorOf, IsRefusedWith};
 
 use crate::laws::one_outcome;
 use crate::report::{Report, RunError};
 use flow_drives::{AlwaysStart, Config, Gate, Outcome, Start};
 use snesl_console::send;
 use snesl_data::{Counted, Refusal};
+use snesl_meaning::one_meaning;
 use snesl_network::drive_program_with;
 use std::alloc::Global;
 use std::io::Write;
@@ -55,6 +56,8 @@ pub fn run<R: Threads, W: Write, G: Gate + Send + Sync + Drop + 'static>(
     ensures network { IfOk result (IsReported program.now input.now config.now) }
     ensures wrote { IfOk result
         (HasWritten program.now input.now (write_effect W.contents out.old out.new)) }
+    ensures value { IfOk result
+        (HasWrittenGiven program.now input.now (write_effect W.contents out.old out.new)) }
     ensures refused { IfErr result
         (IsErrorOf program.now input.now config.now (write_effect W.contents out.old out.new)) }
     ensures config { (IsLawful config.now → ⊥) → IsRefusedWith BadConfig result }
@@ -87,6 +90,8 @@ pub fn run_with<R: Threads, W: Write, G: Gate + Send + Sync + Drop + 'static, S:
     ensures network { IfOk result (IsReported program.now input.now config.now) }
     ensures wrote { IfOk result
         (HasWritten program.now input.now (write_effect W.contents out.old out.new)) }
+    ensures value { IfOk result
+        (HasWrittenGiven program.now input.now (write_effect W.contents out.old out.new)) }
     ensures refused { IfErr result
         (IsErrorOf program.now input.now config.now (write_effect W.contents out.old out.new)) }
     ensures config { (IsLawful config.now → ⊥) → IsRefusedWith BadConfig result }
@@ -95,6 +100,7 @@ pub fn run_with<R: Threads, W: Write, G: Gate + Send + Sync + Drop + 'static, S:
         (rested_epochs report.rested) config.now.threads (S.asked start.old) (S.asked start.new)) }
     ensures start { S.refused start.new → S.refused start.old ⊎ IsRefusedWith NoThread result }
 {
+    one_meaning();
     one_outcome();
     let rested = drive_program_with(rt, alloc, program, input, config, gate, start)?;
     let outcome = rested.outcome();

@@ -5,7 +5,7 @@ use Rattle.flow_nodes.specs.StreamNodes.{text_in}
 use Rattle.snesl_console.specs.Streams.{write_effect, HasSent}
 use Rattle.snesl_run.specs.Runs.{HasWritten, IsReported}
 use Rattle.snesl_run.specs.declared.report.Report.{Report}
-use Rattle.snesl_run.proofs.Reports.{run_refused, line_cut_off, line_written, nothing_written, start_kept, start_refused}
+use Rattle.snesl_run.proofs.Reports.{run_refused, line_cut_off, line_written, nothing_written, given_for, start_kept, start_refused}
 use Rattle.snesl_run.proofs.runs.run_with.Goals.{in-Value+in_ok-line-in-Value+else-not-send, in-Fault, in-Stalled}
 use Rattle.snesl_run.proofs.runs.run_with.Goals as goal
 
@@ -46,6 +46,10 @@ returns-clause-wrote g c =
       | in-Stalled w ↦
           subst (λ out. HasWritten c.args.program.now c.args.input.now (write_effect g.W.Write.contents c.args.out.now out) report) (sym w.out-is) (untouched (Stalled _) w.in-Stalled.is (λ e. absurd (cc)))
     ]
+
+pub returns-clause-value : goal.returns-clause-value
+returns-clause-value g c =
+    given_for c.one_meaning.ensures.given c.args.program.now c.args.input.now _ c.outcome-outcome.result (returns-clause-wrote g c)
 
 pub returns-clause-one : goal.returns-clause-one
 returns-clause-one g c =
