@@ -210,7 +210,12 @@ impl Worker for Length {
         if !stays_in_range(self.dialect, count, ahead) {
             return Moved::nothing();
         }
-        let (passed, written, elements) = lengths_along(count, &flags[..ahead], room, &mut block.ints);
+        let (passed, written, elements) = lengths_along(
+            count,
+            &flags[..ahead],
+            room,
+            &mut block.ints,
+        );
         self.count = Count::Counting(elements);
         Moved {
             first: passed,

@@ -233,7 +233,12 @@ impl Worker for ScanAdd {
         let flags = first.flags();
         let elements = second.ints();
         let ahead = flags.len().min(space).min(most / 3);
-        let (passed, read, stage) = self.sums_along(held, &flags[..ahead], elements, &mut block.ints);
+        let (passed, read, stage) = self.sums_along(
+            held,
+            &flags[..ahead],
+            elements,
+            &mut block.ints,
+        );
         self.stage = stage;
         Moved {
             first: passed,

@@ -156,13 +156,7 @@ impl Binary {
 
     // The truth values at the first of these pairs, as many as there is room for and as do not fault.
     #[inline(always)]
-    fn flags_of(
-        &self,
-        lefts: &[i64],
-        rights: &[i64],
-        room: usize,
-        values: &mut [bool],
-    ) -> usize
+    fn flags_of(&self, lefts: &[i64], rights: &[i64], room: usize, values: &mut [bool]) -> usize
         ensures room { result ≤ room }
         ensures lefts { result ≤ length lefts.now }
         ensures rights { result ≤ length rights.now }

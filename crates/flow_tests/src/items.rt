@@ -93,7 +93,10 @@ fn types_are_known_of_vectors(rt: HostRuntime) -> Result<(), Fail> {
         Box::new(alloc, Datum::Int(2))?,
     );
     assert_eq!(rt; known(alloc, pair, &pairs(alloc)?)?, [true, true]);
-    assert_eq!(rt; known(alloc, Datum::Int(1), &pairs(alloc)?)?, [false, false]);
+    assert_eq!(rt;
+        known(alloc, Datum::Int(1), &pairs(alloc)?)?,
+        [false, false]
+    );
     assert_eq!(rt; known(alloc, Datum::Int(1), &Ty::Int)?, [false, false]);
     Ok(())
 }
