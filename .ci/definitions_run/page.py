@@ -1,8 +1,8 @@
-"""docs/TRUST.md: the part that lists, file by file, what the headline rests on."""
+"""docs/TRUST.md: the table that counts what the headline rests on."""
 
 import os
 
-from .headline import HEADLINE, VALUE, clauses, counts, one_name, rests_on, short_path, value_rests_on
+from .headline import HEADLINE, clauses, counts, one_name, rests_on
 
 BEGIN, END = "<!-- .ci/definitions writes this -->\n", "<!-- up to here -->\n"
 TOP = os.path.join(os.path.dirname(os.path.abspath(__file__)), "..", "..")
@@ -20,23 +20,10 @@ def count_rows(modules, root, unread):
     return lines
 
 
-def file_rows(closure, root):
-    """The lines of the table of files, in reading order, each with the names of its definitions."""
-    by_file = {}
-    for one in closure.definitions:
-        by_file.setdefault(one.module.path, []).append(one)
-    lines = ["| file | lines | definitions |", "|---|---|---|"]
-    for path, found in by_file.items():
-        names = ", ".join(f"`{one.name.replace('|', chr(92) + '|')}`" for one in found)
-        lines.append(f"| {short_path(path, root)} | {sum(one.lines for one in found)} | {names} |")
-    return lines
-
-
 def written(modules, root, unread):
     """The part of the page that is written by the command."""
     lines = count_rows(modules, root, unread)
     lines += ["", "`.ci/definitions_unread` names those that no row runs: types, claims that are not decided, and what these cite."]
-    lines += ["", f"What `{VALUE[2]}` rests on:", ""] + file_rows(value_rests_on(modules, root), root)
     return "\n".join(lines) + "\n"
 
 
@@ -44,19 +31,19 @@ class Pages:
     """docs/TRUST.md and README.md as they have to be, where these definitions are not run."""
 
     def __init__(self, modules, root, unread):
-        self.lists = written(modules, root, unread)
-        self.number = counts(value_rests_on(modules, root))
+        self.table = written(modules, root, unread)
+        self.number = counts(rests_on(modules, root, "snesl_run", "run", ("wrote",)))
 
     def rewritten(self, page):
-        """The text of the page with its lists written anew."""
+        """The text of the page with its table written anew."""
         before, _, rest = page.partition(BEGIN)
-        return before + BEGIN + "\n" + self.lists + "\n" + END + rest.partition(END)[2]
+        return before + BEGIN + "\n" + self.table + "\n" + END + rest.partition(END)[2]
 
     def differ(self, page, readme):
         """What is said of the texts of both pages."""
         said = [] if page == self.rewritten(page) else ["docs/TRUST.md says otherwise: .ci/definitions --write writes it anew"]
         if self.number not in " ".join(readme.split()):
-            said.append(f"README.md says otherwise of `{VALUE[2]}`: it rests on {self.number}")
+            said.append(f"README.md says otherwise of `wrote`: it rests on {self.number}")
         return said
 
 
@@ -66,7 +53,7 @@ def texts():
 
 
 def write_page(pages):
-    """Writes the lists of the page anew."""
+    """Writes the table of the page anew."""
     text = pages.rewritten(texts()[0])
     with open(PAGE, "w", encoding="utf-8") as file:
         file.write(text)

@@ -42,7 +42,7 @@ def page_failures(pages):
     """The planted mistakes of docs/TRUST.md and README.md that are not told."""
     page, readme = pages.rewritten(BEGIN), pages.number
     cases = [(page, readme, 0), (page, readme.replace(" files", "9 files"), 1), (page.replace(" lines", "9 lines", 1), readme, 1),
-             (page.replace("`WroteGiven`, ", ""), readme, 1), ("", "", 2)]
+             (page.replace("`wrote`", "`write`"), readme, 1), ("", "", 2)]
     return [f"planted page of {len(text)} letters and README {other!r}: not told" for text, other, count in cases if len(pages.differ(text, other)) != count]
 
 
