@@ -1,4 +1,4 @@
-//! Callers of public crates, as a stranger would write them. docs/CALLING.md shows them.
+//! Callers of public crates, as a stranger would write them. docs/CALLING.md tells of them.
 //!
 //! Each module is named after what it calls, and is proved from the contracts of public crates. A function here
 //! is short, and does one thing.
