@@ -2,7 +2,7 @@
 
 import os
 
-from .headline import HEADLINE, clauses, counts, one_name, rests_on
+from .headline import HEADLINE, VALUE, clauses, counts, one_name, rests_on, value_rests_on
 
 BEGIN, END = "<!-- .ci/definitions writes this -->\n", "<!-- up to here -->\n"
 TOP = os.path.join(os.path.dirname(os.path.abspath(__file__)), "..", "..")
@@ -32,7 +32,7 @@ class Pages:
 
     def __init__(self, modules, root, unread):
         self.table = written(modules, root, unread)
-        self.number = counts(rests_on(modules, root, "snesl_run", "run", ("wrote",)))
+        self.number = counts(value_rests_on(modules, root))
 
     def rewritten(self, page):
         """The text of the page with its table written anew."""
@@ -43,7 +43,7 @@ class Pages:
         """What is said of the texts of both pages."""
         said = [] if page == self.rewritten(page) else ["docs/TRUST.md says otherwise: .ci/definitions --write writes it anew"]
         if self.number not in " ".join(readme.split()):
-            said.append(f"README.md says otherwise of `wrote`: it rests on {self.number}")
+            said.append(f"README.md says otherwise of `{VALUE[2]}`: it rests on {self.number}")
         return said
 
 
