@@ -1,4 +1,5 @@
 pub mod Building
+pub mod IndexPairs
 pub mod Known
 pub mod Layings
 pub mod Members
