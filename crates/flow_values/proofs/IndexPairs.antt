@@ -1,5 +1,5 @@
 -- A vector and an index that are shown, and the element.
-use Rattle.std.proofs.Common.{◌≡◌, ℕ, ℤ, ◌<◌, Bool, true, false, [], ◌∷◌, ◌++◌, List, length, pos, slice_index_or, Option, Some, None, Ok, Err, refl, sym, ◌∙◌, ap, subst, arith, cond, nat_lt, inl, inr}
+use Rattle.std.proofs.Common.{◌≡◌, ℕ, ℤ, ◌<◌, Bool, true, false, [], ◌∷◌, ◌++◌, List, length, pos, slice_index_or, Ok, Err, refl, sym, ◌∙◌, ap, subst, arith, cond, nat_lt, inl, inr}
 use Rattle.std.proofs.lemmas.Bool.{cases_eq}
 use mathlib.Core.List.{IsPrefix}
 use Rattle.snesl_data.specs.declared.fault.FaultKind.TheVariants.{Shape}
@@ -10,13 +10,13 @@ use Rattle.flow_messages.specs.Blocks.{int_signals}
 use Rattle.flow_messages.specs.Ends.{View, LookedForRoom, Taken}
 use Rattle.flow_messages.specs.Signals.{Signal, carry}
 use Rattle.flow_messages.specs.declared.message.Kind.TheVariants.{Vec as VecKind}
-use Rattle.flow_base.specs.Machines.{Taking, Leads, on_int, on_kind, ask_of}
+use Rattle.flow_base.specs.Machines.{Leads, on_int, on_kind, ask_of}
 use Rattle.flow_base.specs.declared.worker.Ask.TheVariants.{Begin}
 use Rattle.flow_base.specs.Nodes.{NodeState, behaviour_of, node_state}
 use Rattle.flow_base.specs.Visits.{edge_of, Went, Wrote}
 use Rattle.flow_base.specs.declared.node.Phase.TheVariants.{Working}
 use Rattle.flow_base.proofs.Kernels.{went_none, went_looked, went_read, went_write, leads_on}
-use Rattle.flow_values.specs.Shapes.{is_a, all_are, kinds_of, kind_at, cell_for}
+use Rattle.flow_values.specs.Shapes.{is_a, kinds_of, kind_at, cell_for}
 use Rattle.flow_values.specs.Flats.{width}
 use Rattle.flow_values.specs.Dues.{due, dues_of, output_of}
 use Rattle.flow_values.specs.Rows.{Picked, element_at}
@@ -94,8 +94,15 @@ still_next v w e f m y apart taken first next = elim (cases_eq f e) [
 ]
 
 -- the edge of the indices is another than that of the vectors
-pub index_still : {item : Ty} {x : Cell} (v w : View) (e f : ℕ) (shown : PairShown item (v.coming e) (v.coming f) x) → Taken v e (carry (datum (a_vec shown.picked.vector))) w → IsPrefix (carry (int_cell shown.picked.index) ∷ []) (w.coming f)
+index_still : {item : Ty} {x : Cell} (v w : View) (e f : ℕ) (shown : PairShown item (v.coming e) (v.coming f) x) → Taken v e (carry (datum (a_vec shown.picked.vector))) w → IsPrefix (carry (int_cell shown.picked.index) ∷ []) (w.coming f)
 index_still v w e f shown taken = still_next v w e f (carry (datum (a_vec shown.picked.vector))) (carry (int_cell shown.picked.index)) (λ same. cc) taken shown.vector_next shown.index_next
+
+-- who takes what comes first on both edges takes the vector and the index
+pub pair_taken : {item : Ty} {x : Cell} (v u t : View) (e f : ℕ) (shown : PairShown item (v.coming e) (v.coming f) x) →
+    ((m : Signal) → IsPrefix (m ∷ []) (v.coming e) → Taken v e m u) → ((m : Signal) → IsPrefix (m ∷ []) (u.coming f) → Taken u f m t) → Taken v e (carry (datum (a_vec shown.picked.vector))) u × Taken u f (carry (int_cell shown.picked.index)) t
+pair_taken v u t e f shown takes_vector takes_index =
+    let vector = takes_vector (carry (datum (a_vec shown.picked.vector))) shown.vector_next in
+    (vector, takes_index (carry (int_cell shown.picked.index)) (index_still v u e f shown vector))
 
 module _ (inputs outputs : List ℕ) (item : Ty) (at : ℕ) where
   abbrev pub on : IndexState → NodeState (Ty × IndexState)
