@@ -49,7 +49,8 @@ returns-clause-wrote g c =
 
 pub returns-clause-value : goal.returns-clause-value
 returns-clause-value g c =
-    given_for c.one_meaning.ensures.given c.args.program.now c.args.input.now _ c.outcome-outcome.result (returns-clause-wrote g c)
+    given_for c.one_meaning.ensures.given c.args.program.now c.args.input.now
+    (write_effect g.W.Write.contents c.args.out.now c.match-outcome.out) c.outcome-outcome.result (returns-clause-wrote g c)
 
 pub returns-clause-one : goal.returns-clause-one
 returns-clause-one g c =
