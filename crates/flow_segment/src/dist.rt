@@ -2,7 +2,8 @@
 
 ghost use Rattle.std.specs.Prelude.{◌≡◌, ◌*◌, ◌<◌, ◌≤◌, ℕ, ℤ, FitsSigned, true, false, [], ◌∷◌, get_or, length, pos, replicate, IfNone, IfSome};
 ghost use Rattle.std.specs.Int.{w64};
-ghost use Rattle.flow_messages.specs.Cells.{cell_of, int, is_of};
+ghost use mathlib.Core.List.{IsPrefix};
+ghost use Rattle.flow_messages.specs.Cells.{cell_of, flag, int, is_of};
 ghost use Rattle.flow_messages.specs.Ends.{SameEnds, PutAll, TakenAll};
 ghost use Rattle.flow_messages.specs.Kinds.{FitsEdge, TakesKind};
 ghost use Rattle.flow_messages.specs.Signals.{carry};
@@ -160,6 +161,18 @@ fn take_shown<E: Ends>(kind: Kind, from: usize, ends: &mut E) -> Option<Item>
     Some(item)
 }
 
+// The flag that comes next on the edge, where it is shown.
+#[inline(always)]
+fn flag_shown<E: Ends>(ends: &E, edge: usize) -> Option<bool>
+    requires { (E.view ends.now).reads edge ≡ true }
+    ensures { IfSome result (λ b. IsPrefix (carry (flag b) ∷ []) ((E.view ends.now).coming edge)) }
+{
+    let [first, ..] = ends.flags(edge) else {
+        return None;
+    };
+    Some(*first)
+}
+
 impl Dist {
     ghost use Rattle.flow_segment.specs.DistMachine.{at_start};
 
@@ -224,10 +237,10 @@ impl Dist {
         };
         let (flags, to) = (inputs[1], outputs[0]);
         let has_room = ends.room(to);
-        let [ends_segment, ..] = ends.flags(flags) else {
+        let Some(ends_segment) = flag_shown(ends, flags) else {
             return 0;
         };
-        if *ends_segment {
+        if ends_segment {
             take_front(ends, flags);
             self.held = None;
             return 1;
