@@ -72,8 +72,8 @@ impl Index {
         })
     }
 
-    // The item of the element that the vector that comes next has at the index that comes next, where both are shown, and
-    // the element is a scalar that is packed. It takes neither.
+    // The item of the element of the next vector at the next index, where both are shown, and the element is a scalar that
+    // is packed. It takes neither.
     #[inline(always)]
     fn element_shown<E: Ends>(&self, inputs: &[usize], ends: &E) -> Option<Item>
         requires ports { 1 < length inputs.now }
