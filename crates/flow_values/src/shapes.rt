@@ -109,11 +109,7 @@ pub fn add_kinds(all: &mut Vec<Kind>, ty: &Ty) -> Result<(), AllocError>
 
 /// Of each edge of the type, in order, the type of the elements of the vectors on it, as far as `kept_type` keeps one. Its
 /// only error is that memory was refused.
-pub fn add_types(
-    all: &mut Vec<Option<Arc<Ty>>>,
-    alloc: Global,
-    ty: &Ty,
-) -> Result<(), AllocError>
+pub fn add_types(all: &mut Vec<Option<Arc<Ty>>>, alloc: Global, ty: &Ty) -> Result<(), AllocError>
     ensures { OnOk result (map shared_type all.new.items ≡
         map shared_type all.old.items ++ kept_types (ty_of ty.now)) }
 {
