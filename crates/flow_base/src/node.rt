@@ -275,8 +275,9 @@ impl<W: Worker> Node<W> {
         let mut made = 0;
         'rounds: loop {
             let steps = self.go_along(inputs, outputs, ends, most - made);
-            if steps == 0 {
-                return made;
+            // Where it filled no block, another round would find next to nothing, and cost as much.
+            if steps < PLACES {
+                return made + steps;
             }
             made += steps;
         }

@@ -1,6 +1,5 @@
-use Rattle.std.proofs.Common.{◌≡◌, ◌+◌, refl, subst, arith}
+use Rattle.std.proofs.Common.{refl}
 use Rattle.flow_base.specs.Members.{node_of}
-use Rattle.flow_base.specs.Walks.{Walk}
 use Rattle.flow_base.proofs.Kernels.{made_went}
 use Rattle.flow_base.proofs.OverSlices.{risen_apart}
 use Rattle.flow_base.proofs.Visits.{placed_on}
@@ -39,18 +38,11 @@ go_along-steps-requires-clause-outputs g c = risen_apart c.args.outputs.now (c.r
 pub go_along-steps-requires-clause-inputs : goal.go_along-steps-requires-clause-inputs
 go_along-steps-requires-clause-inputs g c = c.at_most_two_apart.ensures (cc (c.if-not-at_most_two_apart.false))
 
--- nothing went on
-pub returns-then-steps-eq0-clause-walk : goal.returns-then-steps-eq0-clause-walk
-returns-then-steps-eq0-clause-walk g c =
+-- it filled no block
+pub returns-then-steps-lt-PLACES-clause-walk : goal.returns-then-steps-lt-PLACES-clause-walk
+returns-then-steps-lt-PLACES-clause-walk g c =
     let node = node_of g.W.Worker.state g.W.Worker.machine g.met.W.Worker.laws in
-    let view = g.E.Ends.view in
-    let same = g.E.Ends.same in
-    let ins = c.args.inputs.now in
-    let outs = c.args.outputs.now in
-    let b = node.behaviour in
-    let z = c.go_along-steps in
-    let all : c.rounds.made + z.result ≡ c.rounds.made = omega (arith, c.if-steps-eq0.true) in
-    subst (Walk view same ins outs b (node.state c.args.self.now) c.args.ends.now (node.state z.new.self) z.new.ends c.args.most) all (walk_then view same ins outs b g.met.E.Ends.same_trans c.rounds.invariant.walk z.ensures.walk)
+    walk_then g.E.Ends.view g.E.Ends.same c.args.inputs.now c.args.outputs.now node.behaviour g.met.E.Ends.same_trans c.rounds.invariant.walk c.go_along-steps.ensures.walk
 
 -- one round more
 pub rounds-preserved : goal.rounds-preserved
