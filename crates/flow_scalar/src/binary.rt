@@ -252,7 +252,7 @@ impl Worker for Binary {
 
     #[inline(always)]
     fn take(&mut self, item: Item) -> Result<(), Stop> {
-        let operand = operand_of(self.operator.operand(), &item)?;
+        let operand = operand_of(self.operator.operand(), item)?;
         self.progress = match self.progress {
             Progress::Start => Progress::Left(operand),
             Progress::Left(left) => {

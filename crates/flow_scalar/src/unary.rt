@@ -139,7 +139,7 @@ impl Worker for Unary {
 
     #[inline(always)]
     fn take(&mut self, item: Item) -> Result<(), Stop> {
-        let operand = operand_of(self.operator.operand(), &item)?;
+        let operand = operand_of(self.operator.operand(), item)?;
         self.value = Some(self.operator.apply(self.dialect, operand)?);
         Ok(())
     }
