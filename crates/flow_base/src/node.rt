@@ -300,6 +300,10 @@ impl<W: Worker> Node<W> {
             (⟦<Node<W> as Transducer>⟧.state self.new) ends.new most result }
     {
         let along = self.over_slices(inputs, outputs, ends, most);
+        // What is left of a visit that went along slices would begin an instance that the next has to end by single steps.
+        if along > 0 {
+            return along;
+        }
         let whole = self.worker.blocks(inputs, outputs, ends, most - along);
         along + whole
     }
