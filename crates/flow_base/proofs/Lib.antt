@@ -4,6 +4,3 @@ pub mod Reached
 pub mod Batches
 pub mod Passing
 pub mod Visits
-pub mod Along
-pub mod OverSlices
-pub mod Walks

@@ -28,5 +28,3 @@ pub mod RowPorts
 pub mod Visits
 pub mod Passing
 pub mod Following
-pub mod Along
-pub mod Walks

@@ -160,7 +160,7 @@ pub trait Transducer {
                     }
                     let message = self.emit()?;
                     // Only after End is the message refused, and no lawful node writes after End.
-                    drop(ends.put(edge, message));
+                    let _ = ends.put(edge, message);
                 }
                 Want::Ended | Want::Faulted(_) => break,
             }

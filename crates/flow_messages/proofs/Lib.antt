@@ -8,4 +8,3 @@ pub mod Lines
 pub mod Contents
 pub mod Widened
 pub mod Scalars
-pub mod Sends

@@ -1,4 +1,3 @@
-pub mod Shapes
 pub mod Cells
 pub mod Signals
 pub mod Kinds

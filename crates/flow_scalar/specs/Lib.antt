@@ -1,4 +1,5 @@
 pub mod BinaryMachine
+pub mod ConstCopies
 pub mod ConstMachine
 pub mod ForkCopies
 pub mod ForkMachine

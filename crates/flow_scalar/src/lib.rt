@@ -7,6 +7,7 @@
 
 mod binary;
 mod constant;
+mod copies;
 mod fork;
 mod iota;
 mod operand;

@@ -5,8 +5,6 @@
 mod bench;
 pub mod building;
 #[cfg(test)]
-mod cuts;
-#[cfg(test)]
 mod driving;
 #[cfg(test)]
 mod graphs;

@@ -1,6 +1,4 @@
 pub mod Building
-pub mod IndexPairs
-pub mod Known
 pub mod Layings
 pub mod Members
 pub mod Printing

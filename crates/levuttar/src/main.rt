@@ -4,7 +4,6 @@
 mod checking;
 mod choosing;
 mod command_line;
-mod dealing;
 mod drawing;
 mod formatting;
 mod piping;
