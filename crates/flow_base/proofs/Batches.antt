@@ -104,14 +104,14 @@ pub skipped : (k : ℕ) (ms block : List Signal) (v : View) (e : ℕ) (w : View)
 skipped k ms block v e w first within is taken = subst (λ l. TakenAll v e l w) (shown ms (v.coming e) k first within ∙ is) taken
 
 -- what was sent, with one block more and with two
-after_then : (l ms ns : List Signal) → ended ms ≡ false → cond (ended (cond (ended l) l (l ++ ms))) (cond (ended l) l (l ++ ms)) (cond (ended l) l (l ++ ms) ++ ns) ≡ cond (ended l) l (l ++ (ms ++ ns))
+pub after_then : (l ms ns : List Signal) → ended ms ≡ false → cond (ended (cond (ended l) l (l ++ ms))) (cond (ended l) l (l ++ ms)) (cond (ended l) l (l ++ ms) ++ ns) ≡ cond (ended l) l (l ++ (ms ++ ns))
 after_then l ms ns unended = elim (cases_Bool (ended l)) [
   | inl shut ↦ grind (arith, shut)
   | inr free ↦ let still = ended_append l ms free unended in let same = append_assoc l ms ns in grind (arith, free, still, same)
 ]
 
 -- and with none
-after_none : (l : List Signal) → l ≡ cond (ended l) l (l ++ [])
+pub after_none : (l : List Signal) → l ≡ cond (ended l) l (l ++ [])
 after_none l = elim (cases_Bool (ended l)) [
   | inl shut ↦ ap (λ b. cond b l (l ++ [])) (sym shut)
   | inr free ↦ sym (append-nil l) ∙ ap (λ b. cond b l (l ++ [])) (sym free)
@@ -123,13 +123,13 @@ after_row true l ms = refl
 after_row false l ms = after_none l
 
 -- what many takes add to what was received from edge e
-taken_all_received : (v w : View) (f e : ℕ) (ms : List Signal) → TakenAll v f ms w → w.received e ≡ v.received e ++ cond (eqb e f) ms []
+pub taken_all_received : (v w : View) (f e : ℕ) (ms : List Signal) → TakenAll v f ms w → w.received e ≡ v.received e ++ cond (eqb e f) ms []
 taken_all_received v w f e ms t = elim (cases_eq e f) [
   | inl at ↦ ap w.received at ∙ t.received ∙ ap (λ k. v.received k ++ ms) (sym at) ∙ ap (λ b. v.received e ++ cond b ms []) (sym (eq-eqb e f at))
   | inr ne ↦ t.others e ne ∙ sym (append-nil (v.received e)) ∙ ap (λ b. v.received e ++ cond b ms []) (sym (ne_eqb e f ne))
 ]
 
-taken_all_room : (v w : View) (f e : ℕ) (ms : List Signal) → TakenAll v f ms w → v.room e ≤ w.room e
+pub taken_all_room : (v w : View) (f e : ℕ) (ms : List Signal) → TakenAll v f ms w → v.room e ≤ w.room e
 taken_all_room v w f e ms t = elim (cases_eq e f) [
   | inl at ↦ omega (arith, t.room_here, ap v.room at, ap w.room at)
   | inr ne ↦ omega (arith, t.room e ne)

@@ -4,3 +4,6 @@ pub mod Reached
 pub mod Batches
 pub mod Passing
 pub mod Visits
+pub mod Along
+pub mod OverSlices
+pub mod Walks

@@ -28,3 +28,5 @@ pub mod RowPorts
 pub mod Visits
 pub mod Passing
 pub mod Following
+pub mod Along
+pub mod Walks

@@ -9,10 +9,15 @@ ghost use Rattle.flow_base.specs.Workers.{IsReading};
 ghost use Rattle.flow_base.specs.Nodes.{behaviour_of, closing, node_state, opened, want_for};
 ghost use Rattle.flow_base.specs.Passing.{MayCome, PassedOn};
 ghost use Rattle.flow_base.specs.Following.{node_passes};
+ghost use Rattle.flow_base.specs.Along.{AreApart};
 ghost use Rattle.flow_base.specs.Visits.{IsPlaced, WentOn, Visited, BrokeOff};
+ghost use Rattle.flow_base.specs.Walks.{Walk};
 ghost use Rattle.flow_base.specs.declared.node.Phase.TheVariants.{Working, Ending};
 
 use crate::certain::look_for_messages;
+use crate::slices::{
+    PLACES, Written, at_most_two_apart, least_space, put_on_each, rise, shown_at, skip_at,
+};
 use crate::transducer::{Port, Side, Transducer};
 use crate::worker::{Ask, Stop, Worker};
 use flow_messages::{Block, Ends, Flat, Msg};
@@ -62,6 +67,8 @@ pub struct Node<W> {
     at: usize,
     // Whether its last visit made more than a step or two. It says only how fast the next one is.
     is_busy: bool,
+    // Where the worker writes along slices. It is kept, since a fresh one is filled before it is used.
+    block: Written,
 }
 
 impl<W: Worker> Node<W> {
@@ -74,6 +81,7 @@ impl<W: Worker> Node<W> {
             phase: Phase::Working,
             at,
             is_busy: true,
+            block: Written::new(),
         }
     }
 
@@ -204,6 +212,102 @@ impl<W: Worker> Node<W> {
         Ok(chunk)
     }
 
+    // Goes once along the slices that its ends show, at most `most` steps. How many it made.
+    #[inline(always)]
+    fn go_along<E: Ends>(
+        &mut self,
+        inputs: &[usize],
+        outputs: &[usize],
+        ends: &mut E,
+        most: usize,
+    ) -> usize
+        requires works { self.old.phase ≡ Working }
+        requires placed { IsPlaced ⟦<Node<W> as Transducer>⟧.behaviour inputs.now outputs.now
+            (⟦<Node<W> as Transducer>⟧.state self.old) (E.view ends.old) }
+        requires inputs { AreApart inputs.now }
+        requires outputs { AreApart outputs.now }
+        ensures works { self.new.phase ≡ Working }
+        ensures walk { Walk E.view E.same inputs.now outputs.now
+            ⟦<Node<W> as Transducer>⟧.behaviour (⟦<Node<W> as Transducer>⟧.state self.old) ends.old
+            (⟦<Node<W> as Transducer>⟧.state self.new) ends.new most result }
+    {
+        let space = least_space(ends, outputs).min(PLACES);
+        let first = shown_at(ends, inputs, 0, self.worker.kind_in(0));
+        let second = shown_at(ends, inputs, 1, self.worker.kind_in(1));
+        let moved = self
+            .worker
+            .along(first, second, &mut self.block, space, most);
+        let steps = moved.steps;
+        if steps == 0 {
+            return 0;
+        }
+        skip_at(ends, inputs, 0, moved.first);
+        skip_at(ends, inputs, 1, moved.second);
+        put_on_each(&self.worker, ends, outputs, &self.block, moved);
+        steps
+    }
+
+    // Goes along the slices that its ends show, at most `most` steps. How many it made.
+    #[inline(always)]
+    fn over_slices<E: Ends>(
+        &mut self,
+        inputs: &[usize],
+        outputs: &[usize],
+        ends: &mut E,
+        most: usize,
+    ) -> usize
+        requires works { self.old.phase ≡ Working }
+        requires placed { IsPlaced ⟦<Node<W> as Transducer>⟧.behaviour inputs.now outputs.now
+            (⟦<Node<W> as Transducer>⟧.state self.old) (E.view ends.old) }
+        ensures works { self.new.phase ≡ Working }
+        ensures walk { Walk E.view E.same inputs.now outputs.now
+            ⟦<Node<W> as Transducer>⟧.behaviour (⟦<Node<W> as Transducer>⟧.state self.old) ends.old
+            (⟦<Node<W> as Transducer>⟧.state self.new) ends.new most result }
+    {
+        // Slices of one edge are not seen at once.
+        if !at_most_two_apart(inputs) {
+            return 0;
+        }
+        // The room of an edge is certain for one output alone.
+        if !rise(outputs) {
+            return 0;
+        }
+        let mut made = 0;
+        'rounds: loop {
+            let steps = self.go_along(inputs, outputs, ends, most - made);
+            // Where it filled no block, another round would find next to nothing, and cost as much.
+            if steps < PLACES {
+                return made + steps;
+            }
+            made += steps;
+        }
+    }
+
+    // The same, and then what a worker does that goes over slices by itself.
+    #[inline(always)]
+    fn blocks<E: Ends>(
+        &mut self,
+        inputs: &[usize],
+        outputs: &[usize],
+        ends: &mut E,
+        most: usize,
+    ) -> usize
+        requires works { self.old.phase ≡ Working }
+        requires placed { IsPlaced ⟦<Node<W> as Transducer>⟧.behaviour inputs.now outputs.now
+            (⟦<Node<W> as Transducer>⟧.state self.old) (E.view ends.old) }
+        ensures walk { Walk E.view E.same inputs.now outputs.now
+            ⟦<Node<W> as Transducer>⟧.behaviour (⟦<Node<W> as Transducer>⟧.state self.old) ends.old
+            (⟦<Node<W> as Transducer>⟧.state self.new) ends.new most result }
+    {
+        let along = self.over_slices(inputs, outputs, ends, most);
+        // What is left of a visit that went along slices would begin an instance that the next has to end by single steps.
+        if along > 0 {
+            return along;
+        }
+        let whole = self.worker.blocks(inputs, outputs, ends, most - along);
+        along + whole
+    }
+
     // The rest of an instance that has begun, and then whole instances over slices, at most `chunk` steps. How many it made.
     #[inline(always)]
     fn whole_blocks<E: Ends>(
@@ -229,7 +333,7 @@ impl<W: Worker> Node<W> {
         let first = self.finish(inputs, outputs, ends, chunk)?;
         if let Phase::Working = self.phase {
             look_for_messages(ends, inputs);
-            let whole = self.worker.blocks(inputs, outputs, ends, chunk - first);
+            let whole = self.blocks(inputs, outputs, ends, chunk - first);
             return Ok(first + whole);
         }
         Ok(first)
@@ -264,7 +368,7 @@ impl<W: Worker> Node<W> {
         // Where hardly an instance fits, the worker goes on from within one, if it can.
         if chunk / 2 <= outputs.len() {
             look_for_messages(ends, inputs);
-            return Ok(self.worker.blocks(inputs, outputs, ends, chunk));
+            return Ok(self.blocks(inputs, outputs, ends, chunk));
         }
         self.whole_blocks(inputs, outputs, ends, chunk)
     }
@@ -312,7 +416,7 @@ impl<W: Worker> Node<W> {
                     }
                     let item = self.worker.give()?;
                     // Only after End is the message refused, and no lawful node writes after End.
-                    let _ = ends.put(edge, Msg::Item(item));
+                    drop(ends.put(edge, Msg::Item(item)));
                 }
                 Want::Ended | Want::Faulted(_) => return Ok(made),
             }

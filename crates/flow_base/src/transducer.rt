@@ -160,7 +160,7 @@ pub trait Transducer {
                     }
                     let message = self.emit()?;
                     // Only after End is the message refused, and no lawful node writes after End.
-                    let _ = ends.put(edge, message);
+                    drop(ends.put(edge, message));
                 }
                 Want::Ended | Want::Faulted(_) => break,
             }

@@ -3,6 +3,7 @@
 ghost use Rattle.std.specs.Prelude.{◌≡◌, false, IfOk, OnErr, IsOk};
 ghost use Rattle.flow_base.specs.Computed.{ComputesRow};
 
+use crate::slices::{Moved, Shown, Written};
 use flow_messages::{Ends, Flat, Item, Kind};
 use snesl_data::FaultKind;
 use std::alloc::AllocError;
@@ -60,6 +61,7 @@ impl From<AllocError> for Stop {
 /// Its laws speak of an abstract state, and of what items carry.
 pub trait Worker {
     ghost use Rattle.std.specs.Prelude.{◌≤◌, ℕ, Bool, true};
+    ghost use Rattle.flow_base.specs.Along.{MovesAlong};
     ghost use Rattle.flow_messages.specs.Cells.{cell_of};
     ghost use Rattle.flow_messages.specs.Signals.{signal_of, is_stop};
     ghost use Rattle.flow_messages.specs.Flats.{message_of};
@@ -148,6 +150,25 @@ pub trait Worker {
     /// visit is, and so promises nothing.
     fn is_between(&self) -> bool {
         true
+    }
+
+    /// Goes along the items that it is shown of ports 0 and 1, at most `most` steps; or fewer, or none. What it writes to its
+    /// outputs lies at the front of the block, and each output has room for so many items more.
+    ///
+    /// It reads only items that it goes on with: a fault and a want of memory are left to single steps.
+    fn along(
+        &mut self,
+        first: Shown<'_>,
+        second: Shown<'_>,
+        block: &mut Written,
+        space: usize,
+        most: usize,
+    ) -> Moved
+        requires { space ≤ 256 }
+        ensures { MovesAlong machine (state self.old) (state self.new) first.entry second.entry
+            space most block.new result }
+    {
+        Moved::nothing()
     }
 
     /// Whole rounds over the slices that its ends show, at most `most` steps; or fewer, or none. Many messages are looked

@@ -3,9 +3,11 @@ pub use Rattle.snesl_data.specs.Values
 pub use Rattle.flow_messages.specs.declared.message.Item
 pub use Rattle.flow_messages.specs.declared.message.Kind
 pub use Rattle.flow_messages.specs.declared.message.Msg
+pub use Rattle.flow_messages.specs.declared.typed.Typed
 pub use Rattle.flow_messages.specs.declared.ends.Refused
 pub use Rattle.flow_messages.specs.declared.ends.Why
 pub use Rattle.flow_messages.specs.declared.table.Table
+pub use Rattle.flow_messages.specs.Shapes
 pub use Rattle.flow_messages.specs.Cells
 pub use Rattle.flow_messages.specs.Signals
 pub use Rattle.flow_messages.specs.Ends

@@ -29,7 +29,7 @@ pub use flow_boxes::{
 };
 pub use flow_lanes::{LaneReader, LaneWriter, Rings, lane, meet_lane, rings_stay_joined};
 pub use flow_messages::{
-    CountedEnds, Ends, Item, Kind, MAX_CAPACITY, Msg, Refused, Table, WholeEnds, Why,
+    CountedEnds, Ends, Item, Kind, MAX_CAPACITY, Msg, Refused, Table, Typed, WholeEnds, Why,
     counts_are_exact, nothing_after_stop, put_adds_one, take_gives_oldest,
     take_gives_what_was_certain,
 };

@@ -1,18 +1,12 @@
 // How many elements each segment has.
 
-ghost use Rattle.std.specs.Prelude.{◌≡◌, ◌+◌, ◌≤◌, ℕ, true, List, length, take, false};
-ghost use Rattle.std.specs.List.{All};
+ghost use Rattle.std.specs.Prelude.{◌≡◌, ◌+◌, ◌≤◌, true, false, length, take};
 ghost use Rattle.snesl_data.specs.Integers.{greatest_integer};
-ghost use Rattle.flow_messages.specs.declared.message.Kind.TheVariants.{Int as IntKind};
-ghost use Rattle.flow_messages.specs.Ends.{SameEnds};
-ghost use Rattle.flow_base.specs.Nodes.{behaviour_of, node_state};
-ghost use Rattle.flow_base.specs.Visits.{IsWired, TakeKinds, Went};
-ghost use Rattle.flow_base.specs.declared.node.Phase.TheVariants.{Working};
-ghost use Rattle.flow_folds.specs.LengthMachine.{one_element_more, length_at_end, length_machine, length_view};
+ghost use Rattle.flow_folds.specs.LengthMachine.{one_element_more, length_at_end};
 ghost use Rattle.flow_folds.specs.LengthBlocks.{LengthsAlong};
 
-use flow_base::{Ask, BLOCK, SHORT_BLOCK, Stop, Worker};
-use flow_messages::{Ends, Flat, Item, Kind};
+use flow_base::{Ask, Moved, Shown, Stop, Worker, Written};
+use flow_messages::{Flat, Item, Kind};
 use snesl_data::{Dialect, FaultKind};
 use std::alloc::AllocError;
 
@@ -114,107 +108,6 @@ impl Length {
             count: Count::Counting(0),
         }
     }
-
-    // Writes the number that is due, where one is and can be written. How many steps it made.
-    #[inline(always)]
-    fn write_due<E: Ends>(&mut self, outputs: &[usize], ends: &mut E, most: usize) -> usize
-        requires outputs { length outputs.now ≡ 1 }
-        requires writes { All (λ e. (E.view ends.old).writes e ≡ true) outputs.now }
-        requires kinds { TakeKinds outputs.now (λ _. IntKind) (E.view ends.old) }
-        ensures same { E.same ends.old ends.new }
-        ensures ends { SameEnds (E.view ends.old) (E.view ends.new) }
-        ensures within { result ≤ most }
-        ensures went { (inputs : List ℕ) (at : ℕ) → Went inputs outputs.now
-            (behaviour_of length_machine) (node_state (length_view self.old) Working at)
-            (E.view ends.old) (node_state (length_view self.new) Working at) (E.view ends.new)
-            result }
-    {
-        let Count::Due(number) = self.count else {
-            return 0;
-        };
-        let Ok(narrow) = i64::try_from(number) else {
-            return 0;
-        };
-        if most == 0 || ends.space(outputs[0]) == 0 {
-            return 0;
-        }
-        ends.put_ints(outputs[0], &[narrow]);
-        self.count = Count::Counting(0);
-        1
-    }
-
-    // One block of flags, and the lengths of the segments that end in it. How many steps it made.
-    #[inline(always)]
-    fn block<E: Ends>(
-        &mut self,
-        inputs: &[usize],
-        outputs: &[usize],
-        ends: &mut E,
-        most: usize,
-        lengths: &mut [i64],
-    ) -> usize
-        requires wired { IsWired inputs.now outputs.now 1 1 (E.view ends.old) }
-        requires kinds { TakeKinds outputs.now (λ _. IntKind) (E.view ends.old) }
-        ensures same { E.same ends.old ends.new }
-        ensures ends { SameEnds (E.view ends.old) (E.view ends.new) }
-        ensures within { result ≤ most }
-        ensures went { (at : ℕ) → Went inputs.now outputs.now (behaviour_of length_machine)
-            (node_state (length_view self.old) Working at) (E.view ends.old)
-            (node_state (length_view self.new) Working at) (E.view ends.new) result }
-    {
-        let Count::Counting(count) = self.count else {
-            return 0;
-        };
-        let (from, to) = (inputs[0], outputs[0]);
-        let room = ends.space(to).min(most / 2).min(lengths.len());
-        let shown = ends.flags(from);
-        let ahead = &shown[..shown.len().min(most - room)];
-        // Where no flag can be taken, nothing is counted.
-        if ahead.is_empty() {
-            return 0;
-        }
-        // A count over the range is a fault at the end of its segment, which a single step names.
-        if !stays_in_range(self.dialect, count, ahead.len()) {
-            return 0;
-        }
-        let (passed, written, elements) = lengths_along(count, ahead, room, lengths);
-        if passed == 0 {
-            return 0;
-        }
-        ends.skip(from, passed);
-        ends.put_ints(to, &lengths[..written]);
-        self.count = Count::Counting(elements);
-        passed + written
-    }
-
-    // Rounds through a block that is lent. Each is a block of flags with the lengths of the segments that end in it. How many steps.
-    #[inline(never)]
-    fn rounds<E: Ends>(
-        &mut self,
-        inputs: &[usize],
-        outputs: &[usize],
-        ends: &mut E,
-        most: usize,
-        lengths: &mut [i64],
-    ) -> usize
-        requires wired { IsWired inputs.now outputs.now 1 1 (E.view ends.old) }
-        requires kinds { TakeKinds outputs.now (λ _. IntKind) (E.view ends.old) }
-        ensures same { E.same ends.old ends.new }
-        ensures ends { SameEnds (E.view ends.old) (E.view ends.new) }
-        ensures within { result ≤ most }
-        ensures went { (at : ℕ) → Went inputs.now outputs.now (behaviour_of length_machine)
-            (node_state (length_view self.old) Working at) (E.view ends.old)
-            (node_state (length_view self.new) Working at) (E.view ends.new) result }
-    {
-        let mut made = self.write_due(outputs, ends, most);
-        'rounds: loop {
-            let steps = self.block(inputs, outputs, ends, most - made, lengths);
-            if steps == 0 {
-                return made;
-            }
-            made += steps;
-        }
-    }
 }
 
 impl Worker for Length {
@@ -292,21 +185,45 @@ impl Worker for Length {
         Ok(Item::Int(number))
     }
 
+    // A number that is due is left to a single step.
+    fn is_between(&self) -> bool {
+        !matches!(self.count, Count::Due(_))
+    }
+
+    // A flag is one step, and the length of a segment one more.
     #[inline(always)]
-    fn blocks<E: Ends>(
+    fn along(
         &mut self,
-        inputs: &[usize],
-        outputs: &[usize],
-        ends: &mut E,
+        first: Shown<'_>,
+        second: Shown<'_>,
+        block: &mut Written,
+        space: usize,
         most: usize,
-    ) -> usize {
-        // Nothing is shown.
-        if ends.flags(inputs[0]).is_empty() {
-            return 0;
+    ) -> Moved {
+        let Count::Counting(count) = self.count else {
+            return Moved::nothing();
+        };
+        let flags = first.flags();
+        let room = space.min(most / 2);
+        let ahead = flags.len().min(most - room);
+        // A count over the range is a fault at the end of its segment, which a single step names.
+        if !stays_in_range(self.dialect, count, ahead) {
+            return Moved::nothing();
         }
-        if most < BLOCK {
-            return self.rounds(inputs, outputs, ends, most, &mut [0; SHORT_BLOCK]);
+        let (passed, written, elements) = lengths_along(
+            count,
+            &flags[..ahead],
+            room,
+            &mut block.ints,
+        );
+        self.count = Count::Counting(elements);
+        Moved {
+            first: passed,
+            second: 0,
+            units: 0,
+            flags: 0,
+            ints: written,
+            steps: passed + written,
         }
-        self.rounds(inputs, outputs, ends, most, &mut [0; BLOCK])
     }
 }

@@ -1,19 +1,14 @@
 // Running sums of segments.
 
-ghost use Rattle.std.specs.Prelude.{◌≡◌, ◌≢◌, ◌≤◌, ℕ, Ok, length, take, IfSome, false};
-ghost use Rattle.flow_messages.specs.declared.message.Kind.TheVariants.{Int as IntKind};
-ghost use Rattle.flow_messages.specs.Ends.{SameEnds};
+ghost use Rattle.std.specs.Prelude.{◌≡◌, ◌≤◌, false, Ok, length, take, IfSome};
 ghost use Rattle.flow_base.specs.Flags.{F};
 ghost use Rattle.flow_base.specs.Machines.{state_after_read};
-ghost use Rattle.flow_base.specs.Nodes.{behaviour_of, node_state};
-ghost use Rattle.flow_base.specs.Visits.{edge_of, IsWired, TakeKinds, Went};
-ghost use Rattle.flow_base.specs.declared.node.Phase.TheVariants.{Working};
-ghost use Rattle.flow_folds.specs.ScanAddMachine.{scan_add_move, scan_add_machine, scan_add_view};
+ghost use Rattle.flow_folds.specs.ScanAddMachine.{scan_add_move};
 ghost use Rattle.flow_folds.specs.ScanAddBlocks.{SumsAlong};
 ghost use Rattle.flow_folds.specs.declared.scan_add.Stage.TheVariants.{Element};
 
-use flow_base::{Ask, BLOCK, SHORT_BLOCK, Stop, Worker};
-use flow_messages::{Ends, Flat, Item, Kind};
+use flow_base::{Ask, Moved, Shown, Stop, Worker, Written};
+use flow_messages::{Flat, Item, Kind};
 use snesl_data::{Dialect, FaultKind};
 use snesl_operators::sum;
 use std::alloc::AllocError;
@@ -146,78 +141,6 @@ impl ScanAdd {
         }
         (flags.len(), read, stage)
     }
-
-    // One block of flags, the elements that they stand for and the sums before these. How many steps it made.
-    #[inline(always)]
-    fn block<E: Ends>(
-        &mut self,
-        inputs: &[usize],
-        outputs: &[usize],
-        ends: &mut E,
-        most: usize,
-        sums: &mut [i64],
-    ) -> usize
-        requires wired { IsWired inputs.now outputs.now 2 1 (E.view ends.old) }
-        requires kinds { TakeKinds outputs.now (λ _. IntKind) (E.view ends.old) }
-        requires apart { edge_of inputs.now 0 ≢ edge_of inputs.now 1 }
-        ensures same { E.same ends.old ends.new }
-        ensures ends { SameEnds (E.view ends.old) (E.view ends.new) }
-        ensures within { result ≤ most }
-        ensures went { (at : ℕ) → Went inputs.now outputs.now (behaviour_of scan_add_machine)
-            (node_state (scan_add_view self.old) Working at) (E.view ends.old)
-            (node_state (scan_add_view self.new) Working at) (E.view ends.new) result }
-    {
-        let Some(held) = self.held() else {
-            return 0;
-        };
-        let (flags, elements, to) = (inputs[0], inputs[1], outputs[0]);
-        let room = ends.space(to).min(most / 3).min(sums.len());
-        let shown = ends.flags(flags);
-        let ahead = &shown[..shown.len().min(room)];
-        // Where no flag can be taken, no element is looked at.
-        if ahead.is_empty() {
-            return 0;
-        }
-        let (passed, read, stage) = self.sums_along(held, ahead, ends.ints(elements), sums);
-        if passed == 0 {
-            return 0;
-        }
-        ends.skip(flags, passed);
-        ends.skip(elements, read);
-        ends.put_ints(to, &sums[..read]);
-        self.stage = stage;
-        passed + 2 * read
-    }
-
-    // Rounds through a block that is lent. Each is a block of flags with their elements and sums. How many steps.
-    #[inline(never)]
-    fn rounds<E: Ends>(
-        &mut self,
-        inputs: &[usize],
-        outputs: &[usize],
-        ends: &mut E,
-        most: usize,
-        sums: &mut [i64],
-    ) -> usize
-        requires apart { edge_of inputs.now 0 ≢ edge_of inputs.now 1 }
-        requires wired { IsWired inputs.now outputs.now 2 1 (E.view ends.old) }
-        requires kinds { TakeKinds outputs.now (λ _. IntKind) (E.view ends.old) }
-        ensures same { E.same ends.old ends.new }
-        ensures ends { SameEnds (E.view ends.old) (E.view ends.new) }
-        ensures within { result ≤ most }
-        ensures went { (at : ℕ) → Went inputs.now outputs.now (behaviour_of scan_add_machine)
-            (node_state (scan_add_view self.old) Working at) (E.view ends.old)
-            (node_state (scan_add_view self.new) Working at) (E.view ends.new) result }
-    {
-        let mut made = 0;
-        'rounds: loop {
-            let steps = self.block(inputs, outputs, ends, most - made, sums);
-            if steps == 0 {
-                return made;
-            }
-            made += steps;
-        }
-    }
 }
 
 impl Worker for ScanAdd {
@@ -294,21 +217,36 @@ impl Worker for ScanAdd {
         matches!(self.stage, Stage::Start | Stage::Flag { .. })
     }
 
+    // A flag is one step, its element one more, and the sum before it one more.
     #[inline(always)]
-    fn blocks<E: Ends>(
+    fn along(
         &mut self,
-        inputs: &[usize],
-        outputs: &[usize],
-        ends: &mut E,
+        first: Shown<'_>,
+        second: Shown<'_>,
+        block: &mut Written,
+        space: usize,
         most: usize,
-    ) -> usize {
-        // Nothing is shown, or both blocks come from one edge.
-        if inputs[0] == inputs[1] || ends.flags(inputs[0]).is_empty() {
-            return 0;
+    ) -> Moved {
+        let Some(held) = self.held() else {
+            return Moved::nothing();
+        };
+        let flags = first.flags();
+        let elements = second.ints();
+        let ahead = flags.len().min(space).min(most / 3);
+        let (passed, read, stage) = self.sums_along(
+            held,
+            &flags[..ahead],
+            elements,
+            &mut block.ints,
+        );
+        self.stage = stage;
+        Moved {
+            first: passed,
+            second: read,
+            units: 0,
+            flags: 0,
+            ints: read,
+            steps: passed + 2 * read,
         }
-        if most < BLOCK {
-            return self.rounds(inputs, outputs, ends, most, &mut [0; SHORT_BLOCK]);
-        }
-        self.rounds(inputs, outputs, ends, most, &mut [0; BLOCK])
     }
 }

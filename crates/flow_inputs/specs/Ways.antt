@@ -1,5 +1,5 @@
 -- The way from a type to one of its edges.
-use Rattle.std.specs.Prelude.{◌≡◌, ℕ, zero, suc, ◌+◌, ◌-◌, ◌≤◌, List, [], ◌∷◌, length, cond, nat_lt, Some, None, slice_get}
+use Rattle.std.specs.Prelude.{◌≡◌, ℕ, zero, suc, ◌+◌, ◌-◌, ◌≤◌, List, [], ◌∷◌, length, cond, nat_lt, Option, Some, None, slice_get}
 use Rattle.snesl_data.specs.declared.dialect.Dialect.{Dialect}
 use Rattle.snesl_data.specs.Types.{Ty, int, bool, pair, vec, seq}
 use Rattle.snesl_data.specs.Values.{Value, HasType}
@@ -8,7 +8,7 @@ use Rattle.snesl_values.specs.Inputs.{value_tokens}
 use Rattle.flow_messages.specs.Cells.{Cell}
 use Rattle.flow_base.specs.Flags.{T, elements}
 use Rattle.flow_base.specs.Segments.{concatenation_by}
-use Rattle.flow_values.specs.Shapes.{cell_for, first_of, second_of, elements_of}
+use Rattle.flow_values.specs.Shapes.{kept_type, cell_for, first_of, second_of, elements_of}
 use Rattle.flow_values.specs.Flats.{width}
 use Rattle.flow_inputs.specs.declared.turns.Component.{Component}
 use Rattle.flow_inputs.specs.declared.turns.Component.TheVariants.{Elements, First, Second}
@@ -30,6 +30,15 @@ leaf_at (vec a) edge = Vectors
 leaf_at (pair a b) edge = cond (nat_lt edge (width a)) (leaf_at a edge) (leaf_at b (edge - width a))
 leaf_at (seq a) zero = Flags
 leaf_at (seq a) (suc edge) = leaf_at a edge
+
+-- the type that is kept of the elements of the vectors there
+abbrev pub kept_at : Ty → ℕ → Option Ty
+kept_at int edge = None
+kept_at bool edge = None
+kept_at (vec a) edge = kept_type a
+kept_at (pair a b) edge = cond (nat_lt edge (width a)) (kept_at a edge) (kept_at b (edge - width a))
+kept_at (seq a) zero = None
+kept_at (seq a) (suc edge) = kept_at a edge
 
 -- what a value puts on the edge at the end of the way
 abbrev pub items_on_edge : List Component → Leaf → Value → List Cell

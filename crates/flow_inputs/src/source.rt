@@ -22,9 +22,10 @@ ghost use Rattle.flow_inputs.specs.Sends.{Sends};
 
 use crate::scanner::{BLOCK, flags_ahead, ints_ahead, scan};
 use crate::turns::{Component, Leaf, Mode, Piece, State};
-use crate::ways::add_way;
+use crate::ways::{add_way, kept_at};
 use flow_base::{Port, Side, Transducer, put_in_space};
 use flow_messages::{Ends, Item, Msg};
+use flow_values::item_of_type;
 use kahn::Want;
 use snesl_data::{Datum, Elements, Ty};
 use snesl_values::datum_at;
@@ -44,6 +45,8 @@ pub struct TextSource {
     place: usize,
     way: Vec<Component>,
     leaf: Leaf,
+    // The type of the elements of the vectors there, where it is kept.
+    of: Option<Arc<Ty>>,
     // How far it has read, and in what state.
     at: usize,
     state: State,
@@ -83,12 +86,14 @@ impl TextSource {
     {
         let mut way = Vec::new(alloc);
         let leaf = add_way(&mut way, ty, edge)?;
+        let of = kept_at(alloc, ty, edge)?;
         Ok(TextSource {
             alloc,
             text,
             place,
             way,
             leaf,
+            of,
             at: place,
             state: State {
                 level: 0,
@@ -255,8 +260,14 @@ impl TextSource {
     }
 }
 
-// The item that a piece is, in memory of its own. Only a vector takes memory. It is empty where the text spells none.
-fn item_of(alloc: Global, text: &[u8], piece: Piece) -> Result<Item, AllocError>
+// The item that a piece is, in memory of its own. Only a vector takes memory. It is empty where the text spells none. Its
+// elements are known to be of this type where they are.
+fn item_of(
+    alloc: Global,
+    text: &[u8],
+    piece: Piece,
+    of: &Option<Arc<Ty>>,
+) -> Result<Item, AllocError>
     ensures ok { IfOk result (λ item. cell_of item ≡ cell (value_at text.now) piece) }
     ensures scalar { is_of VecKind (cell (value_at text.now) piece) ≡ false → IsOk result }
 {
@@ -268,7 +279,7 @@ fn item_of(alloc: Global, text: &[u8], piece: Piece) -> Result<Item, AllocError>
                 Datum::Vec(all) => all,
                 _ => Elements::of_data(alloc, Vec::new(alloc))?,
             };
-            Ok(Item::of_elements(elements))
+            item_of_type(of, elements)
         }
     }
 }
@@ -321,7 +332,7 @@ impl Transducer for TextSource {
         let found = scan(&self.text, &self.way, self.leaf, self.at, self.state);
         match found.piece {
             Some(piece) => {
-                let item = item_of(self.alloc, &self.text, piece)?;
+                let item = item_of(self.alloc, &self.text, piece, &self.of)?;
                 self.at = found.at;
                 self.state = found.state;
                 Ok(Msg::Item(item))

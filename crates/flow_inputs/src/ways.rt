@@ -3,11 +3,14 @@
 ghost use Rattle.std.specs.Prelude.{◌≡◌, ◌<◌, ◌^◌, ◌++◌, IfOk, OnOk};
 ghost use Rattle.snesl_data.specs.Types.{ty_of};
 ghost use Rattle.flow_values.specs.Flats.{width};
-ghost use Rattle.flow_inputs.specs.Ways.{way_to, leaf_at};
+ghost use Rattle.flow_values.specs.Shapes.{shared_type};
+ghost use Rattle.flow_inputs.specs.Ways.{way_to, leaf_at, kept_at};
 
 use crate::turns::{Component, Leaf};
+use flow_values::kept;
 use snesl_data::Ty;
-use std::alloc::AllocError;
+use std::alloc::{AllocError, Global};
+use std::sync::Arc;
 
 /// How many edges the type has, one for each stream of a value. They must be fewer than 2^64.
 pub fn edge_count(ty: &Ty) -> usize
@@ -47,6 +50,31 @@ pub(crate) fn add_way(way: &mut Vec<Component>, ty: &Ty, edge: usize) -> Result<
             }
             way.push(Component::Elements)?;
             add_way(way, item, edge - 1)
+        }
+    }
+}
+
+// The type of the elements of the vectors at the edge of this number, shared, where it is kept.
+pub(crate) fn kept_at(alloc: Global, ty: &Ty, edge: usize) -> Result<Option<Arc<Ty>>, AllocError>
+    requires { width (ty_of ty.now) < 2 ^ 64 }
+    ensures { IfOk result (λ of. shared_type of ≡ kept_at (ty_of ty.now) edge) }
+{
+    match ty {
+        Ty::Int | Ty::Bool => Ok(None),
+        Ty::Vec(element) => kept(alloc, element),
+        Ty::Pair(first, second) => {
+            let edges = edge_count(first);
+            if edge < edges {
+                kept_at(alloc, first, edge)
+            } else {
+                kept_at(alloc, second, edge - edges)
+            }
+        }
+        Ty::Seq(item) => {
+            if edge == 0 {
+                return Ok(None);
+            }
+            kept_at(alloc, item, edge - 1)
         }
     }
 }

@@ -5,6 +5,7 @@ use Rattle.std.proofs.Crossing as crossing
 use Rattle.std.proofs.alloc.Global.TheSendSync as heap
 use Rattle.flow_history.proofs.History.TheSendSync as history
 use Rattle.snesl_data.proofs.Sends.{elements_sends}
+use Rattle.flow_messages.proofs.Sends.{typed_sends}
 use Rattle.flow_rings.proofs.Sends.{writer_sends, reader_sends}
 use Rattle.flow_lanes.specs.contracts.counted.CountedWriter as counted
 use Rattle.flow_lanes.specs.contracts.pocket.Pocket as pocket
@@ -12,7 +13,7 @@ use Rattle.flow_lanes.specs.contracts.ends.LaneWriter as writer
 use Rattle.flow_lanes.specs.contracts.ends.LaneReader as reader
 use Rattle.flow_lanes.specs.contracts.rings.Rings as rings
 
-ruleset parts = (elements_sends, history.the_send, heap.the_field_send, crossing.frees, crosses, sendable)
+ruleset parts = (elements_sends, typed_sends, history.the_send, heap.the_field_send, crossing.frees, crosses, sendable)
 
 counted_sends : IsSend counted.the_field.row
 counted_sends = search (writer_sends, reader_sends, crosses, sendable) depth 60 fits 20000

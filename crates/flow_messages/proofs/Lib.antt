@@ -8,3 +8,4 @@ pub mod Lines
 pub mod Contents
 pub mod Widened
 pub mod Scalars
+pub mod Sends

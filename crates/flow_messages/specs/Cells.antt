@@ -2,7 +2,7 @@
 use Rattle.std.specs.Prelude.{ℤ, Bool, true, false}
 use Rattle.snesl_data.specs.Values.{Value, a_vec, elements_of}
 use Rattle.flow_messages.specs.declared.message.Item.{Item}
-use Rattle.flow_messages.specs.declared.message.Item.TheVariants.{Unit as UnitItem, Bool as BoolItem, Int as IntItem, Vec as VecItem}
+use Rattle.flow_messages.specs.declared.message.Item.TheVariants.{Unit as UnitItem, Bool as BoolItem, Int as IntItem, Vec as VecItem, Typed as TypedItem}
 use Rattle.flow_messages.specs.declared.message.Kind.{Kind}
 use Rattle.flow_messages.specs.declared.message.Kind.TheVariants.{Unit as UnitKind, Bool as BoolKind, Int as IntKind, Vec as VecKind}
 
@@ -19,6 +19,7 @@ cell_of UnitItem = unit
 cell_of (BoolItem b) = flag b
 cell_of (IntItem n) = int n
 cell_of (VecItem elements) = datum (a_vec (elements_of elements))
+cell_of (TypedItem typed) = datum (a_vec (elements_of typed.elements))
 
 -- whether the cell is of the kind
 abbrev pub is_of : Kind → Cell → Bool

@@ -35,7 +35,7 @@ impl Flat {
             Msg::Item(Item::Unit) => Some(Flat::Unit),
             Msg::Item(Item::Bool(truth)) => Some(Flat::Bool(*truth)),
             Msg::Item(Item::Int(number)) => Some(Flat::Int(*number)),
-            Msg::Item(Item::Vec(_)) => None,
+            Msg::Item(Item::Vec(_) | Item::Typed(_)) => None,
             Msg::End => Some(Flat::End),
         }
     }

@@ -17,6 +17,7 @@ mod store;
 mod table;
 mod table_ends;
 mod theorems;
+mod typed;
 mod whole;
 
 pub use counted::CountedEnds;
@@ -30,4 +31,5 @@ pub use theorems::{
     counts_are_exact, nothing_after_stop, put_adds_one, take_gives_oldest,
     take_gives_what_was_certain,
 };
+pub use typed::Typed;
 pub use whole::WholeEnds;

@@ -3,15 +3,11 @@ use denote.Param.Send.{IsSend, arg_send, param_send, sendable}
 use denote.Param.SendFields.{variants_send}
 use Rattle.std.proofs.Crossing.{crosses}
 use Rattle.snesl_data.proofs.Sends.{datum_sends, elements_sends}
-use Rattle.snesl_data.proofs.ty.Ty.TheLaws.TheKnot as ty_knot
-use Rattle.snesl_data.specs.contracts.ty.Ty as ty
+use Rattle.flow_messages.proofs.Sends.{ty_sends, ty_shares, typed_sends}
 use Rattle.flow_nodes.specs.contracts.stream_node.StreamNode as stream_node
 
 -- each as it stands in a field, where a search comes to it
-ty_sends : IsSend ty.the_field.row
-ty_sends = search (crosses, ty_knot.crosses, sendable) depth 60 fits 20000
-
-ruleset parts = (ty_sends, datum_sends, elements_sends, crosses, sendable)
+ruleset parts = (ty_sends, ty_shares, datum_sends, elements_sends, typed_sends, crosses, sendable)
 
 -- the kinds in their order, each by the one field that it has
 pub stream_node_sends : IsSend stream_node.the_row

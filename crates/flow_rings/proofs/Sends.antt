@@ -5,13 +5,14 @@ use Rattle.std.proofs.Crossing as crossing
 use Rattle.std.proofs.alloc.Global.TheSendSync as heap
 use Rattle.rtrb.proofs.end.End.TheSendSync as end
 use Rattle.snesl_data.proofs.Sends.{elements_sends}
+use Rattle.flow_messages.proofs.Sends.{typed_sends}
 use Rattle.flow_messages.proofs.flat.Flat.TheSendSync as flat
 use Rattle.flow_rings.specs.contracts.ring.WriterRing as writer_ring
 use Rattle.flow_rings.specs.contracts.ring.ReaderRing as reader_ring
 use Rattle.flow_rings.specs.contracts.ring.EdgeWriter as writer
 use Rattle.flow_rings.specs.contracts.ring.EdgeReader as reader
 
-ruleset parts = (elements_sends, end.the_send, heap.the_field_send, flat.the_field_send, crossing.frees, crosses, sendable)
+ruleset parts = (elements_sends, typed_sends, end.the_send, heap.the_field_send, flat.the_field_send, crossing.frees, crosses, sendable)
 
 -- the kinds in their order, each by the one field that it has
 writer_ring_sends : IsSend writer_ring.the_field.row

@@ -5,11 +5,12 @@ use Rattle.std.proofs.Crossing as crossing
 use Rattle.std.proofs.alloc.Global.TheSendSync as heap
 use Rattle.flow_history.proofs.History.TheSendSync as history
 use Rattle.snesl_data.proofs.Sends.{elements_sends}
+use Rattle.flow_messages.proofs.Sends.{typed_sends}
 use Rattle.flow_boxes.specs.contracts.inbox.Inbox as inbox
 use Rattle.flow_boxes.specs.contracts.outbox.Outbox as outbox
 use Rattle.flow_boxes.specs.contracts.boxes.Boxes as boxes
 
-ruleset parts = (elements_sends, history.the_send, heap.the_field_send, crossing.frees, crosses, sendable)
+ruleset parts = (elements_sends, typed_sends, history.the_send, heap.the_field_send, crossing.frees, crosses, sendable)
 
 inbox_sends : IsSend inbox.the_field.row
 inbox_sends = search parts depth 60 fits 20000

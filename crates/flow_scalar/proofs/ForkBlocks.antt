@@ -1,27 +1,34 @@
--- Copies of blocks.
-use Rattle.std.proofs.Common.{◌≡◌, ◌≢◌, ℕ, ℤ, pos, slice_index_or, zero, suc, ◌+◌, ◌-◌, ◌*◌, ◌<◌, ◌≤◌, Bool, true, false, ◌||◌, cond, eqb, List, [], ◌∷◌, ◌++◌, length, take, Ok, Err, refl, sym, ◌∙◌, ap, subst, arith, append-nil, eq-eqb, ne_eqb, inl, inr}
-use Rattle.std.proofs.lemmas.Bool.{cases_eq}
+-- Copies of items, to each output.
+use Rattle.std.proofs.Common.{◌≡◌, ℕ, ℤ, pos, slice_index_or, zero, suc, ◌+◌, ◌-◌, ◌*◌, ◌<◌, ◌≤◌, Bool, true, false, cond, eqb, nat_lt, List, [], ◌∷◌, ◌++◌, length, take, Ok, Err, refl, sym, ◌∙◌, ap, subst, arith, append-nil, eq-eqb, ne_eqb, inl, inr}
+use Rattle.std.proofs.lemmas.Bool.{cases_eq, cases_lt}
+use Rattle.std.proofs.lemmas.Bool.Decides.{nat_tests}
 use Rattle.std.proofs.Math.Seq.{take-length}
 use Rattle.std.proofs.lemmas.List.{length-take-le, take-append-le}
 use mathlib.Core.List.{IsPrefix}
 use Rattle.kahn.specs.declared.want.Want.TheVariants.{Write}
 use Rattle.snesl_data.specs.declared.fault.FaultKind.TheVariants.{Shape}
-use Rattle.flow_messages.specs.Cells.{Cell, unit, flag, int, is_of}
-use Rattle.flow_messages.specs.Ends.{View, LookedForRoom, TakenAll, PutAll}
 use Rattle.flow_messages.specs.Blocks.{unit_signals, flag_signals, int_signals}
+use Rattle.flow_messages.specs.Cells.{Cell, flag, int, is_of}
+use Rattle.flow_messages.specs.Ends.{View, LookedForRoom, PutAll}
+use Rattle.flow_messages.specs.Signals.{Signal, carry, stop, ended}
 use Rattle.flow_messages.specs.declared.message.Kind.{Kind}
-use Rattle.flow_messages.specs.Signals.{Signal, carry, ended}
-use Rattle.flow_base.specs.Machines.{Move, gives, on_kind, ask_of, written_cell, state_after_write}
+use Rattle.flow_messages.specs.declared.message.Kind.TheVariants.{Unit as UnitKind, Bool as BoolKind, Int as IntKind}
+use Rattle.flow_base.specs.Along.{MovesAlong, shown_signals, written_at}
+use Rattle.flow_base.specs.Machines.{Move, gives, ask_of, written_cell, state_after_write}
 use Rattle.flow_base.specs.Nodes.{NodeState, behaviour_of, node_state, want_for}
 use Rattle.flow_base.specs.Visits.{edge_of, Went, Wrote}
 use Rattle.flow_base.specs.declared.node.Phase.TheVariants.{Working}
-use Rattle.flow_base.proofs.Carried.{same_ends_refl, same_ends_then, prefix_same, prefix_then}
-use Rattle.flow_base.proofs.Kernels.{leads_on, went_none, went_write, went_looked}
-use Rattle.flow_base.proofs.Batches.{Batch, Shifted, block_then, batch_none, batch_read, batch_write, batch_then, batch_as, shifted_none, shifted_skip, shifted_put, batch_went, ended_block}
-use Rattle.flow_scalar.specs.ForkCopies.{is_among, PutOnEach, CopiedOn}
+use Rattle.flow_base.specs.declared.slices.Shown.{Shown}
+use Rattle.flow_base.specs.declared.slices.Written.{Written}
+use Rattle.flow_base.proofs.Along.{Along, no_messages, nothing_said, units_shown, flags_shown, ints_shown, units_within, flags_within, ints_within, ran_as, ran_first, ran_none, ran_then, ran_write}
+use Rattle.flow_base.proofs.Batches.{block_then}
+use Rattle.flow_base.proofs.Carried.{prefix_same}
+use Rattle.flow_base.proofs.Kernels.{went_write, went_looked}
+use Rattle.flow_scalar.specs.ForkCopies.{Copied, copies_of}
 use Rattle.flow_scalar.specs.ForkMachine.{ForkPorts, ForkState, fork_ports, fork_state, idle, holding, fork_move, fork_machine}
+use Rattle.flow_scalar.specs.SinkShown.{EachFits}
 use Rattle.flow_scalar.specs.declared.fork.Fork.{Fork}
-use Rattle.flow_folds.proofs.SingleBlocks.{block_none}
+use Rattle.flow_scalar.proofs.SinkBlocks.{fit_units, fit_flags, fit_ints}
 
 -- what the machine sees of a fork
 abbrev pub fork_view : Fork → ForkPorts × ForkState
@@ -33,32 +40,6 @@ filled count shown old new within is =
     let long : length new ≡ count = ap length is ∙ length-take-le count shown within in
     take-append-le count new old (omega arith) ∙ ap (λ n. take n new) (sym long) ∙ take-length new ∙ is
 
--- each edge has a greater number than the one before it
-abbrev pub Rises : List ℕ → Type 0
-Rises edges = (p q : ℕ) → p < q → q < length edges → edge_of edges p < edge_of edges q
-
--- an edge is not among others
-none_among : (edges : List ℕ) (n e : ℕ) → ((p : ℕ) → p < n → e ≢ edge_of edges p) → is_among edges n e ≡ false
-none_among edges zero e apart = refl
-none_among edges (suc n) e apart = let before = none_among edges n e (λ p lt. apart p (omega (arith, lt))) in let here = ne_eqb e (edge_of edges n) (apart n (omega arith)) in ap (λ b. b || eqb e (edge_of edges n)) before ∙ here
-
--- an edge that comes next was not there before
-next_among : (edges : List ℕ) → Rises edges → (n : ℕ) → n < length edges → (e : ℕ) → eqb e (edge_of edges n) ≡ true → is_among edges n e ≡ false
-next_among edges rises n there e is = elim (cases_eq e (edge_of edges n)) [
-  | inl at ↦ none_among edges n e (λ p lt same. omega (arith, rises p n lt there, at, same))
-  | inr ne ↦ absurd (let no = ne_eqb e (edge_of edges n) ne in cc)
-]
-
-joined : (b c : Bool) (block : List Signal) → (c ≡ true → b ≡ false) → cond b block [] ++ cond c block [] ≡ cond (b || c) block []
-joined true true block apart = absurd (cc (apart refl))
-joined true false block apart = append-nil block
-joined false true block apart = refl
-joined false false block apart = refl
-
--- a block on one output more
-one_more : (edges : List ℕ) → Rises edges → (n : ℕ) → n < length edges → (block : List Signal) (e : ℕ) → cond (is_among edges n e) block [] ++ cond (eqb e (edge_of edges n)) block [] ≡ cond (is_among edges (suc n) e) block []
-one_more edges rises n there block e = joined (is_among edges n e) (eqb e (edge_of edges n)) block (next_among edges rises n there e)
-
 -- so many outputs are to get the item
 abbrev pub owing : Cell → ℕ → ForkState
 owing x zero = idle
@@ -68,148 +49,128 @@ gives_next : (p : ForkPorts) (x : Cell) (left : ℕ) → fork_move p (holding x 
 gives_next p x zero = refl
 gives_next p x (suc left) = refl
 
-module _ (inputs outputs : List ℕ) (p : ForkPorts) (at : ℕ) where
-  abbrev pub on : ForkState → NodeState (ForkPorts × ForkState)
-  on s = node_state (p, s) Working at
+-- what the first so many outputs get
+abbrev to_first : ℕ → List Signal → ℕ → List Signal
+to_first n block q = cond (nat_lt q n) block []
 
-  -- the item is written to so many outputs
-  abbrev Part : Cell → ℕ → ℕ → Type 0
-  Part x q n = Batch inputs outputs (behaviour_of fork_machine) (on idle) (on (owing x (length outputs - q))) (λ e. cond (eqb e (edge_of inputs 0)) (carry x ∷ []) []) (λ e. cond (is_among outputs q e) (carry x ∷ []) []) n
+to_none : (block : List Signal) (q : ℕ) → no_messages ≡ to_first 0 block q
+to_none block q =
+    let over : nat_lt q 0 ≡ false = grind (arith, nat_tests) in
+    sym (ap (λ b. cond b block no_messages) over)
 
-  -- a block goes to each output
-  abbrev pub Copies : List Signal → ℕ → Type 0
-  Copies block n = Batch inputs outputs (behaviour_of fork_machine) (on idle) (on idle) (λ e. cond (eqb e (edge_of inputs 0)) block []) (λ e. cond (is_among outputs (length outputs) e) block []) n
-
-  module _ (rises : Rises outputs) (counts : suc p.others ≡ length outputs) where
-    part : (x : Cell) → is_of p.kind x ≡ true → (q : ℕ) → q ≤ length outputs → Part x q (q + 1)
-    part x fits zero within =
-        let b = behaviour_of fork_machine in
-        let all : owing x (length outputs - 0) ≡ holding x p.others = ap (owing x) (let same : length outputs - 0 ≡ suc p.others = omega (arith, counts) in same) in
-        let leads = leads_on fork_machine p idle (holding x p.others) at (on_kind p.kind (λ y. Ok (holding y p.others))) (carry x) (λ y. refl) (ap (λ t. cond t (Ok (holding x p.others)) (Err Shape)) fits) in
-        batch_read inputs outputs b (batch_none inputs outputs b (on idle)) 0 (carry x) (on (owing x (length outputs - 0))) refl (ap on all ∙ leads)
-    part x fits (suc q) within =
-        let b = behaviour_of fork_machine in
-        let left = length outputs - suc q in
-        let there : q < length outputs = omega (arith, within) in
-        let now : length outputs - q ≡ suc left = omega (arith, within) in
-        let is : q ≡ p.others - left = omega (arith, within, counts) in
-        let state : Move ForkState → NodeState (ForkPorts × ForkState) = λ m. on (state_after_write (holding x left) m) in
-        let move = gives_next p x left in
-        let before = part x fits q (omega (arith, within)) in
-        let so_far = subst (λ l. Batch inputs outputs b (on idle) (on (owing x l)) (λ e. cond (eqb e (edge_of inputs 0)) (carry x ∷ []) []) (λ e. cond (is_among outputs q e) (carry x ∷ []) []) (q + 1)) now before in
-        let wrote = batch_write inputs outputs b so_far q x (on (owing x left)) (ap (λ m. want_for (ask_of m)) move ∙ ap Write (sym is)) (sym (ap (λ m. carry (written_cell m)) move)) (sym (ap state move)) in
-        let same = batch_as inputs outputs b wrote _ _ (λ e. refl) (one_more outputs rises q there (carry x ∷ [])) in
-        let steps : (q + 1) + 1 ≡ suc q + 1 = omega arith in
-        subst (Part x (suc q)) steps same
-
-    one : (x : Cell) → is_of p.kind x ≡ true → Copies (carry x ∷ []) (length outputs + 1)
-    one x fits =
-        let none : length outputs - length outputs ≡ 0 = omega arith in
-        subst (λ l. Batch inputs outputs (behaviour_of fork_machine) (on idle) (on (owing x l)) (λ e. cond (eqb e (edge_of inputs 0)) (carry x ∷ []) []) (λ e. cond (is_among outputs (length outputs) e) (carry x ∷ []) []) (length outputs + 1)) none (part x fits (length outputs) (omega arith))
-
-    copies_none : Copies [] ((length outputs + 1) * 0)
-    copies_none =
-        let b = behaviour_of fork_machine in
-        let none : 0 ≡ (length outputs + 1) * 0 = omega arith in
-        subst (Copies []) none (batch_as inputs outputs b (batch_none inputs outputs b (on idle)) _ _ (λ e. sym (block_none (eqb e (edge_of inputs 0)))) (λ e. sym (block_none (is_among outputs (length outputs) e))))
-
-    copies_more : (x : Cell) → is_of p.kind x ≡ true → (block : List Signal) (n : ℕ) → Copies block ((length outputs + 1) * n) → Copies (carry x ∷ block) ((length outputs + 1) * suc n)
-    copies_more x fits block n next =
-        let b = behaviour_of fork_machine in
-        let steps : (length outputs + 1) + (length outputs + 1) * n ≡ (length outputs + 1) * suc n = grind arith in
-        subst (Copies (carry x ∷ block)) steps (batch_as inputs outputs b (batch_then inputs outputs b (one x fits) next) _ _ (λ e. block_then (eqb e (edge_of inputs 0)) (carry x ∷ []) block) (λ e. block_then (is_among outputs (length outputs) e) (carry x ∷ []) block))
-
-    pub copies_units : is_of p.kind unit ≡ true → (n : ℕ) → Copies (unit_signals n) ((length outputs + 1) * n)
-    copies_units fits zero = copies_none
-    copies_units fits (suc n) = copies_more unit fits (unit_signals n) n (copies_units fits n)
-
-    pub copies_flags : ((b : Bool) → is_of p.kind (flag b) ≡ true) → (bs : List Bool) → Copies (flag_signals bs) ((length outputs + 1) * length bs)
-    copies_flags fits [] = copies_none
-    copies_flags fits (b ∷ bs) = copies_more (flag b) (fits b) (flag_signals bs) (length bs) (copies_flags fits bs)
-
-    pub copies_ints : ((n : ℤ) → is_of p.kind (int n) ≡ true) → (ns : List ℤ) → Copies (int_signals ns) ((length outputs + 1) * length ns)
-    copies_ints fits [] = copies_none
-    copies_ints fits (n ∷ ns) = copies_more (int n) (fits n) (int_signals ns) (length ns) (copies_ints fits ns)
-
--- who takes loses no room
-pub taken_room : (v w : View) (f e : ℕ) (ms : List Signal) → TakenAll v f ms w → v.room e ≤ w.room e
-taken_room v w f e ms t = elim (cases_eq e f) [
-  | inl at ↦ omega (arith, t.room_here, ap v.room at, ap w.room at)
-  | inr ne ↦ omega (arith, t.room e ne)
+to_one_more : (n : ℕ) (block : List Signal) (q : ℕ) → to_first n block q ++ cond (eqb q n) block [] ≡ to_first (suc n) block q
+to_one_more n block q = elim (cases_eq q n) [
+  | inl at ↦
+      let before : nat_lt q n ≡ false = grind (arith, nat_tests) in
+      let after : nat_lt q (suc n) ≡ true = grind (arith, nat_tests) in
+      ap (λ b. cond b block [] ++ cond (eqb q n) block []) before ∙ ap (λ b. cond b block no_messages) (eq-eqb q n at) ∙ sym (ap (λ b. cond b block no_messages) after)
+  | inr ne ↦
+      let same : nat_lt q n ≡ nat_lt q (suc n) = elim (cases_lt q n) [
+        | inl below ↦ grind (arith, nat_tests)
+        | inr above ↦ (let over : suc n ≤ q = omega (arith, above, ne) in grind (arith, nat_tests))
+      ] in
+      ap (λ b. to_first n block q ++ cond b block []) (ne_eqb q n ne) ∙ append-nil (to_first n block q) ∙ ap (λ b. cond b block no_messages) same
 ]
 
-module _ (outputs : List ℕ) (ms : List Signal) where
-  -- nothing is put yet
-  pub put_on_none : (v : View) → PutOnEach outputs 0 ms v v
-  put_on_none v =
-      let shifted = shifted_none [] outputs v in
+kind_fits : {S : Type 0} (b : Bool) (s : S) → cond b (Ok s) (Err Shape) ≡ Ok s → b ≡ true
+kind_fits true s e = refl
+kind_fits false s e = absurd (cc)
+
+module _ (p : ForkPorts) where
+  -- the item is written to so many outputs
+  abbrev Part : Cell → ℕ → Type 0
+  Part x q = Along fork_machine p idle (owing x (suc p.others - q)) (carry x ∷ []) [] (to_first q (carry x ∷ [])) (1 + q)
+
+  part : (x : Cell) → is_of p.kind x ≡ true → (q : ℕ) → q ≤ suc p.others → Part x q
+  part x fits zero within =
+      let m = fork_machine in
+      let item : List Signal = carry x ∷ [] in
+      let all : suc p.others ≡ suc p.others - 0 = omega arith in
+      let read = ran_first m p idle (holding x p.others) x refl (ap (λ t. cond t (Ok (holding x p.others)) (Err Shape)) fits) in
+      subst (λ n. Along m p idle (owing x n) item [] (to_first 0 item) 1) all (ran_as m p read item [] (to_first 0 item) 1 refl refl (to_none item) refl)
+  part x fits (suc q) within =
+      let m = fork_machine in
+      let item : List Signal = carry x ∷ [] in
+      let left = suc p.others - suc q in
+      let now : suc p.others - q ≡ suc left = omega (arith, within) in
+      let is : p.others - left ≡ q = omega (arith, within) in
+      let move = gives_next p x left in
+      let state : Move ForkState → ForkState = state_after_write (holding x left) in
+      let so_far = subst (λ n. Along m p idle (owing x n) item [] (to_first q item) (1 + q)) now (part x fits q (omega (arith, within))) in
+      let wrote = ran_write m p q (holding x left) (owing x left) x (ap (λ k. want_for (ask_of k)) move ∙ ap Write is) (ap written_cell move) (ap state move) in
+      let steps : (1 + q) + 1 ≡ 1 + suc q = omega arith in
+      ran_as m p (ran_then m p so_far wrote) item [] (to_first (suc q) item) (1 + suc q) refl refl (to_one_more q item) steps
+
+  abbrev Copies : List Signal → ℕ → Type 0
+  Copies block n = Along fork_machine p idle idle block [] (to_first (suc p.others) block) n
+
+  one : (x : Cell) → is_of p.kind x ≡ true → Copies (carry x ∷ []) (1 + suc p.others)
+  one x fits =
+      let none : suc p.others - suc p.others ≡ 0 = omega arith in
+      subst (λ n. Along fork_machine p idle (owing x n) (carry x ∷ []) [] (to_first (suc p.others) (carry x ∷ [])) (1 + suc p.others)) none (part x fits (suc p.others) (omega arith))
+
+  -- an item is a step, and so is each of its copies
+  copies : (block : List Signal) → EachFits p.kind block → Copies block (length block + suc p.others * length block)
+  copies [] fits =
+      let none : 0 ≡ 0 + suc p.others * 0 = omega arith in
+      ran_as fork_machine p (ran_none fork_machine p idle) [] [] (to_first (suc p.others) []) (0 + suc p.others * 0) refl refl (λ q. sym (nothing_said (nat_lt q (suc p.others)))) none
+  copies (carry x ∷ block) (fits, more) =
+      let m = fork_machine in
+      let n = length block in
+      let all : List Signal = carry x ∷ block in
+      let first = one x (kind_fits (is_of p.kind x) tt fits) in
+      let steps : (1 + suc p.others) + (n + suc p.others * n) ≡ suc n + suc p.others * suc n = grind arith in
+      ran_as m p (ran_then m p first (copies block more)) all [] (to_first (suc p.others) all) (suc n + suc p.others * suc n) refl refl (λ q. block_then (nat_lt q (suc p.others)) (carry x ∷ []) block) steps
+  copies (stop ∷ block) (fits, more) = absurd fits
+
+  -- copies of what was shown
+  pub fork_moves : (first second : Shown) (space most n : ℕ) (block : Written) → Copied p.kind n (shown_signals first) block → n ≤ space → n + suc p.others * n ≤ most →
+      MovesAlong fork_machine (p, idle) (p, idle) first second space most block (copies_of n (n + suc p.others * n))
+  fork_moves first second space most n block copied room may =
+      let m = fork_machine in
+      let made = copies_of n (n + suc p.others * n) in
+      let items = take n (shown_signals first) in
+      let long : length items ≡ n = length-take-le n (shown_signals first) copied.within in
+      let steps : length items + suc p.others * length items ≡ n + suc p.others * n = ap (λ k. k + suc p.others * k) long in
       record {
-        ends = same_ends_refl v;
-        sent = shifted.sent;
-        received = λ e. refl;
-        coming = λ e. prefix_same (v.coming e) (v.coming e) refl;
-        room = λ e none. omega arith;
-        room_here = λ q lt. absurd (omega (arith, lt));
-        room_next = λ q le lt. omega arith;
+        within = record {
+          first = copied.within;
+          second = omega arith;
+          units = room;
+          flags = room;
+          ints = room;
+          steps = may;
+        };
+        ran = ran_as m p (copies items copied.fits) items [] (written_at m p block made) (n + suc p.others * n) refl refl (λ q. ap (λ l. to_first (suc p.others) l q) (copied.lie (n + suc p.others * n))) steps;
       }
 
-  -- it is put on one output more
-  pub put_on_more : Rises outputs → ended ms ≡ false → (q : ℕ) → q < length outputs → (a u w : View) → PutOnEach outputs q ms a u → PutAll u (edge_of outputs q) ms w → PutOnEach outputs (q + 1) ms a w
-  put_on_more rises free q there a u w made put =
-      let f = edge_of outputs q in
-      let next : suc q ≡ q + 1 = omega arith in
-      let so_far : Shifted [] outputs (λ e. []) (λ e. cond (is_among outputs q e) ms []) a u = record {
-        ends = made.ends;
-        received = λ e. made.received e ∙ sym (append-nil (a.received e));
-        sent = made.sent;
-        no_end = λ e. ended_block (is_among outputs q e) ms free;
-        coming = λ e none. made.coming e;
-        room = made.room;
-      } in
-      let shifted = shifted_put [] outputs so_far q ms w there free put in
-      let before : (k : ℕ) → k < q → edge_of outputs k ≢ f = λ k lt e. omega (arith, e, rises k q lt there) in
-      let behind : (k : ℕ) → q < k → k < length outputs → edge_of outputs k ≢ f = λ k lt le e. omega (arith, e, rises q k lt le) in
-      subst (λ n. PutOnEach outputs n ms a w) next (record {
-        ends = shifted.ends;
-        sent = λ e. shifted.sent e ∙ ap (λ l. cond (ended (a.sent e)) (a.sent e) (a.sent e ++ l)) (one_more outputs rises q there ms e);
-        received = λ e. put.received e ∙ made.received e;
-        coming = λ e. elim (cases_eq e f) [
-          | inl at ↦ prefix_then (a.coming e) (u.coming e) (w.coming e) (made.coming e) (subst (λ k. IsPrefix (u.coming k) (w.coming k)) (sym at) put.coming_here)
-          | inr ne ↦ prefix_then (a.coming e) (u.coming e) (w.coming e) (made.coming e) (prefix_same (u.coming e) (w.coming e) (put.coming e ne))
-        ];
-        room = shifted.room;
-        room_here = λ k lt. elim (cases_eq k q) [
-          | inl at ↦ subst (λ k. a.room (edge_of outputs k) ≤ w.room (edge_of outputs k) + length ms) (sym at) (omega (arith, made.room_next q (omega arith) there, put.room_here))
-          | inr ne ↦ (let earlier : k < q = omega (arith, lt, ne) in omega (arith, made.room_here k earlier, put.room (edge_of outputs k) (before k earlier)))
-        ];
-        room_next = λ k le lt. let later : q < k = omega (arith, le) in omega (arith, made.room_next k (omega (arith, later)) lt, put.room (edge_of outputs k) (behind k later lt));
-      })
+-- what is shown of the kind, and lies in the block
+pub copied_units : (kind : Kind) (s : Shown) (block : Written) (count n : ℕ) → kind ≡ UnitKind → IsPrefix (unit_signals count) (shown_signals s) → n ≤ count → Copied kind n (shown_signals s) block
+copied_units kind s block count n of_kind seen within =
+    let is : unit_signals n ≡ take n (shown_signals s) = units_shown s count n seen within in
+    subst (λ k. Copied k n (shown_signals s) block) (sym of_kind) (record {
+      within = omega (arith, within, units_within s count seen);
+      fits = subst (EachFits UnitKind) is (fit_units n);
+      lie = λ steps. sym is;
+    })
 
--- a block that is taken, and put on each output, is so many instances
-module _ (inputs outputs : List ℕ) (p : ForkPorts) (at : ℕ) where
-  pub copies_went : (block : List Signal) (n : ℕ) → 0 < length inputs → Copies inputs outputs p at block n → 0 < n → ended block ≡ false → (a u w : View) → TakenAll a (edge_of inputs 0) block u → PutOnEach outputs (length outputs) block u w →
-      Went inputs outputs (behaviour_of fork_machine) (on inputs outputs p at idle) a (on inputs outputs p at idle) w n
-  copies_went block n reads copies some free a u w taken put =
-      let b = behaviour_of fork_machine in
-      let f = edge_of inputs 0 in
-      let start = shifted_skip inputs outputs (shifted_none inputs outputs a) 0 block u reads taken in
-      let shifted : Shifted inputs outputs (λ e. cond (eqb e f) block []) (λ e. cond (is_among outputs (length outputs) e) block []) a w = record {
-        ends = same_ends_then a u w taken.ends put.ends;
-        received = λ e. put.received e ∙ start.received e;
-        sent = λ e. put.sent e ∙ ap (λ l. cond (ended l) l (l ++ cond (is_among outputs (length outputs) e) block [])) (taken.sent e);
-        no_end = λ e. ended_block (is_among outputs (length outputs) e) block free;
-        coming = λ e none. prefix_then (a.coming e) (u.coming e) (w.coming e) (start.coming e none) (put.coming e);
-        room = λ e none. omega (arith, start.room e none, put.room e none);
-      } in
-      batch_went inputs outputs b copies shifted some
+pub copied_flags : (kind : Kind) (s : Shown) (block : Written) (flags : List Bool) (n : ℕ) → kind ≡ BoolKind → IsPrefix (flag_signals flags) (shown_signals s) → n ≤ length flags → take n block.flags ≡ take n flags → Copied kind n (shown_signals s) block
+copied_flags kind s block flags n of_kind seen within same =
+    let is : flag_signals (take n flags) ≡ take n (shown_signals s) = flags_shown s flags n seen within in
+    subst (λ k. Copied k n (shown_signals s) block) (sym of_kind) (record {
+      within = omega (arith, within, flags_within s flags seen);
+      fits = subst (EachFits BoolKind) is (fit_flags (take n flags));
+      lie = λ steps. sym is ∙ ap flag_signals (sym same);
+    })
 
--- no instance is no step
-pub copied_none : (kind : Kind) (from : ℕ) (outputs : List ℕ) (a : View) → CopiedOn kind from outputs a a 0
-copied_none kind from outputs a = λ inputs there is p of_kind counts at.
-    let b = behaviour_of fork_machine in
-    let s = on inputs outputs p at idle in
-    let none : 0 ≡ (length outputs + 1) * 0 = omega arith in
-    subst (Went inputs outputs b s a s a) none (went_none b inputs outputs s a)
+pub copied_ints : (kind : Kind) (s : Shown) (block : Written) (numbers : List ℤ) (n : ℕ) → kind ≡ IntKind → IsPrefix (int_signals numbers) (shown_signals s) → n ≤ length numbers → take n block.ints ≡ take n numbers → Copied kind n (shown_signals s) block
+copied_ints kind s block numbers n of_kind seen within same =
+    let is : int_signals (take n numbers) ≡ take n (shown_signals s) = ints_shown s numbers n seen within in
+    subst (λ k. Copied k n (shown_signals s) block) (sym of_kind) (record {
+      within = omega (arith, within, ints_within s numbers seen);
+      fits = subst (EachFits IntKind) is (fit_ints (take n numbers));
+      lie = λ steps. sym is ∙ ap int_signals (sym same);
+    })
 
 -- what is shown begins with its first item
 pub first_flag : (bs : List Bool) (c : List Signal) → IsPrefix (flag_signals bs) c → 0 < length bs → IsPrefix (carry (flag (slice_index_or bs 0 false)) ∷ []) c

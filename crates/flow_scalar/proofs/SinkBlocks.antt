@@ -1,20 +1,19 @@
--- Blocks that nothing is written for.
-use Rattle.std.proofs.Common.{◌≡◌, ℕ, ℤ, zero, suc, ◌+◌, ◌<◌, ◌≤◌, Bool, Ok, List, [], ◌∷◌, length, take, refl, subst, arith}
+-- Items that nothing is written for.
+use Rattle.std.proofs.Common.{◌≡◌, ℕ, ℤ, zero, suc, ◌+◌, ◌≤◌, Bool, List, [], ◌∷◌, length, take, refl, sym, arith}
 use Rattle.std.proofs.lemmas.List.{length-take-le}
-use Rattle.flow_messages.specs.Ends.{View, TakenAll}
-use Rattle.flow_messages.specs.Signals.{Signal}
 use Rattle.flow_messages.specs.Blocks.{unit_signals, flag_signals, int_signals}
+use Rattle.flow_messages.specs.Signals.{Signal, carry, stop}
 use Rattle.flow_messages.specs.declared.message.Kind.{Kind}
 use Rattle.flow_messages.specs.declared.message.Kind.TheVariants.{Unit as UnitKind, Bool as BoolKind, Int as IntKind}
-use Rattle.flow_base.specs.Machines.{on_kind}
-use Rattle.flow_base.specs.Nodes.{NodeState, behaviour_of, node_state}
-use Rattle.flow_base.specs.Visits.{edge_of, Went}
-use Rattle.flow_base.specs.declared.node.Phase.TheVariants.{Working}
-use Rattle.flow_base.proofs.Kernels.{leads_on, went_none}
+use Rattle.flow_base.specs.Along.{MovesAlong, shown_signals, written_at}
+use Rattle.flow_base.specs.declared.slices.Moved.{Moved}
+use Rattle.flow_base.specs.declared.slices.Shown.{Shown}
+use Rattle.flow_base.specs.declared.slices.Written.{Written}
+use Rattle.flow_base.proofs.Along.{Along, no_output, ran_as, ran_first, ran_none, ran_then}
+use Rattle.flow_base.proofs.Batches.{shown}
+use Rattle.flow_base.proofs.OverSlices.{prefix_long}
 use Rattle.flow_scalar.specs.SinkMachine.{sink_machine}
-use Rattle.flow_scalar.specs.SinkShown.{EachFits, Shown}
-use Rattle.flow_folds.proofs.SingleBlocks.{Swallows, swallows_none, swallows_one, swallows_more, swallows_went}
-use Rattle.flow_base.proofs.Batches.{skipped}
+use Rattle.flow_scalar.specs.SinkShown.{CountOf, EachFits}
 
 -- items of one kind fit
 pub fit_units : (n : ℕ) → EachFits UnitKind (unit_signals n)
@@ -34,25 +33,33 @@ fit_first kind zero block fits = tt
 fit_first kind (suc n) [] fits = tt
 fit_first kind (suc n) (m ∷ block) (fits, more) = (fits, fit_first kind n block more)
 
-module _ (inputs outputs : List ℕ) (kind : Kind) (at : ℕ) where
-  abbrev pub on : NodeState (Kind × Unit {0})
-  on = node_state (kind, tt) Working at
+-- each item is a step
+pub sink_steps : (kind : Kind) (block : List Signal) → EachFits kind block → Along sink_machine kind tt tt block [] (λ q. []) (length block)
+sink_steps kind [] fits = ran_none sink_machine kind tt
+sink_steps kind (carry x ∷ block) (fits, more) =
+    let m = sink_machine in
+    let one = ran_first m kind tt tt x refl fits in
+    let steps : 1 + length block ≡ length (carry x ∷ block) = omega arith in
+    ran_as m kind (ran_then m kind one (sink_steps kind block more)) (carry x ∷ block) [] (λ q. []) (length (carry x ∷ block)) refl refl (λ q. refl) steps
+sink_steps kind (stop ∷ block) (fits, more) = absurd fits
 
-  -- each item is a step
-  rounds : (block : List Signal) → EachFits kind block → Swallows inputs outputs (behaviour_of sink_machine) on on block (length block)
-  rounds [] fits = swallows_none inputs outputs (behaviour_of sink_machine) on
-  rounds (m ∷ block) (fits, more) =
-      let b = behaviour_of sink_machine in
-      let one = swallows_one inputs outputs b on on m refl (leads_on sink_machine kind tt tt at (on_kind kind (λ _. Ok tt)) m (λ y. refl) fits) in
-      let steps : 1 + length block ≡ length (m ∷ block) = omega arith in
-      subst (Swallows inputs outputs b on on (m ∷ block)) steps (swallows_more inputs outputs b (m ∷ []) block one (rounds block more))
-
-  -- what was shown is skipped
-  pub sink_went : (a w : View) (n count : ℕ) → 0 < length inputs → Shown kind n (a.coming (edge_of inputs 0)) → count ≤ n → 0 < count → TakenAll a (edge_of inputs 0) (take count (a.coming (edge_of inputs 0))) w → Went inputs outputs (behaviour_of sink_machine) on a on w count
-  sink_went a w n count reads shown within some taken =
-      let b = behaviour_of sink_machine in
-      let block = take count shown.block in
-      let long : length block ≡ count = length-take-le count shown.block (omega (arith, within, shown.long)) in
-      let took = skipped count shown.block block a (edge_of inputs 0) w shown.first (omega (arith, within, shown.long)) refl taken in
-      let steps : 0 + length block ≡ count = omega (arith, long) in
-      subst (Went inputs outputs b on a on w) steps (swallows_went inputs outputs b block reads (went_none b inputs outputs on a) (rounds block (fit_first kind count shown.block shown.fits)) (omega (arith, long, some)) w took)
+-- what was shown is read
+pub sink_moves : (kind : Kind) (first second : Shown) (block : Written) (space most n count : ℕ) → CountOf kind n (shown_signals first) → count ≤ n → count ≤ most →
+    MovesAlong sink_machine (kind, tt) (kind, tt) first second space most block (record { first = count; second = 0; units = 0; flags = 0; ints = 0; steps = count })
+sink_moves kind first second block space most n count shown_items within may =
+    let m = sink_machine in
+    let items = take count shown_items.block in
+    let made : Moved = record { first = count; second = 0; units = 0; flags = 0; ints = 0; steps = count } in
+    let in_block : count ≤ length shown_items.block = omega (arith, within, shown_items.long) in
+    let long : length items ≡ count = length-take-le count shown_items.block in_block in
+    record {
+      within = record {
+        first = omega (arith, in_block, prefix_long shown_items.block (shown_signals first) shown_items.first);
+        second = omega arith;
+        units = omega arith;
+        flags = omega arith;
+        ints = omega arith;
+        steps = may;
+      };
+      ran = ran_as m kind (sink_steps kind items (fit_first kind count shown_items.block shown_items.fits)) (take count (shown_signals first)) [] (written_at m kind block made) count (sym (shown shown_items.block (shown_signals first) count shown_items.first in_block)) refl (no_output m kind block made refl) long;
+    }

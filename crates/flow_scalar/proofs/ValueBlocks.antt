@@ -1,9 +1,8 @@
 -- Blocks of the values of operators.
-use Rattle.std.proofs.Common.{◌≡◌, ℕ, ◌+◌, ◌<◌, Bool, true, false, cond, List, [], ◌∷◌, ◌++◌, length, take, map, get_or, refl, sym, ◌∙◌, ap}
+use Rattle.std.proofs.Common.{◌≡◌, ℕ, ◌+◌, ◌<◌, List, [], ◌∷◌, ◌++◌, length, take, map, get_or, sym, ◌∙◌, ap}
 use Rattle.std.proofs.lemmas.List.{take_more, map-append}
 use Rattle.snesl_operators.specs.declared.scalar.Scalar.{Scalar}
-use Rattle.flow_messages.specs.Signals.{Signal, carry, ended}
-use Rattle.flow_messages.specs.Blocks.{int_signals}
+use Rattle.flow_messages.specs.Signals.{Signal, carry}
 use Rattle.flow_folds.specs.Scalars.{cell_of_scalar}
 
 -- what these values say
@@ -13,14 +12,3 @@ values_said said zs = map (λ z. carry (cell_of_scalar (said z))) zs
 -- one more of a block
 pub one_more : {A : Type 0} (f : A → Signal) (xs : List A) (n : ℕ) (none : A) → n < length xs → map f (take n xs) ++ f (get_or xs n none) ∷ [] ≡ map f (take (n + 1) xs)
 one_more f xs n none within = sym (ap (map f) (take_more xs n none within) ∙ map-append f (take n xs) (get_or xs n none ∷ []))
-
--- what items carry has not ended
-pub ended_values : {A : Type 0} (said : A → Scalar) (zs : List A) → ended (values_said said zs) ≡ false
-unfolding ended
-ended_values said [] = refl
-ended_values said (z ∷ zs) = ended_values said zs
-
--- a block of nothing
-pub no_block : (b : Bool) → int_signals [] ≡ cond b (int_signals []) []
-no_block true = refl
-no_block false = refl

@@ -1,5 +1,5 @@
 -- The machine of Iota: a flag and a number for each number below the one that is read.
-use Rattle.std.specs.Prelude.{◌==◌, if◌then◌else◌, ℕ, ◌+◌, ◌*◌, ℤ, pos, negsuc, ◌+ℤ◌, ◌-ℤ◌, int_lt, Bool, false, cond, not, Result, Ok, Err}
+use Rattle.std.specs.Prelude.{◌==◌, if◌then◌else◌, ℕ, zero, suc, ◌+◌, ◌*◌, ℤ, pos, negsuc, ◌+ℤ◌, ◌-ℤ◌, int_lt, Bool, false, cond, not, List, [], ◌∷◌, Result, Ok, Err}
 use Rattle.snesl_data.specs.declared.dialect.Dialect.{Dialect}
 use Rattle.snesl_data.specs.declared.fault.FaultKind.{FaultKind}
 use Rattle.snesl_data.specs.declared.fault.FaultKind.TheVariants.{NegativeCount}
@@ -24,6 +24,11 @@ natural_of (negsuc n) = 0
 -- how many numbers there are from this one on below the end
 abbrev pub count_left : ℤ → ℤ → ℕ
 count_left number end = natural_of (end -ℤ number)
+
+-- so many numbers from this one on
+abbrev pub numbers_from : ℤ → ℕ → List ℤ
+numbers_from next zero = []
+numbers_from next (suc n) = next ∷ numbers_from (next +ℤ pos 1) n
 
 -- a number starts a segment at 0; a negative one starts none
 abbrev pub first_flag : ℤ → Result Iota FaultKind

@@ -1,5 +1,4 @@
 pub mod BinaryMachine
-pub mod ConstCopies
 pub mod ConstMachine
 pub mod ForkCopies
 pub mod ForkMachine

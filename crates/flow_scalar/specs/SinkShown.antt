@@ -10,9 +10,9 @@ abbrev pub EachFits : Kind → List Signal → Type 0
 EachFits kind [] = Unit {0}
 EachFits kind (m ∷ ms) = Leads (on_kind kind (λ _. Ok (tt {0}))) m tt × EachFits kind ms
 
--- so many items of the kind are certain, one after another
-pub record Shown (kind : Kind) (n : ℕ) (coming : List Signal) : Type 0 where
+-- so many items of the kind are shown, one after another
+pub record CountOf (kind : Kind) (n : ℕ) (shown : List Signal) : Type 0 where
   pub block : List Signal
-  pub first : IsPrefix block coming
+  pub first : IsPrefix block shown
   pub long : length block ≡ n
   pub fits : EachFits kind block

@@ -1,20 +1,14 @@
 // Operators on two scalars.
 
-ghost use Rattle.std.specs.Prelude.{◌≡◌, ◌≢◌, ◌*ℤ◌, ℕ, ◌≤◌, length, Ok, IfSome, false};
-ghost use Rattle.flow_base.specs.Nodes.{behaviour_of, node_state};
-ghost use Rattle.flow_base.specs.Visits.{edge_of, IsWired, TakeKinds, Went};
-ghost use Rattle.flow_base.specs.declared.node.Phase.TheVariants.{Working};
-ghost use Rattle.flow_messages.specs.declared.message.Kind.TheVariants.{Bool as BoolKind, Int as IntKind};
-ghost use Rattle.flow_messages.specs.Ends.{SameEnds};
+ghost use Rattle.std.specs.Prelude.{◌≡◌, ◌*ℤ◌, ◌≤◌, length, Ok, IfSome, false};
 ghost use Rattle.snesl_operators.specs.Operators.{binary_value};
 ghost use Rattle.snesl_operators.specs.declared.scalar.Scalar.TheVariants.{Int};
-ghost use Rattle.flow_scalar.specs.BinaryMachine.{binary_machine, binary_view, IntsAt, FlagsAt};
-ghost use Rattle.flow_scalar.specs.declared.binary.Progress.TheVariants.{Start};
+ghost use Rattle.flow_scalar.specs.BinaryMachine.{IntsAt, FlagsAt};
 
 use crate::operand::{narrow_of, operand_of};
-use flow_base::{Ask, BLOCK, SHORT_BLOCK, Stop, Worker};
+use flow_base::{Ask, Moved, Shown, Stop, Worker, Written};
 use flow_folds::{item_of, kind_of};
-use flow_messages::{Ends, Flat, Item, Kind};
+use flow_messages::{Flat, Item, Kind};
 use snesl_data::Dialect;
 use snesl_operators::{BinaryOperator, Scalar, ScalarType};
 use std::alloc::AllocError;
@@ -78,10 +72,10 @@ fn flags_by(
     dialect: Dialect,
     lefts: &[i64],
     rights: &[i64],
-    values: &mut [bool; BLOCK],
+    values: &mut [bool],
 ) -> usize
     requires rights { length lefts.now ≤ length rights.now }
-    requires block { length lefts.now ≤ 64 }
+    requires block { length lefts.now ≤ length values.old }
     ensures within { result ≤ length lefts.now }
     ensures values { FlagsAt dialect operator lefts.now rights.now values.new result }
 {
@@ -162,21 +156,15 @@ impl Binary {
 
     // The truth values at the first of these pairs, as many as there is room for and as do not fault.
     #[inline(always)]
-    fn flags_of(
-        &self,
-        lefts: &[i64],
-        rights: &[i64],
-        room: usize,
-        values: &mut [bool; BLOCK],
-    ) -> usize
+    fn flags_of(&self, lefts: &[i64], rights: &[i64], room: usize, values: &mut [bool]) -> usize
         ensures room { result ≤ room }
         ensures lefts { result ≤ length lefts.now }
         ensures rights { result ≤ length rights.now }
-        ensures block { result ≤ 64 }
+        ensures block { result ≤ length values.new }
         ensures values { FlagsAt self.now.dialect self.now.operator lefts.now rights.now values.new
             result }
     {
-        let whole = lefts.len().min(rights.len()).min(room).min(BLOCK);
+        let whole = lefts.len().min(rights.len()).min(room).min(values.len());
         let lefts = &lefts[..whole];
         let rights = &rights[..whole];
         let dialect = self.dialect;
@@ -205,136 +193,6 @@ impl Binary {
             }
             // No other gives a truth value at two integers.
             _ => 0,
-        }
-    }
-
-    // Whole rounds over integers, to integers, through a block that is lent.
-    #[inline(always)]
-    fn int_blocks<E: Ends>(
-        &self,
-        inputs: &[usize],
-        outputs: &[usize],
-        ends: &mut E,
-        most: usize,
-        values: &mut [i64],
-    ) -> usize
-        requires start { self.now.progress ≡ Start }
-        requires apart { edge_of inputs.now 0 ≢ edge_of inputs.now 1 }
-        requires wired { IsWired inputs.now outputs.now 2 1 (E.view ends.old) }
-        requires kinds { TakeKinds outputs.now (λ _. IntKind) (E.view ends.old) }
-        ensures same { E.same ends.old ends.new }
-        ensures ends { SameEnds (E.view ends.old) (E.view ends.new) }
-        ensures within { result ≤ most }
-        ensures went { (at : ℕ) → Went inputs.now outputs.now (behaviour_of binary_machine)
-            (node_state (binary_view self.now) Working at) (E.view ends.old)
-            (node_state (binary_view self.now) Working at) (E.view ends.new) result }
-    {
-        let lefts = inputs[0];
-        let rights = inputs[1];
-        let to = outputs[0];
-        let mut made = 0;
-        'rounds: loop {
-            let room = ends.space(to).min((most - made) / 3);
-            // Where nothing can be written, no operand is looked at.
-            if room == 0 {
-                return made;
-            }
-            let count = self.ints_of(ends.ints(lefts), ends.ints(rights), room, values);
-            if count == 0 {
-                return made;
-            }
-            ends.skip(lefts, count);
-            ends.skip(rights, count);
-            ends.put_ints(to, &values[..count]);
-            made += 3 * count;
-        }
-    }
-
-    // The same through a short block, in short visits. It stands alone, so that such a visit pays for no longer one.
-    #[inline(never)]
-    fn few_ints<E: Ends>(
-        &self,
-        inputs: &[usize],
-        outputs: &[usize],
-        ends: &mut E,
-        most: usize,
-    ) -> usize
-        requires start { self.now.progress ≡ Start }
-        requires apart { edge_of inputs.now 0 ≢ edge_of inputs.now 1 }
-        requires wired { IsWired inputs.now outputs.now 2 1 (E.view ends.old) }
-        requires kinds { TakeKinds outputs.now (λ _. IntKind) (E.view ends.old) }
-        ensures same { E.same ends.old ends.new }
-        ensures ends { SameEnds (E.view ends.old) (E.view ends.new) }
-        ensures within { result ≤ most }
-        ensures went { (at : ℕ) → Went inputs.now outputs.now (behaviour_of binary_machine)
-            (node_state (binary_view self.now) Working at) (E.view ends.old)
-            (node_state (binary_view self.now) Working at) (E.view ends.new) result }
-    {
-        self.int_blocks(inputs, outputs, ends, most, &mut [0; SHORT_BLOCK])
-    }
-
-    // The same in long visits.
-    #[inline(never)]
-    fn many_ints<E: Ends>(
-        &self,
-        inputs: &[usize],
-        outputs: &[usize],
-        ends: &mut E,
-        most: usize,
-    ) -> usize
-        requires start { self.now.progress ≡ Start }
-        requires apart { edge_of inputs.now 0 ≢ edge_of inputs.now 1 }
-        requires wired { IsWired inputs.now outputs.now 2 1 (E.view ends.old) }
-        requires kinds { TakeKinds outputs.now (λ _. IntKind) (E.view ends.old) }
-        ensures same { E.same ends.old ends.new }
-        ensures ends { SameEnds (E.view ends.old) (E.view ends.new) }
-        ensures within { result ≤ most }
-        ensures went { (at : ℕ) → Went inputs.now outputs.now (behaviour_of binary_machine)
-            (node_state (binary_view self.now) Working at) (E.view ends.old)
-            (node_state (binary_view self.now) Working at) (E.view ends.new) result }
-    {
-        self.int_blocks(inputs, outputs, ends, most, &mut [0; BLOCK])
-    }
-
-    // Whole rounds over blocks of integers, to a block of truth values.
-    #[inline(never)]
-    fn flag_blocks<E: Ends>(
-        &self,
-        inputs: &[usize],
-        outputs: &[usize],
-        ends: &mut E,
-        most: usize,
-    ) -> usize
-        requires start { self.now.progress ≡ Start }
-        requires apart { edge_of inputs.now 0 ≢ edge_of inputs.now 1 }
-        requires wired { IsWired inputs.now outputs.now 2 1 (E.view ends.old) }
-        requires kinds { TakeKinds outputs.now (λ _. BoolKind) (E.view ends.old) }
-        ensures same { E.same ends.old ends.new }
-        ensures ends { SameEnds (E.view ends.old) (E.view ends.new) }
-        ensures within { result ≤ most }
-        ensures went { (at : ℕ) → Went inputs.now outputs.now (behaviour_of binary_machine)
-            (node_state (binary_view self.now) Working at) (E.view ends.old)
-            (node_state (binary_view self.now) Working at) (E.view ends.new) result }
-    {
-        let lefts = inputs[0];
-        let rights = inputs[1];
-        let to = outputs[0];
-        let mut values = [false; BLOCK];
-        let mut made = 0;
-        'rounds: loop {
-            let room = ends.space(to).min((most - made) / 3);
-            // Where nothing can be written, no operand is looked at.
-            if room == 0 {
-                return made;
-            }
-            let count = self.flags_of(ends.ints(lefts), ends.ints(rights), room, &mut values);
-            if count == 0 {
-                return made;
-            }
-            ends.skip(lefts, count);
-            ends.skip(rights, count);
-            ends.put_flags(to, &values[..count]);
-            made += 3 * count;
         }
     }
 }
@@ -394,7 +252,7 @@ impl Worker for Binary {
 
     #[inline(always)]
     fn take(&mut self, item: Item) -> Result<(), Stop> {
-        let operand = operand_of(self.operator.operand(), &item)?;
+        let operand = operand_of(self.operator.operand(), item)?;
         self.progress = match self.progress {
             Progress::Start => Progress::Left(operand),
             Progress::Left(left) => {
@@ -420,28 +278,47 @@ impl Worker for Binary {
         matches!(self.progress, Progress::Start)
     }
 
+    // Two operands are two steps, and their value is one more.
     #[inline(always)]
-    fn blocks<E: Ends>(
+    fn along(
         &mut self,
-        inputs: &[usize],
-        outputs: &[usize],
-        ends: &mut E,
+        first: Shown<'_>,
+        second: Shown<'_>,
+        block: &mut Written,
+        space: usize,
         most: usize,
-    ) -> usize {
+    ) -> Moved {
         let Progress::Start = self.progress else {
-            return 0;
+            return Moved::nothing();
         };
-        // Two blocks of one edge are not seen at once.
-        if inputs[0] == inputs[1] {
-            return 0;
-        }
-        if ends.ints(inputs[0]).is_empty() || ends.ints(inputs[1]).is_empty() {
-            return 0;
-        }
+        // Pairs of truth values are left to single steps.
+        let (Shown::Ints(lefts), Shown::Ints(rights)) = (first, second) else {
+            return Moved::nothing();
+        };
+        let room = space.min(most / 3);
         match self.operator.result() {
-            ScalarType::Int if most < BLOCK => self.few_ints(inputs, outputs, ends, most),
-            ScalarType::Int => self.many_ints(inputs, outputs, ends, most),
-            ScalarType::Bool => self.flag_blocks(inputs, outputs, ends, most),
+            ScalarType::Int => {
+                let count = self.ints_of(lefts, rights, room, &mut block.ints);
+                Moved {
+                    first: count,
+                    second: count,
+                    units: 0,
+                    flags: 0,
+                    ints: count,
+                    steps: 3 * count,
+                }
+            }
+            ScalarType::Bool => {
+                let count = self.flags_of(lefts, rights, room, &mut block.flags);
+                Moved {
+                    first: count,
+                    second: count,
+                    units: 0,
+                    flags: count,
+                    ints: 0,
+                    steps: 3 * count,
+                }
+            }
         }
     }
 }

@@ -1,17 +1,13 @@
 // A constant, once for each item.
 
-ghost use Rattle.std.specs.Prelude.{◌≡◌, ◌≤◌, true, false, length, replicate};
-ghost use Rattle.flow_messages.specs.declared.message.Kind.TheVariants.{Bool as BoolKind, Int as IntKind};
-ghost use Rattle.flow_messages.specs.Ends.{SameEnds};
-ghost use Rattle.flow_messages.specs.Kinds.{TakesKind};
+ghost use Rattle.std.specs.Prelude.{◌≡◌, ◌<◌, ◌≤◌, ℕ, true, false, get_or, length, pos};
 ghost use Rattle.flow_messages.specs.Signals.{carry, signal_of};
 ghost use Rattle.flow_messages.specs.Flats.{message_of};
 ghost use Rattle.flow_folds.specs.Scalars.{cell_of_scalar};
-ghost use Rattle.flow_scalar.specs.ConstCopies.{WrittenFor};
 
-use flow_base::{Ask, BLOCK, SHORT_BLOCK, Stop, Worker};
+use flow_base::{Ask, Moved, Shown, Stop, Worker, Written};
 use flow_folds::{item_of, kind_of};
-use flow_messages::{Ends, Flat, Item, Kind};
+use flow_messages::{Flat, Item, Kind};
 use snesl_data::FaultKind;
 use snesl_operators::Scalar;
 use std::alloc::AllocError;
@@ -37,67 +33,27 @@ fn flat_of(scalar: Scalar) -> Flat
     }
 }
 
-// Writes the integer once for each unit that is shown, where there is room, from copies of it that are lent. How many steps: two
-// for each unit.
+// Puts the integer in the first so many places.
 #[inline(always)]
-fn ints_for_units<E: Ends>(
-    ends: &mut E,
-    from: usize,
-    to: usize,
-    number: i64,
-    copies: &[i64],
-    most: usize,
-) -> usize
-    requires copies { copies.now ≡ replicate (length copies.now) number }
-    requires reads { (E.view ends.old).reads from ≡ true }
-    requires writes { (E.view ends.old).writes to ≡ true }
-    requires kind { TakesKind ((E.view ends.old).kind to) IntKind }
-    ensures same { E.same ends.old ends.new }
-    ensures ends { SameEnds (E.view ends.old) (E.view ends.new) }
-    ensures within { result ≤ most }
-    ensures written { WrittenFor (Scalar.Int number) from to (E.view ends.old)
-        (E.view ends.new) result }
+fn fill_ints(places: &mut [i64], count: usize, number: i64)
+    requires { count ≤ length places.old }
+    ensures length { length places.new ≡ length places.old }
+    ensures filled { (k : ℕ) → k < count → get_or places.new k (pos 0) ≡ number }
 {
-    let mut made = 0;
-    'rounds: loop {
-        let room = ends.space(to);
-        let count = ends
-            .units(from)
-            .min(room)
-            .min((most - made) / 2)
-            .min(copies.len());
-        if count == 0 {
-            return made;
-        }
-        ends.skip(from, count);
-        ends.put_ints(to, &copies[..count]);
-        made += 2 * count;
+    for place in 0..count {
+        places[place] = number;
     }
 }
 
-// Writes the truth value once for each unit that is shown, where there is room. How many steps: two for each unit.
+// Puts the truth value in the first so many places.
 #[inline(always)]
-fn flags_for_units<E: Ends>(ends: &mut E, from: usize, to: usize, truth: bool, most: usize) -> usize
-    requires reads { (E.view ends.old).reads from ≡ true }
-    requires writes { (E.view ends.old).writes to ≡ true }
-    requires kind { TakesKind ((E.view ends.old).kind to) BoolKind }
-    ensures same { E.same ends.old ends.new }
-    ensures ends { SameEnds (E.view ends.old) (E.view ends.new) }
-    ensures within { result ≤ most }
-    ensures written { WrittenFor (Scalar.Bool truth) from to (E.view ends.old)
-        (E.view ends.new) result }
+fn fill_flags(places: &mut [bool], count: usize, truth: bool)
+    requires { count ≤ length places.old }
+    ensures length { length places.new ≡ length places.old }
+    ensures filled { (k : ℕ) → k < count → get_or places.new k false ≡ truth }
 {
-    let block = [truth; BLOCK];
-    let mut made = 0;
-    loop {
-        let room = ends.space(to);
-        let count = ends.units(from).min(room).min((most - made) / 2).min(BLOCK);
-        if count == 0 {
-            return made;
-        }
-        ends.skip(from, count);
-        ends.put_flags(to, &block[..count]);
-        made += 2 * count;
+    for place in 0..count {
+        places[place] = truth;
     }
 }
 
@@ -178,30 +134,48 @@ impl Worker for Const {
         !self.due
     }
 
+    // A unit is one step, and the scalar one more.
     #[inline(always)]
-    fn blocks<E: Ends>(
+    fn along(
         &mut self,
-        inputs: &[usize],
-        outputs: &[usize],
-        ends: &mut E,
+        first: Shown<'_>,
+        second: Shown<'_>,
+        block: &mut Written,
+        space: usize,
         most: usize,
-    ) -> usize {
-        let from = inputs[0];
-        // Where no units are shown, the output is not looked at.
-        if self.due || ends.units(from) == 0 {
-            return 0;
+    ) -> Moved {
+        if self.due {
+            return Moved::nothing();
         }
-        let to = outputs[0];
-        let number = match self.scalar {
-            Scalar::Int(number) => number,
-            Scalar::Bool(truth) => return flags_for_units(ends, from, to, truth, most),
-        };
-        match i64::try_from(number) {
-            Ok(narrow) if most < BLOCK => {
-                ints_for_units(ends, from, to, narrow, &[narrow; SHORT_BLOCK], most)
+        let units = first.units();
+        let whole = units.min(space).min(most / 2);
+        match self.scalar {
+            Scalar::Bool(truth) => {
+                fill_flags(&mut block.flags, whole, truth);
+                Moved {
+                    first: whole,
+                    second: 0,
+                    units: 0,
+                    flags: whole,
+                    ints: 0,
+                    steps: 2 * whole,
+                }
             }
-            Ok(narrow) => ints_for_units(ends, from, to, narrow, &[narrow; BLOCK], most),
-            Err(_) => 0,
+            Scalar::Int(number) => {
+                // An integer of more bits is left to single steps.
+                let Ok(narrow) = i64::try_from(number) else {
+                    return Moved::nothing();
+                };
+                fill_ints(&mut block.ints, whole, narrow);
+                Moved {
+                    first: whole,
+                    second: 0,
+                    units: 0,
+                    flags: 0,
+                    ints: whole,
+                    steps: 2 * whole,
+                }
+            }
         }
     }
 }

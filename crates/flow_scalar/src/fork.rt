@@ -1,20 +1,21 @@
 // Copies of each item.
 
-ghost use Rattle.std.specs.Prelude.{◌*◌, ◌^◌, suc, ◌≡◌, ◌+◌, ◌<◌, ◌≤◌, ℕ, true, false, Ok, List, [], ◌∷◌, length, IfSome};
+ghost use Rattle.std.specs.Prelude.{◌*◌, suc, ◌≡◌, ◌+◌, ◌<◌, ◌≤◌, ℕ, true, false, Ok, List, [], ◌∷◌, length, IfSome};
 ghost use mathlib.Core.List.{IsPrefix};
 ghost use Rattle.std.specs.List.{All};
 ghost use Rattle.flow_messages.specs.Cells.{cell_of, is_of};
 ghost use Rattle.flow_messages.specs.Ends.{SameEnds};
 ghost use Rattle.flow_messages.specs.Kinds.{FitsEdge};
 ghost use Rattle.flow_messages.specs.Signals.{carry};
+ghost use Rattle.flow_base.specs.Along.{shown_signals};
 ghost use Rattle.flow_base.specs.Machines.{Leads, on_kind};
 ghost use Rattle.flow_base.specs.Nodes.{NodeState, behaviour_of, node_state};
 ghost use Rattle.flow_base.specs.Visits.{edge_of, IsWired, TakeKinds, Went, Wrote};
 ghost use Rattle.flow_base.specs.declared.node.Phase.TheVariants.{Working};
+ghost use Rattle.flow_scalar.specs.ForkCopies.{Copied};
 ghost use Rattle.flow_scalar.specs.ForkMachine.{ForkPorts, ForkState, fork_ports, fork_machine, idle, holding};
 
-use crate::copies::block_to_each;
-use flow_base::{Ask, BLOCK, SHORT_BLOCK, Stop, Worker, put_in_space, take_front};
+use flow_base::{Ask, Moved, Shown, Stop, Worker, Written, put_in_space, take_front};
 use flow_messages::{Ends, Flat, Item, Kind, Msg};
 use snesl_data::FaultKind;
 use std::alloc::AllocError;
@@ -71,7 +72,7 @@ impl Fork {
             result }
     {
         let item = match &self.held {
-            None | Some(Item::Vec(_)) => return 0,
+            None | Some(Item::Vec(_) | Item::Typed(_)) => return 0,
             Some(item) => copy_of(item),
         };
         // An item of another kind is left to single steps; it holds none.
@@ -158,270 +159,46 @@ impl Fork {
         }
         made
     }
-
-    // Copies items of its kind that are shown to each output, through blocks that are lent, at most so many. How many.
-    #[inline(always)]
-    fn instances<E: Ends>(
-        &self,
-        kind: Kind,
-        inputs: &[usize],
-        outputs: &[usize],
-        ends: &mut E,
-        whole: usize,
-        flags: &mut [bool],
-        ints: &mut [i64],
-    ) -> usize
-        requires idle { self.now.held ≡ None }
-        requires kind { self.now.kind ≡ kind }
-        requires outputs { suc (fork_ports self.now.kind self.now.outputs).others ≡
-            length outputs.now }
-        requires wired { IsWired inputs.now outputs.now 1 (length outputs.now)
-            (E.view ends.old) }
-        requires kinds { TakeKinds outputs.now (λ _. self.now.kind) (E.view ends.old) }
-        requires rise { (p q : ℕ) → p < q → q < length outputs.now →
-            edge_of outputs.now p < edge_of outputs.now q }
-        requires room { (q : ℕ) → q < length outputs.now →
-            whole ≤ (E.view ends.old).room (edge_of outputs.now q) }
-        ensures same { E.same ends.old ends.new }
-        ensures ends { SameEnds (E.view ends.old) (E.view ends.new) }
-        ensures within { result ≤ whole }
-        ensures went { (at : ℕ) → Went inputs.now outputs.now (behaviour_of fork_machine)
-            (node_state (⟦<Fork as Worker>⟧.state self.now) Working at) (E.view ends.old)
-            (node_state (⟦<Fork as Worker>⟧.state self.now) Working at) (E.view ends.new)
-            ((length outputs.now + 1) * result) }
-    {
-        let mut made = 0;
-        while made < whole {
-            let left = whole - made;
-            let count = block_to_each(ends, kind, inputs[0], outputs, left, flags, ints);
-            if count == 0 {
-                return made;
-            }
-            made += count;
-        }
-        made
-    }
-
-    // Whole instances over slices, through blocks that are lent, at most `most` steps. How many steps. The kind is its own;
-    // where the caller knows it, nothing is asked of the others.
-    #[inline(always)]
-    fn copies<E: Ends>(
-        &self,
-        kind: Kind,
-        inputs: &[usize],
-        outputs: &[usize],
-        ends: &mut E,
-        most: usize,
-        flags: &mut [bool],
-        ints: &mut [i64],
-    ) -> usize
-        requires kind { self.now.kind ≡ kind }
-        requires outputs { suc (fork_ports self.now.kind self.now.outputs).others ≡
-            length outputs.now }
-        requires wired { IsWired inputs.now outputs.now 1 (length outputs.now)
-            (E.view ends.old) }
-        requires kinds { TakeKinds outputs.now (λ _. self.now.kind) (E.view ends.old) }
-        ensures same { E.same ends.old ends.new }
-        ensures ends { SameEnds (E.view ends.old) (E.view ends.new) }
-        ensures within { result ≤ most }
-        ensures went { (at : ℕ) → Went inputs.now outputs.now (behaviour_of fork_machine)
-            (node_state (⟦<Fork as Worker>⟧.state self.now) Working at) (E.view ends.old)
-            (node_state (⟦<Fork as Worker>⟧.state self.now) Working at) (E.view ends.new)
-            result }
-    {
-        // Where nothing is shown, no output is looked at.
-        if self.held.is_some() || !shows(ends, inputs[0], kind) {
-            return 0;
-        }
-        // The room of an edge is certain for one output alone.
-        if !rise(outputs) {
-            return 0;
-        }
-        // An instance is a step for each output and one more.
-        let steps = outputs.len() + 1;
-        let whole = least_space(ends, outputs).min(instances_within(most, outputs.len()));
-        steps * self.instances(kind, inputs, outputs, ends, whole, flags, ints)
-    }
-
-    // The copies of integers in a short visit. It stands alone, as do the next three, so that a visit pays for one block.
-    #[inline(never)]
-    fn few_ints<E: Ends>(
-        &self,
-        inputs: &[usize],
-        outputs: &[usize],
-        ends: &mut E,
-        most: usize,
-    ) -> usize
-        requires kind { self.now.kind ≡ Kind.Int }
-        requires outputs { suc (fork_ports self.now.kind self.now.outputs).others ≡
-            length outputs.now }
-        requires wired { IsWired inputs.now outputs.now 1 (length outputs.now)
-            (E.view ends.old) }
-        requires kinds { TakeKinds outputs.now (λ _. self.now.kind) (E.view ends.old) }
-        ensures same { E.same ends.old ends.new }
-        ensures ends { SameEnds (E.view ends.old) (E.view ends.new) }
-        ensures within { result ≤ most }
-        ensures went { (at : ℕ) → Went inputs.now outputs.now (behaviour_of fork_machine)
-            (node_state (⟦<Fork as Worker>⟧.state self.now) Working at) (E.view ends.old)
-            (node_state (⟦<Fork as Worker>⟧.state self.now) Working at) (E.view ends.new)
-            result }
-    {
-        self.copies(
-            Kind::Int,
-            inputs,
-            outputs,
-            ends,
-            most,
-            &mut [],
-            &mut [0; SHORT_BLOCK],
-        )
-    }
-
-    // The copies of integers in a long visit.
-    #[inline(never)]
-    fn many_ints<E: Ends>(
-        &self,
-        inputs: &[usize],
-        outputs: &[usize],
-        ends: &mut E,
-        most: usize,
-    ) -> usize
-        requires kind { self.now.kind ≡ Kind.Int }
-        requires outputs { suc (fork_ports self.now.kind self.now.outputs).others ≡
-            length outputs.now }
-        requires wired { IsWired inputs.now outputs.now 1 (length outputs.now)
-            (E.view ends.old) }
-        requires kinds { TakeKinds outputs.now (λ _. self.now.kind) (E.view ends.old) }
-        ensures same { E.same ends.old ends.new }
-        ensures ends { SameEnds (E.view ends.old) (E.view ends.new) }
-        ensures within { result ≤ most }
-        ensures went { (at : ℕ) → Went inputs.now outputs.now (behaviour_of fork_machine)
-            (node_state (⟦<Fork as Worker>⟧.state self.now) Working at) (E.view ends.old)
-            (node_state (⟦<Fork as Worker>⟧.state self.now) Working at) (E.view ends.new)
-            result }
-    {
-        self.copies(
-            Kind::Int,
-            inputs,
-            outputs,
-            ends,
-            most,
-            &mut [],
-            &mut [0; BLOCK],
-        )
-    }
-
-    // The copies of truth values and of units.
-    #[inline(never)]
-    fn flags_or_units<E: Ends>(
-        &self,
-        inputs: &[usize],
-        outputs: &[usize],
-        ends: &mut E,
-        most: usize,
-    ) -> usize
-        requires outputs { suc (fork_ports self.now.kind self.now.outputs).others ≡
-            length outputs.now }
-        requires wired { IsWired inputs.now outputs.now 1 (length outputs.now)
-            (E.view ends.old) }
-        requires kinds { TakeKinds outputs.now (λ _. self.now.kind) (E.view ends.old) }
-        ensures same { E.same ends.old ends.new }
-        ensures ends { SameEnds (E.view ends.old) (E.view ends.new) }
-        ensures within { result ≤ most }
-        ensures went { (at : ℕ) → Went inputs.now outputs.now (behaviour_of fork_machine)
-            (node_state (⟦<Fork as Worker>⟧.state self.now) Working at) (E.view ends.old)
-            (node_state (⟦<Fork as Worker>⟧.state self.now) Working at) (E.view ends.new)
-            result }
-    {
-        self.copies(
-            self.kind,
-            inputs,
-            outputs,
-            ends,
-            most,
-            &mut [false; BLOCK],
-            &mut [],
-        )
-    }
-
-    // The copies of truth values in a short visit.
-    #[inline(never)]
-    fn few_flags<E: Ends>(
-        &self,
-        inputs: &[usize],
-        outputs: &[usize],
-        ends: &mut E,
-        most: usize,
-    ) -> usize
-        requires kind { self.now.kind ≡ Kind.Bool }
-        requires outputs { suc (fork_ports self.now.kind self.now.outputs).others ≡
-            length outputs.now }
-        requires wired { IsWired inputs.now outputs.now 1 (length outputs.now)
-            (E.view ends.old) }
-        requires kinds { TakeKinds outputs.now (λ _. self.now.kind) (E.view ends.old) }
-        ensures same { E.same ends.old ends.new }
-        ensures ends { SameEnds (E.view ends.old) (E.view ends.new) }
-        ensures within { result ≤ most }
-        ensures went { (at : ℕ) → Went inputs.now outputs.now (behaviour_of fork_machine)
-            (node_state (⟦<Fork as Worker>⟧.state self.now) Working at) (E.view ends.old)
-            (node_state (⟦<Fork as Worker>⟧.state self.now) Working at) (E.view ends.new)
-            result }
-    {
-        self.copies(
-            Kind::Bool,
-            inputs,
-            outputs,
-            ends,
-            most,
-            &mut [false; SHORT_BLOCK],
-            &mut [],
-        )
-    }
 }
 
-// Whether no two edges are the same: each has a greater number than the one before it, as it has where the outputs were
-// joined in their order.
-fn rise(edges: &[usize]) -> bool
-    ensures { result ≡ true → (p q : ℕ) → p < q → q < length edges.now →
-        edge_of edges.now p < edge_of edges.now q }
-{
-    for port in 1..edges.len() {
-        if edges[port] <= edges[port - 1] {
-            return false;
-        }
-    }
-    true
-}
-
-// How many instances make at most so many steps. Most forks have two outputs, and a division by a number that is known takes less.
+// How many instances make at most so many steps: each is a step for the item and one for each output. Most forks have two
+// outputs, and a division by a number that is known takes less.
 #[inline(always)]
 fn instances_within(most: usize, outputs: usize) -> usize
-    requires { outputs < 2 ^ 63 }
-    ensures { (outputs + 1) * result ≤ most }
+    ensures { result + outputs * result ≤ most }
 {
+    if most <= outputs {
+        return 0;
+    }
     if outputs == 2 {
         return most / 3;
     }
     most / (outputs + 1)
 }
 
-// How many messages each of the outputs has room for. To look for room is no step.
+// Copies items of the kind that are shown to the block, at most `room`. How many.
 #[inline(always)]
-fn least_space<E: Ends>(ends: &mut E, outputs: &[usize]) -> usize
-    requires writes { All (λ e. (E.view ends.old).writes e ≡ true) outputs.now }
-    ensures same { E.same ends.old ends.new }
-    ensures ends { SameEnds (E.view ends.old) (E.view ends.new) }
-    ensures room { (q : ℕ) → q < length outputs.now →
-        result ≤ (E.view ends.new).room (edge_of outputs.now q) }
-    ensures went { (inputs : List ℕ) → (s : NodeState (ForkPorts × ForkState)) →
-        Went inputs outputs.now (behaviour_of fork_machine) s (E.view ends.old) s
-        (E.view ends.new) 0 }
+fn copy_shown(kind: Kind, shown: Shown<'_>, room: usize, block: &mut Written) -> usize
+    requires places { room ≤ 256 }
+    ensures room { result ≤ room }
+    ensures copied { Copied kind result (shown_signals shown.entry) block.new }
 {
-    let mut least = usize::MAX;
-    for port in 0..outputs.len() {
-        least = least.min(ends.space(outputs[port]));
+    match kind {
+        Kind::Unit => shown.units().min(room),
+        Kind::Bool => {
+            let flags = shown.flags();
+            let count = flags.len().min(room);
+            block.flags[..count].copy_from_slice(&flags[..count]);
+            count
+        }
+        Kind::Int => {
+            let ints = shown.ints();
+            let count = ints.len().min(room);
+            block.ints[..count].copy_from_slice(&ints[..count]);
+            count
+        }
+        Kind::Vec => 0,
     }
-    least
 }
 
 // Another item that carries the same. It takes no memory, and so cannot fail.
@@ -434,7 +211,7 @@ fn copy_of(item: &Item) -> Item
         Item::Unit => Item::Unit,
         Item::Bool(truth) => Item::Bool(*truth),
         Item::Int(number) => Item::Int(*number),
-        Item::Vec(_) => unreachable!(),
+        Item::Vec(_) | Item::Typed(_) => unreachable!(),
     }
 }
 
@@ -455,20 +232,7 @@ fn put_copy<E: Ends>(ends: &mut E, edge: usize, item: &Item)
             Ok(narrow) => ends.put_ints(edge, &[narrow]),
             Err(_) => put_in_space(ends, edge, Msg::Item(Item::Int(*number))),
         },
-        Item::Vec(_) => unreachable!(),
-    }
-}
-
-// Whether items of this kind are shown.
-#[inline(always)]
-fn shows<E: Ends>(ends: &E, edge: usize, kind: Kind) -> bool
-    requires { (E.view ends.now).reads edge ≡ true }
-{
-    match kind {
-        Kind::Unit => ends.units(edge) > 0,
-        Kind::Bool => !ends.flags(edge).is_empty(),
-        Kind::Int => !ends.ints(edge).is_empty(),
-        Kind::Vec => false,
+        Item::Vec(_) | Item::Typed(_) => unreachable!(),
     }
 }
 
@@ -585,6 +349,32 @@ impl Worker for Fork {
         self.held.is_none()
     }
 
+    // An item is a step, and so is each of its copies.
+    #[inline(always)]
+    fn along(
+        &mut self,
+        first: Shown<'_>,
+        second: Shown<'_>,
+        block: &mut Written,
+        space: usize,
+        most: usize,
+    ) -> Moved {
+        if self.held.is_some() {
+            return Moved::nothing();
+        }
+        let room = space.min(instances_within(most, self.outputs));
+        let count = copy_shown(self.kind, first, room, block);
+        Moved {
+            first: count,
+            second: 0,
+            units: count,
+            flags: count,
+            ints: count,
+            steps: count + self.outputs * count,
+        }
+    }
+
+    // Where hardly an instance fits, it goes on from within one.
     #[inline(always)]
     fn blocks<E: Ends>(
         &mut self,
@@ -593,15 +383,9 @@ impl Worker for Fork {
         ends: &mut E,
         most: usize,
     ) -> usize {
-        // Hardly an instance fits.
-        if most / 2 <= outputs.len() {
-            return self.step_on(inputs, outputs, ends, most);
+        if most / 2 > outputs.len() {
+            return 0;
         }
-        match self.kind {
-            Kind::Int if most < BLOCK => self.few_ints(inputs, outputs, ends, most),
-            Kind::Int => self.many_ints(inputs, outputs, ends, most),
-            Kind::Bool if most < BLOCK => self.few_flags(inputs, outputs, ends, most),
-            _ => self.flags_or_units(inputs, outputs, ends, most),
-        }
+        self.step_on(inputs, outputs, ends, most)
     }
 }

@@ -1,16 +1,10 @@
 // The numbers from 0 on that are below a number.
 
-ghost use Rattle.std.specs.Prelude.{◌≡◌, ◌≢◌, ◌+ℤ◌, ◌≤ℤ◌, ℕ, ◌*◌, ◌<◌, ◌≤◌, pos, true, List, get_or, length, MatchOption, false};
-ghost use Rattle.std.specs.List.{All};
-ghost use Rattle.flow_messages.specs.Ends.{SameEnds};
-ghost use Rattle.flow_base.specs.Nodes.{behaviour_of, node_state};
-ghost use Rattle.flow_base.specs.Visits.{edge_of, IsWired, TakeKinds, Went};
-ghost use Rattle.flow_base.specs.declared.node.Phase.TheVariants.{Working};
-ghost use Rattle.flow_scalar.specs.IotaMachine.{number_after, iota_kind_out, iota_machine, iota_view};
-ghost use Rattle.flow_scalar.specs.declared.iota.Iota.TheVariants.{Flag};
+ghost use Rattle.std.specs.Prelude.{◌≡◌, ◌+ℤ◌, ◌≤ℤ◌, ◌+◌, ◌<◌, ◌≤◌, ◌++◌, pos, false, get_or, length, replicate, take, IfSome};
+ghost use Rattle.flow_scalar.specs.IotaMachine.{number_after, numbers_from};
 
-use flow_base::{Ask, BLOCK, SHORT_BLOCK, Stop, Worker};
-use flow_messages::{Ends, Flat, Item, Kind};
+use flow_base::{Ask, Moved, Shown, Stop, Worker, Written};
+use flow_messages::{Flat, Item, Kind};
 use snesl_data::FaultKind;
 use std::alloc::AllocError;
 
@@ -31,106 +25,89 @@ pub enum Iota {
     Number { next: i128, end: i128 },
 }
 
-// The flags of a block of elements.
-const ELEMENTS: [bool; BLOCK] = [false; BLOCK];
-
-// How many numbers of a block are left from `next` on below `end`. The end less a negative number may not fit.
+// How many numbers there are from `next` on below `end`, and at most `room`. The end less a negative number may not fit.
 #[inline(always)]
-fn numbers_left(next: i64, end: i64) -> usize
-    ensures block { result ≤ 64 }
+fn numbers_left(next: i64, end: i64, room: usize) -> usize
+    ensures room { result ≤ room }
     ensures below { 0 < result → (next +ℤ pos result) ≤ℤ end }
 {
     if next < 0 || end <= next {
         return 0;
     }
-    (end - next).min(64) as usize
+    let left = (end - next) as usize;
+    left.min(room)
 }
 
-// Fills so many places with the numbers from `next` on.
+// Puts so many numbers from `next` on behind the first places.
 #[inline(always)]
-fn fill(block: &mut [i64], next: i64, end: i64, count: usize)
-    requires within { count ≤ length block.old }
+fn fill_numbers(places: &mut [i64], from: usize, next: i64, end: i64, count: usize)
+    requires within { from + count ≤ length places.old }
     requires below { (next +ℤ pos count) ≤ℤ end }
-    ensures { (k : ℕ) → k < count → get_or block.new k (pos 0) ≡ next +ℤ pos k }
+    ensures length { length places.new ≡ length places.old }
+    ensures filled { take (from + count) places.new ≡
+        take from places.old ++ numbers_from next count }
 {
     for place in 0..count {
-        block[place] = next + place as i64;
+        places[from + place] = next + place as i64;
     }
 }
 
-// Writes numbers below `end` from `next` on, each after a flag: a block of them, or what is left or has room. How many.
+// Puts the flags of so many elements behind the first places.
 #[inline(always)]
-fn put_numbers<E: Ends>(
+fn fill_elements(places: &mut [bool], from: usize, count: usize)
+    requires within { from + count ≤ length places.old }
+    ensures length { length places.new ≡ length places.old }
+    ensures filled { take (from + count) places.new ≡
+        take from places.old ++ replicate count false }
+{
+    for place in 0..count {
+        places[from + place] = false;
+    }
+}
+
+// Puts numbers below `end` from `next` on behind the first integers, and a flag for each behind the first flags: what is left,
+// and at most `room`. How many. Numbers of more bits are left to single steps.
+#[inline(always)]
+fn put_numbers(
     next: i128,
     end: i128,
-    outputs: &[usize],
-    ends: &mut E,
-    most: usize,
-    block: &mut [i64],
+    block: &mut Written,
+    flags: usize,
+    ints: usize,
+    room: usize,
 ) -> usize
-    requires two { length outputs.now ≡ 2 }
-    requires apart { edge_of outputs.now 0 ≢ edge_of outputs.now 1 }
-    requires writes { All (λ e. (E.view ends.old).writes e ≡ true) outputs.now }
-    requires kinds { TakeKinds outputs.now iota_kind_out (E.view ends.old) }
-    ensures same { E.same ends.old ends.new }
-    ensures ends { SameEnds (E.view ends.old) (E.view ends.new) }
-    ensures within { 2 * result ≤ most }
+    requires flags { flags + room ≤ 256 }
+    requires ints { ints + room ≤ 256 }
+    ensures room { result ≤ room }
     ensures below { 0 < result → (next +ℤ pos result) ≤ℤ end }
-    ensures went { (inputs : List ℕ) (at : ℕ) → Went inputs outputs.now
-        (behaviour_of iota_machine) (node_state (iota_view (Flag next end)) Working at)
-        (E.view ends.old)
-        (node_state (iota_view (Flag (next +ℤ pos result) end)) Working at)
-        (E.view ends.new) (2 * result) }
+    ensures flags { take (flags + result) block.new.flags ≡
+        take flags block.old.flags ++ replicate result false }
+    ensures ints { take (ints + result) block.new.ints ≡
+        take ints block.old.ints ++ numbers_from next result }
 {
-    let (flags, numbers) = (outputs[0], outputs[1]);
-    // Numbers of more bits are left to single steps.
     let (Ok(first), Ok(last)) = (i64::try_from(next), i64::try_from(end)) else {
         return 0;
     };
-    let left = numbers_left(first, last).min(most / 2).min(block.len());
-    let count = left.min(ends.space(flags)).min(ends.space(numbers));
+    let count = numbers_left(first, last, room);
     if count == 0 {
         return 0;
     }
-    fill(block, first, last, count);
-    ends.put_flags(flags, &ELEMENTS[..count]);
-    ends.put_ints(numbers, &block[..count]);
+    fill_elements(&mut block.flags, flags, count);
+    fill_numbers(&mut block.ints, ints, first, last, count);
     count
 }
 
-// Writes the flag that ends a segment and reads the integer of the next, where both can be. That integer.
+// The integer at this place, where one is shown there that a segment can have.
 #[inline(always)]
-fn next_segment<E: Ends>(
-    next: i128,
-    end: i128,
-    inputs: &[usize],
-    outputs: &[usize],
-    ends: &mut E,
-) -> Option<i128>
-    requires wired { IsWired inputs.now outputs.now 1 2 (E.view ends.old) }
-    requires kinds { TakeKinds outputs.now iota_kind_out (E.view ends.old) }
-    requires at_end { end ≤ℤ next }
-    ensures same { E.same ends.old ends.new }
-    ensures ends { SameEnds (E.view ends.old) (E.view ends.new) }
-    ensures went { (at : ℕ) → MatchOption result
-        (Went inputs.now outputs.now (behaviour_of iota_machine)
-        (node_state (iota_view (Flag next end)) Working at) (E.view ends.old)
-        (node_state (iota_view (Flag next end)) Working at) (E.view ends.new) 0)
-        (λ count. Went inputs.now outputs.now (behaviour_of iota_machine)
-        (node_state (iota_view (Flag next end)) Working at) (E.view ends.old)
-        (node_state (iota_view (Flag (pos 0) count)) Working at) (E.view ends.new) 2) }
+fn count_at(counts: &[i64], place: usize) -> Option<i128>
+    ensures within { IfSome result (λ _. place < length counts.now) }
+    ensures natural { IfSome result (λ n. pos 0 ≤ℤ n) }
+    ensures shown { IfSome result (λ n. n ≡ get_or counts.now place (pos 0)) }
 {
-    let (from, flags) = (inputs[0], outputs[0]);
-    let [shown, ..] = ends.ints(from) else {
-        return None;
-    };
-    let count = *shown;
-    if count < 0 || ends.space(flags) == 0 {
+    if place >= counts.len() || counts[place] < 0 {
         return None;
     }
-    ends.put_flags(flags, &[true]);
-    ends.skip(from, 1);
-    Some(count as i128)
+    Some(counts[place] as i128)
 }
 
 impl Iota {
@@ -146,99 +123,6 @@ impl Iota {
         ensures { result ≡ number_after number end }
     {
         if number < end { number + 1 } else { end }
-    }
-
-    // Rounds through a block that is lent. Each is a block of flags and numbers, or the flag that ends a segment and the next
-    // integer. How many steps.
-    #[inline(always)]
-    fn rounds<E: Ends>(
-        &mut self,
-        inputs: &[usize],
-        outputs: &[usize],
-        ends: &mut E,
-        most: usize,
-        block: &mut [i64],
-    ) -> usize
-        requires apart { edge_of outputs.now 0 ≢ edge_of outputs.now 1 }
-        requires wired { IsWired inputs.now outputs.now 1 2 (E.view ends.old) }
-        requires kinds { TakeKinds outputs.now iota_kind_out (E.view ends.old) }
-        ensures same { E.same ends.old ends.new }
-        ensures ends { SameEnds (E.view ends.old) (E.view ends.new) }
-        ensures within { result ≤ most }
-        ensures went { (at : ℕ) → Went inputs.now outputs.now (behaviour_of iota_machine)
-            (node_state (iota_view self.old) Working at) (E.view ends.old)
-            (node_state (iota_view self.new) Working at) (E.view ends.new) result }
-    {
-        let Iota::Flag { mut next, mut end } = *self else {
-            return 0;
-        };
-        let mut made = 0;
-        while most - made >= 2 {
-            if next < end {
-                let count = put_numbers(next, end, outputs, ends, most - made, block);
-                if count == 0 {
-                    break;
-                }
-                next += count as i128;
-                made += 2 * count;
-                // The room or the steps are used up.
-                if count < block.len() && next < end {
-                    break;
-                }
-            } else {
-                let Some(count) = next_segment(next, end, inputs, outputs, ends) else {
-                    break;
-                };
-                (next, end) = (0, count);
-                made += 2;
-            }
-        }
-        *self = Iota::Flag { next, end };
-        made
-    }
-
-    // The same through a short block, in short visits. It stands alone, so that such a visit pays for no longer one.
-    #[inline(never)]
-    fn few_rounds<E: Ends>(
-        &mut self,
-        inputs: &[usize],
-        outputs: &[usize],
-        ends: &mut E,
-        most: usize,
-    ) -> usize
-        requires apart { edge_of outputs.now 0 ≢ edge_of outputs.now 1 }
-        requires wired { IsWired inputs.now outputs.now 1 2 (E.view ends.old) }
-        requires kinds { TakeKinds outputs.now iota_kind_out (E.view ends.old) }
-        ensures same { E.same ends.old ends.new }
-        ensures ends { SameEnds (E.view ends.old) (E.view ends.new) }
-        ensures within { result ≤ most }
-        ensures went { (at : ℕ) → Went inputs.now outputs.now (behaviour_of iota_machine)
-            (node_state (iota_view self.old) Working at) (E.view ends.old)
-            (node_state (iota_view self.new) Working at) (E.view ends.new) result }
-    {
-        self.rounds(inputs, outputs, ends, most, &mut [0; SHORT_BLOCK])
-    }
-
-    // The same in long visits.
-    #[inline(never)]
-    fn many_rounds<E: Ends>(
-        &mut self,
-        inputs: &[usize],
-        outputs: &[usize],
-        ends: &mut E,
-        most: usize,
-    ) -> usize
-        requires apart { edge_of outputs.now 0 ≢ edge_of outputs.now 1 }
-        requires wired { IsWired inputs.now outputs.now 1 2 (E.view ends.old) }
-        requires kinds { TakeKinds outputs.now iota_kind_out (E.view ends.old) }
-        ensures same { E.same ends.old ends.new }
-        ensures ends { SameEnds (E.view ends.old) (E.view ends.new) }
-        ensures within { result ≤ most }
-        ensures went { (at : ℕ) → Went inputs.now outputs.now (behaviour_of iota_machine)
-            (node_state (iota_view self.old) Working at) (E.view ends.old)
-            (node_state (iota_view self.new) Working at) (E.view ends.new) result }
-    {
-        self.rounds(inputs, outputs, ends, most, &mut [0; BLOCK])
     }
 }
 
@@ -333,24 +217,48 @@ impl Worker for Iota {
         matches!(self, Iota::Flag { .. })
     }
 
+    // Each round is a flag, and then its number; or the flag that ends a segment, and then the integer of the next.
     #[inline(always)]
-    fn blocks<E: Ends>(
+    fn along(
         &mut self,
-        inputs: &[usize],
-        outputs: &[usize],
-        ends: &mut E,
+        first: Shown<'_>,
+        second: Shown<'_>,
+        block: &mut Written,
+        space: usize,
         most: usize,
-    ) -> usize {
-        let Iota::Flag { next, end } = *self else {
-            return 0;
+    ) -> Moved {
+        let Iota::Flag { mut next, mut end } = *self else {
+            return Moved::nothing();
         };
-        // Nothing is shown at the end of a segment, or both blocks go to one edge.
-        if outputs[0] == outputs[1] || next >= end && ends.ints(inputs[0]).is_empty() {
-            return 0;
+        let counts = first.ints();
+        let rounds = space.min(most / 2);
+        let (mut read, mut made) = (0, 0);
+        while made < rounds {
+            if next < end {
+                let count = put_numbers(next, end, block, made, made - read, rounds - made);
+                if count == 0 {
+                    break;
+                }
+                next += count as i128;
+                made += count;
+            } else {
+                let Some(count) = count_at(counts, read) else {
+                    break;
+                };
+                block.flags[made] = true;
+                (next, end) = (0, count);
+                read += 1;
+                made += 1;
+            }
         }
-        if most < BLOCK {
-            return self.few_rounds(inputs, outputs, ends, most);
+        *self = Iota::Flag { next, end };
+        Moved {
+            first: read,
+            second: 0,
+            units: 0,
+            flags: made,
+            ints: made - read,
+            steps: 2 * made,
         }
-        self.many_rounds(inputs, outputs, ends, most)
     }
 }

@@ -7,7 +7,6 @@
 
 mod binary;
 mod constant;
-mod copies;
 mod fork;
 mod iota;
 mod operand;

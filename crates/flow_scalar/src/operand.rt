@@ -11,12 +11,12 @@ use snesl_operators::{Scalar, ScalarType};
 
 /// The scalar of this type that the item carries. `Shape` where it carries none.
 #[inline(always)]
-pub fn operand_of(scalar_type: ScalarType, item: &Item) -> Result<Scalar, FaultKind>
-    ensures { result ≡ operand_in scalar_type (cell_of item.now) }
+pub fn operand_of(scalar_type: ScalarType, item: Item) -> Result<Scalar, FaultKind>
+    ensures { result ≡ operand_in scalar_type (cell_of item) }
 {
     match (scalar_type, item) {
-        (ScalarType::Int, Item::Int(number)) => Ok(Scalar::Int(*number)),
-        (ScalarType::Bool, Item::Bool(truth)) => Ok(Scalar::Bool(*truth)),
+        (ScalarType::Int, Item::Int(number)) => Ok(Scalar::Int(number)),
+        (ScalarType::Bool, Item::Bool(truth)) => Ok(Scalar::Bool(truth)),
         _ => Err(FaultKind::Shape),
     }
 }

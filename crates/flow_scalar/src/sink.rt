@@ -1,10 +1,11 @@
 // The end of a stream that nothing uses.
 
 ghost use Rattle.std.specs.Prelude.{◌≡◌, true, false, IfOk, OnErr, IsOk};
-ghost use Rattle.flow_scalar.specs.SinkShown.{Shown};
+ghost use Rattle.flow_base.specs.Along.{shown_signals};
+ghost use Rattle.flow_scalar.specs.SinkShown.{CountOf};
 
-use flow_base::{Ask, Stop, Worker};
-use flow_messages::{Ends, Flat, Item, Kind};
+use flow_base::{Ask, Moved, Shown, Stop, Worker, Written};
+use flow_messages::{Flat, Item, Kind};
 use snesl_data::FaultKind;
 use std::alloc::AllocError;
 
@@ -17,14 +18,13 @@ pub struct Sink {
 
 // How many items of the kind are shown.
 #[inline(always)]
-fn shown_of<E: Ends>(ends: &E, edge: usize, kind: Kind) -> usize
-    requires { (E.view ends.now).reads edge ≡ true }
-    ensures { Shown kind result ((E.view ends.now).coming edge) }
+fn count_of(kind: Kind, shown: Shown<'_>) -> usize
+    ensures { CountOf kind result (shown_signals shown.entry) }
 {
     match kind {
-        Kind::Unit => ends.units(edge),
-        Kind::Bool => ends.flags(edge).len(),
-        Kind::Int => ends.ints(edge).len(),
+        Kind::Unit => shown.units(),
+        Kind::Bool => shown.flags().len(),
+        Kind::Int => shown.ints().len(),
         Kind::Vec => 0,
     }
 }
@@ -105,23 +105,22 @@ impl Worker for Sink {
     }
 
     #[inline(always)]
-    fn blocks<E: Ends>(
+    fn along(
         &mut self,
-        inputs: &[usize],
-        outputs: &[usize],
-        ends: &mut E,
+        first: Shown<'_>,
+        second: Shown<'_>,
+        block: &mut Written,
+        space: usize,
         most: usize,
-    ) -> usize {
-        let from = inputs[0];
-        let mut taken = 0;
-        while taken < most {
-            let count = shown_of(ends, from, self.kind).min(most - taken);
-            if count == 0 {
-                return taken;
-            }
-            ends.skip(from, count);
-            taken += count;
+    ) -> Moved {
+        let count = count_of(self.kind, first).min(most);
+        Moved {
+            first: count,
+            second: 0,
+            units: 0,
+            flags: 0,
+            ints: 0,
+            steps: count,
         }
-        taken
     }
 }

@@ -1,21 +1,16 @@
 // Operators on one scalar.
 
-ghost use Rattle.std.specs.Prelude.{◌≡◌, ℕ, ◌≤◌, length, Ok, None, IfSome, false};
-ghost use Rattle.flow_base.specs.Nodes.{behaviour_of, node_state};
-ghost use Rattle.flow_base.specs.Visits.{IsWired, TakeKinds, Went};
-ghost use Rattle.flow_base.specs.declared.node.Phase.TheVariants.{Working};
-ghost use Rattle.flow_messages.specs.declared.message.Kind.TheVariants.{Bool as BoolKind, Int as IntKind};
-ghost use Rattle.flow_messages.specs.Ends.{SameEnds};
+ghost use Rattle.std.specs.Prelude.{◌≡◌, ◌≤◌, length, Ok, None, IfSome, false};
 ghost use Rattle.snesl_operators.specs.Operators.{unary_value};
 ghost use Rattle.snesl_operators.specs.declared.scalar.Scalar.TheVariants.{Int};
-ghost use Rattle.flow_scalar.specs.UnaryMachine.{unary_machine, unary_view, IntsAt, FlagsAt};
+ghost use Rattle.flow_scalar.specs.UnaryMachine.{IntsAt, FlagsAt};
 
 use crate::operand::{narrow_of, operand_of};
-use flow_base::{Ask, BLOCK, SHORT_BLOCK, Stop, Worker};
+use flow_base::{Ask, Moved, Shown, Stop, Worker, Written};
 use flow_folds::{item_of, kind_of};
-use flow_messages::{Ends, Flat, Item, Kind};
+use flow_messages::{Flat, Item, Kind};
 use snesl_data::Dialect;
-use snesl_operators::{Scalar, ScalarType, UnaryOperator};
+use snesl_operators::{Scalar, UnaryOperator};
 use std::alloc::AllocError;
 
 /// Writes the operator's value at each item. Each item is an instance.
@@ -71,13 +66,13 @@ impl Unary {
 
     // The truth values at the first of these operands, as many as there is room for and as do not fault.
     #[inline(always)]
-    fn flags_of(&self, operands: &[bool], room: usize, values: &mut [bool; BLOCK]) -> usize
+    fn flags_of(&self, operands: &[bool], room: usize, values: &mut [bool]) -> usize
         ensures room { result ≤ room }
         ensures operands { result ≤ length operands.now }
-        ensures block { result ≤ 64 }
+        ensures block { result ≤ length values.new }
         ensures values { FlagsAt self.now.dialect self.now.operator operands.now values.new result }
     {
-        let whole = operands.len().min(room).min(BLOCK);
+        let whole = operands.len().min(room).min(values.len());
         for at in 0..whole {
             let operand = Scalar::Bool(operands[at]);
             let Ok(Scalar::Bool(value)) = self.operator.apply(self.dialect, operand) else {
@@ -86,84 +81,6 @@ impl Unary {
             values[at] = value;
         }
         whole
-    }
-
-    // Whole rounds over integers, through a block that is lent.
-    #[inline(never)]
-    fn int_blocks<E: Ends>(
-        &self,
-        inputs: &[usize],
-        outputs: &[usize],
-        ends: &mut E,
-        most: usize,
-        values: &mut [i64],
-    ) -> usize
-        requires start { self.now.value ≡ None }
-        requires wired { IsWired inputs.now outputs.now 1 1 (E.view ends.old) }
-        requires kinds { TakeKinds outputs.now (λ _. IntKind) (E.view ends.old) }
-        ensures same { E.same ends.old ends.new }
-        ensures ends { SameEnds (E.view ends.old) (E.view ends.new) }
-        ensures within { result ≤ most }
-        ensures went { (at : ℕ) → Went inputs.now outputs.now (behaviour_of unary_machine)
-            (node_state (unary_view self.now) Working at) (E.view ends.old)
-            (node_state (unary_view self.now) Working at) (E.view ends.new) result }
-    {
-        let from = inputs[0];
-        let to = outputs[0];
-        let mut made = 0;
-        'rounds: loop {
-            let room = ends.space(to).min((most - made) / 2);
-            // Where nothing can be written, no operand is looked at.
-            if room == 0 {
-                return made;
-            }
-            let count = self.ints_of(ends.ints(from), room, values);
-            if count == 0 {
-                return made;
-            }
-            ends.skip(from, count);
-            ends.put_ints(to, &values[..count]);
-            made += 2 * count;
-        }
-    }
-
-    // Whole rounds over a block of truth values, to another.
-    #[inline(always)]
-    fn flag_blocks<E: Ends>(
-        &self,
-        inputs: &[usize],
-        outputs: &[usize],
-        ends: &mut E,
-        most: usize,
-    ) -> usize
-        requires start { self.now.value ≡ None }
-        requires wired { IsWired inputs.now outputs.now 1 1 (E.view ends.old) }
-        requires kinds { TakeKinds outputs.now (λ _. BoolKind) (E.view ends.old) }
-        ensures same { E.same ends.old ends.new }
-        ensures ends { SameEnds (E.view ends.old) (E.view ends.new) }
-        ensures within { result ≤ most }
-        ensures went { (at : ℕ) → Went inputs.now outputs.now (behaviour_of unary_machine)
-            (node_state (unary_view self.now) Working at) (E.view ends.old)
-            (node_state (unary_view self.now) Working at) (E.view ends.new) result }
-    {
-        let from = inputs[0];
-        let to = outputs[0];
-        let mut values = [false; BLOCK];
-        let mut made = 0;
-        'rounds: loop {
-            let room = ends.space(to).min((most - made) / 2);
-            // Where nothing can be written, no operand is looked at.
-            if room == 0 {
-                return made;
-            }
-            let count = self.flags_of(ends.flags(from), room, &mut values);
-            if count == 0 {
-                return made;
-            }
-            ends.skip(from, count);
-            ends.put_flags(to, &values[..count]);
-            made += 2 * count;
-        }
     }
 }
 
@@ -222,7 +139,7 @@ impl Worker for Unary {
 
     #[inline(always)]
     fn take(&mut self, item: Item) -> Result<(), Stop> {
-        let operand = operand_of(self.operator.operand(), &item)?;
+        let operand = operand_of(self.operator.operand(), item)?;
         self.value = Some(self.operator.apply(self.dialect, operand)?);
         Ok(())
     }
@@ -242,33 +159,44 @@ impl Worker for Unary {
         self.value.is_none()
     }
 
+    // An operand is one step, and its value one more.
     #[inline(always)]
-    fn blocks<E: Ends>(
+    fn along(
         &mut self,
-        inputs: &[usize],
-        outputs: &[usize],
-        ends: &mut E,
+        first: Shown<'_>,
+        second: Shown<'_>,
+        block: &mut Written,
+        space: usize,
         most: usize,
-    ) -> usize {
+    ) -> Moved {
         if self.value.is_some() {
-            return 0;
+            return Moved::nothing();
         }
-        match self.operator.operand() {
-            ScalarType::Int => {
-                if ends.ints(inputs[0]).is_empty() {
-                    return 0;
+        let room = space.min(most / 2);
+        match first {
+            Shown::Ints(operands) => {
+                let count = self.ints_of(operands, room, &mut block.ints);
+                Moved {
+                    first: count,
+                    second: 0,
+                    units: 0,
+                    flags: 0,
+                    ints: count,
+                    steps: 2 * count,
                 }
-                if most < BLOCK {
-                    return self.int_blocks(inputs, outputs, ends, most, &mut [0; SHORT_BLOCK]);
-                }
-                self.int_blocks(inputs, outputs, ends, most, &mut [0; BLOCK])
             }
-            ScalarType::Bool => {
-                if ends.flags(inputs[0]).is_empty() {
-                    return 0;
+            Shown::Flags(operands) => {
+                let count = self.flags_of(operands, room, &mut block.flags);
+                Moved {
+                    first: count,
+                    second: 0,
+                    units: 0,
+                    flags: count,
+                    ints: 0,
+                    steps: 2 * count,
                 }
-                self.flag_blocks(inputs, outputs, ends, most)
             }
+            _ => Moved::nothing(),
         }
     }
 }

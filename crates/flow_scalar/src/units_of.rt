@@ -3,8 +3,8 @@
 ghost use Rattle.std.specs.Prelude.{◌≡◌, false, not, true};
 ghost use Rattle.std.specs.List.{count_by};
 
-use flow_base::{Ask, Stop, Worker};
-use flow_messages::{Ends, Flat, Item, Kind};
+use flow_base::{Ask, Moved, Shown, Stop, Worker, Written};
+use flow_messages::{Flat, Item, Kind};
 use snesl_data::FaultKind;
 use std::alloc::AllocError;
 
@@ -112,32 +112,29 @@ impl Worker for UnitsOf {
 
     // A flag is one step, and the unit of an element one more.
     #[inline(always)]
-    fn blocks<E: Ends>(
+    fn along(
         &mut self,
-        inputs: &[usize],
-        outputs: &[usize],
-        ends: &mut E,
+        first: Shown<'_>,
+        second: Shown<'_>,
+        block: &mut Written,
+        space: usize,
         most: usize,
-    ) -> usize {
+    ) -> Moved {
         if self.due {
-            return 0;
+            return Moved::nothing();
         }
-        let from = inputs[0];
-        let to = outputs[0];
-        let mut steps = 0;
-        // Where no flags are shown, the output is not looked at.
-        while !ends.flags(from).is_empty() {
-            let room = ends.space(to);
-            let flags = ends.flags(from);
-            let whole = flags.len().min(room).min((most - steps) / 2);
-            if whole == 0 {
-                return steps;
-            }
-            let units = elements_in(&flags[..whole]);
-            ends.skip(from, whole);
-            ends.put_units(to, units);
-            steps += whole + units;
+        let Shown::Flags(flags) = first else {
+            return Moved::nothing();
+        };
+        let whole = flags.len().min(space).min(most / 2);
+        let units = elements_in(&flags[..whole]);
+        Moved {
+            first: whole,
+            second: 0,
+            units,
+            flags: 0,
+            ints: 0,
+            steps: whole + units,
         }
-        steps
     }
 }

@@ -59,6 +59,11 @@ unfolding ended
 ended_copies zero x = refl
 ended_copies (suc n) x = ended_copies n x
 
+-- the first flag that is shown comes next
+pub flag_next : (xs : List Bool) (c : List Signal) → 0 < length xs → IsPrefix (flag_signals xs) c → IsPrefix (carry (flag (get_or xs 0 false)) ∷ []) c
+flag_next [] c some seen = absurd (omega arith)
+flag_next (x ∷ xs) c some seen = (flag_signals xs ++ seen.0, seen.1)
+
 -- the first that is shown is the next that comes
 pub first_int : (xs : List ℤ) (c : List Signal) → 0 < length xs → IsPrefix (int_signals xs) c → take 1 c ≡ carry (int (get_or xs 0 (pos 0))) ∷ []
 first_int [] c some seen = absurd (omega arith)

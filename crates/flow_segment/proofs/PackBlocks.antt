@@ -1,21 +1,13 @@
--- What Pack makes of blocks of truth values and items.
-use Rattle.std.proofs.Common.{◌≡◌, ◌≢◌, ℕ, zero, suc, ◌+◌, ◌*◌, ◌<◌, ◌≤◌, Bool, true, false, cond, eqb, List, [], ◌∷◌, ◌++◌, length, take, map, get_or, Ok, refl, sym, ◌∙◌, ap, subst, arith, append-nil, set}
-use Rattle.std.proofs.lemmas.List.{take-set, take_more_set, take-map, length-map, map-append, length-take-le}
-use mathlib.Core.List.{IsPrefix}
+-- What Pack makes of truth values and items.
+use Rattle.std.proofs.Common.{◌≡◌, ℕ, zero, suc, ◌+◌, ◌*◌, ◌<◌, ◌≤◌, Bool, true, false, cond, List, [], ◌∷◌, ◌++◌, length, take, map, get_or, Ok, refl, sym, ◌∙◌, ap, subst, arith, append-nil, set}
+use Rattle.std.proofs.lemmas.List.{take-set, take_more_set, length-take-le}
 use Rattle.flow_messages.specs.Cells.{Cell, is_of, flag, unit}
-use Rattle.flow_messages.specs.Ends.{View, LookedForRoom, TakenAll, PutAll}
 use Rattle.flow_messages.specs.Blocks.{unit_signals, flag_signals}
-use Rattle.flow_messages.specs.Signals.{Signal, carry, ended}
+use Rattle.flow_messages.specs.Signals.{Signal, carry}
 use Rattle.flow_messages.specs.declared.message.Kind.{Kind}
-use Rattle.flow_base.specs.Machines.{on_kind}
-use Rattle.flow_base.specs.Nodes.{NodeState, behaviour_of, node_state}
-use Rattle.flow_base.specs.Visits.{edge_of, Went}
-use Rattle.flow_base.specs.declared.node.Phase.TheVariants.{Working}
-use Rattle.flow_base.proofs.Kernels.{went_none, went_looked, leads_on}
-use Rattle.flow_base.proofs.Batches.{Batch, block_then, blocks_then, batch_none, batch_read, batch_write, batch_then, batch_as, shifted_none, shifted_skip, shifted_put, went_batch, shown, take_flags, length_flags}
-use Rattle.flow_segment.specs.PackMachine.{PackState, at_start, at_item, at_copy, kept, trues, pack_machine}
+use Rattle.flow_base.proofs.Along.{Single, single_none, single_first, single_second, single_write, single_then}
+use Rattle.flow_segment.specs.PackMachine.{at_start, at_item, at_copy, kept, trues, pack_machine}
 use Rattle.flow_segment.proofs.Leading.{item_leads}
-use Rattle.flow_segment.proofs.Blocks.{no_block, no_blocks}
 
 -- one truth value and one item more
 kept_more : {A : Type 0} (bs : List Bool) (xs : List A) (n : ℕ) (d : A) → n < length bs → n < length xs → kept (take (suc n) bs) (take (suc n) xs) ≡ kept (take n bs) (take n xs) ++ cond (get_or bs n false) (get_or xs n d ∷ []) []
@@ -70,85 +62,52 @@ pub units_one_by_one : (zs : List (Unit {0})) → map (λ _. carry unit) zs ≡ 
 units_one_by_one [] = refl
 units_one_by_one (z ∷ zs) = ap (λ l. carry unit ∷ l) (units_one_by_one zs)
 
-module _ (ins outs : List ℕ) (kind : Kind) (at : ℕ) where
-  abbrev on : PackState → NodeState (Kind × PackState)
-  on s = node_state (kind, s) Working at
+module _ (kind : Kind) {A : Type 0} (said : A → Cell) (fits : (x : A) → is_of kind (said x) ≡ true) where
+  -- what the items say
+  abbrev pub items_said : List A → List Signal
+  items_said xs = map (λ x. carry (said x)) xs
 
-  module _ {A : Type 0} (said : A → Cell) (fits : (x : A) → is_of kind (said x) ≡ true) (apart : edge_of ins 0 ≢ edge_of ins 1) where
-    -- what the items say
-    abbrev items_said : List A → List Signal
-    items_said xs = map (λ x. carry (said x)) xs
+  -- steps that read these truth values and items and write these items
+  abbrev pub Pairs : List Bool → List A → List A → ℕ → Type 0
+  Pairs bs xs zs n = Single pack_machine kind at_start at_start (flag_signals bs) (items_said xs) (items_said zs) n
 
-    ended_items : (zs : List A) → ended (items_said zs) ≡ false
-    unfolding ended
-    ended_items [] = refl
-    ended_items (z ∷ zs) = ended_items zs
+  pair_kept : (x : A) → Pairs (true ∷ []) (x ∷ []) (x ∷ []) 3
+  pair_kept x =
+      let m = pack_machine in
+      let y = said x in
+      let leads = item_leads kind (λ i. Ok (at_copy i)) (at_copy y) y (fits x) refl in
+      let one = single_first m kind at_start (at_item true) (flag true) refl refl in
+      let two = single_second m kind (at_item true) (at_copy y) y refl leads in
+      let three = single_write m kind (at_copy y) at_start y refl refl refl in
+      single_then m kind (flag_signals (true ∷ [])) (carry y ∷ []) [] [] [] (carry y ∷ []) (single_then m kind (flag_signals (true ∷ [])) [] [] [] (carry y ∷ []) [] one two) three
 
-    -- pairs from a block of truth values and one of items to a block of items
-    abbrev Pairs : List Bool → List A → List A → ℕ → Type 0
-    Pairs bs xs zs n = Batch ins outs (behaviour_of pack_machine) (on at_start) (on at_start) (λ e. cond (eqb e (edge_of ins 0)) (flag_signals bs) [] ++ cond (eqb e (edge_of ins 1)) (items_said xs) []) (λ e. cond (eqb e (edge_of outs 0)) (items_said zs) []) n
+  pair_dropped : (x : A) → Pairs (false ∷ []) (x ∷ []) [] 2
+  pair_dropped x =
+      let m = pack_machine in
+      let y = said x in
+      let leads = item_leads kind (λ i. Ok at_start) at_start y (fits x) refl in
+      let one = single_first m kind at_start (at_item false) (flag false) refl refl in
+      let two = single_second m kind (at_item false) at_start y refl leads in
+      single_then m kind (flag_signals (false ∷ [])) [] [] [] (carry y ∷ []) [] one two
 
-    pair_kept : (x : A) → Pairs (true ∷ []) (x ∷ []) (x ∷ []) 3
-    pair_kept x =
-        let b = behaviour_of pack_machine in
-        let y = said x in
-        let leads = item_leads kind (λ i. Ok (at_copy i)) (at_copy y) y (fits x) refl in
-        let one = batch_read ins outs b (batch_none ins outs b (on at_start)) 0 (carry (flag true)) (on (at_item true)) refl refl in
-        let two = batch_read ins outs b one 1 (carry y) (on (at_copy y)) refl (leads_on pack_machine kind (at_item true) (at_copy y) at (on_kind kind (λ i. Ok (at_copy i))) (carry y) (λ i. refl) leads) in
-        batch_as ins outs b (batch_write ins outs b two 0 y (on at_start) refl refl refl) _ _ (λ e. refl) (λ e. refl)
+  pairs : (bs : List Bool) (xs : List A) → length xs ≡ length bs → Pairs bs xs (kept bs xs) (2 * length bs + length (kept bs xs))
+  pairs [] [] long = single_none pack_machine kind at_start
+  pairs [] (x ∷ xs) long = absurd (omega arith)
+  pairs (b ∷ bs) [] long = absurd (omega arith)
+  pairs (true ∷ bs) (x ∷ xs) long =
+      let n = 2 * length bs + length (kept bs xs) in
+      let steps : 3 + n ≡ 2 * suc (length bs) + suc (length (kept bs xs)) = omega arith in
+      subst (Pairs (true ∷ bs) (x ∷ xs) (x ∷ kept bs xs)) steps (single_then pack_machine kind (flag_signals (true ∷ [])) (items_said (x ∷ [])) (items_said (x ∷ [])) (flag_signals bs) (items_said xs) (items_said (kept bs xs)) (pair_kept x) (pairs bs xs (omega arith)))
+  pairs (false ∷ bs) (x ∷ xs) long =
+      let n = 2 * length bs + length (kept bs xs) in
+      let steps : 2 + n ≡ 2 * suc (length bs) + length (kept bs xs) = omega arith in
+      subst (Pairs (false ∷ bs) (x ∷ xs) (kept bs xs)) steps (single_then pack_machine kind (flag_signals (false ∷ [])) (items_said (x ∷ [])) [] (flag_signals bs) (items_said xs) (items_said (kept bs xs)) (pair_dropped x) (pairs bs xs (omega arith)))
 
-    pair_dropped : (x : A) → Pairs (false ∷ []) (x ∷ []) [] 2
-    pair_dropped x =
-        let b = behaviour_of pack_machine in
-        let y = said x in
-        let leads = item_leads kind (λ i. Ok at_start) at_start y (fits x) refl in
-        let one = batch_read ins outs b (batch_none ins outs b (on at_start)) 0 (carry (flag false)) (on (at_item false)) refl refl in
-        let two = batch_read ins outs b one 1 (carry y) (on at_start) refl (leads_on pack_machine kind (at_item false) at_start at (on_kind kind (λ i. Ok at_start)) (carry y) (λ i. refl) leads) in
-        batch_as ins outs b two _ _ (λ e. refl) (λ e. no_block (eqb e (edge_of outs 0)))
-
-    -- and then more pairs
-    pair_then : (b : Bool) (x : A) (bs : List Bool) (xs ys zs : List A) (k n : ℕ) → Pairs (b ∷ []) (x ∷ []) ys k → Pairs bs xs zs n → Pairs (b ∷ bs) (x ∷ xs) (ys ++ zs) (k + n)
-    pair_then b x bs xs ys zs k n first rest =
-        let p = behaviour_of pack_machine in
-        let l = edge_of ins 0 in
-        let r = edge_of ins 1 in
-        let o = edge_of outs 0 in
-        batch_as ins outs p (batch_then ins outs p first rest) _ _ (λ e. blocks_then e l r (carry (flag b) ∷ []) (carry (said x) ∷ []) (flag_signals bs) (items_said xs) apart) (λ e. block_then (eqb e o) (items_said ys) (items_said zs) ∙ ap (λ m. cond (eqb e o) m []) (sym (map-append (λ z. carry (said z)) ys zs)))
-
-    pairs : (bs : List Bool) (xs : List A) → length xs ≡ length bs → Pairs bs xs (kept bs xs) (2 * length bs + length (kept bs xs))
-    pairs [] [] long =
-        let p = behaviour_of pack_machine in
-        batch_as ins outs p (batch_none ins outs p (on at_start)) _ _ (λ e. no_blocks (eqb e (edge_of ins 0)) (eqb e (edge_of ins 1))) (λ e. no_block (eqb e (edge_of outs 0)))
-    pairs [] (x ∷ xs) long = absurd (omega arith)
-    pairs (b ∷ bs) [] long = absurd (omega arith)
-    pairs (true ∷ bs) (x ∷ xs) long =
-        let n = 2 * length bs + length (kept bs xs) in
-        let steps : 3 + n ≡ 2 * suc (length bs) + suc (length (kept bs xs)) = omega arith in
-        subst (Pairs (true ∷ bs) (x ∷ xs) (x ∷ kept bs xs)) steps (pair_then true x bs xs (x ∷ []) (kept bs xs) 3 n (pair_kept x) (pairs bs xs (omega arith)))
-    pairs (false ∷ bs) (x ∷ xs) long =
-        let n = 2 * length bs + length (kept bs xs) in
-        let steps : 2 + n ≡ 2 * suc (length bs) + length (kept bs xs) = omega arith in
-        subst (Pairs (false ∷ bs) (x ∷ xs) (kept bs xs)) steps (pair_then false x bs xs [] (kept bs xs) 2 n (pair_dropped x) (pairs bs xs (omega arith)))
-
-    -- blocks that are taken and put are pairs
-    pub pairs_went : (bs : List Bool) (xs : List A) (n count : ℕ) (a u w1 w2 w : View) → 1 < length ins → 0 < length outs → LookedForRoom a (edge_of outs 0) u → 0 < n → n ≤ length bs → n ≤ length xs → count ≡ length (kept (take n bs) (take n xs)) →
-        IsPrefix (flag_signals bs) (u.coming (edge_of ins 0)) → IsPrefix (items_said xs) (u.coming (edge_of ins 1)) →
-        TakenAll u (edge_of ins 0) (take n (u.coming (edge_of ins 0))) w1 → TakenAll w1 (edge_of ins 1) (take n (w1.coming (edge_of ins 1))) w2 → PutAll w2 (edge_of outs 0) (items_said (kept (take n bs) (take n xs))) w →
-        Went ins outs (behaviour_of pack_machine) (on at_start) a (on at_start) w (2 * n + count)
-    pairs_went bs xs n count a u w1 w2 w two one looked some in_bs in_xs counts shows_truths shows_items t1 t2 put =
-        let p = behaviour_of pack_machine in
-        let l = edge_of ins 0 in
-        let r = edge_of ins 1 in
-        let truths = take n bs in
-        let items = take n xs in
-        let zs = kept truths items in
-        let other : r ≢ l = λ e. apart (sym e) in
-        let left : take n (u.coming l) ≡ flag_signals truths = shown (flag_signals bs) (u.coming l) n shows_truths (omega (arith, length_flags bs)) ∙ take_flags n bs in
-        let right : take n (w1.coming r) ≡ items_said items = ap (take n) (t1.coming r other) ∙ shown (items_said xs) (u.coming r) n shows_items (omega (arith, length-map xs (λ x. carry (said x)))) ∙ take-map (λ x. carry (said x)) n xs in
-        let first = subst (λ k. TakenAll u l k w1) left t1 in
-        let second = subst (λ k. TakenAll w1 r k w2) right t2 in
-        let began = went_looked p ins outs (went_none p ins outs (on at_start) a) 0 u one looked in
-        let as_long : length items ≡ length truths = length-take-le n xs in_xs ∙ sym (length-take-le n bs in_bs) in
-        let steps : 0 + (2 * length truths + length zs) ≡ 2 * n + count = omega (arith, counts, length-take-le n bs in_bs) in
-        let went = went_batch ins outs p began (pairs truths items as_long) (omega (arith, length-take-le n bs in_bs)) w (shifted_put ins outs (shifted_skip ins outs (shifted_skip ins outs (shifted_none ins outs u) 0 (flag_signals truths) w1 (omega arith) first) 1 (items_said items) w2 two second) 0 (items_said zs) w one (ended_items zs) put) in
-        subst (Went ins outs p (on at_start) a (on at_start) w) steps went
+  -- the first of the truth values and of the items are pairs
+  pub first_pairs : (bs : List Bool) (xs : List A) (n : ℕ) → n ≤ length bs → n ≤ length xs → Pairs (take n bs) (take n xs) (kept (take n bs) (take n xs)) (2 * n + length (kept (take n bs) (take n xs)))
+  first_pairs bs xs n in_bs in_xs =
+      let truths = take n bs in
+      let items = take n xs in
+      let long : length truths ≡ n = length-take-le n bs in_bs in
+      let as_long : length items ≡ length truths = length-take-le n xs in_xs ∙ sym long in
+      subst (λ k. Pairs truths items (kept truths items) (2 * k + length (kept truths items))) long (pairs truths items as_long)

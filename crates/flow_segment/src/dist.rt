@@ -2,7 +2,8 @@
 
 ghost use Rattle.std.specs.Prelude.{◌≡◌, ◌*◌, ◌<◌, ◌≤◌, ℕ, ℤ, FitsSigned, true, false, [], ◌∷◌, get_or, length, pos, replicate, IfNone, IfSome};
 ghost use Rattle.std.specs.Int.{w64};
-ghost use Rattle.flow_messages.specs.Cells.{cell_of, int, is_of};
+ghost use mathlib.Core.List.{IsPrefix};
+ghost use Rattle.flow_messages.specs.Cells.{cell_of, flag, int, is_of};
 ghost use Rattle.flow_messages.specs.Ends.{SameEnds, PutAll, TakenAll};
 ghost use Rattle.flow_messages.specs.Kinds.{FitsEdge, TakesKind};
 ghost use Rattle.flow_messages.specs.Signals.{carry};
@@ -12,8 +13,8 @@ ghost use Rattle.flow_base.specs.Visits.{edge_of, IsWired, Went};
 ghost use Rattle.flow_base.specs.declared.node.Phase.TheVariants.{Working};
 ghost use Rattle.flow_segment.specs.DistMachine.{dist_machine, dist_view};
 
-use flow_base::{Ask, BLOCK, SHORT_BLOCK, Stop, Worker};
-use flow_messages::{Ends, Flat, Item, Kind};
+use flow_base::{Ask, BLOCK, SHORT_BLOCK, Stop, Worker, put_in_space, take_front};
+use flow_messages::{Ends, Flat, Item, Kind, Msg};
 use snesl_data::FaultKind;
 use std::alloc::AllocError;
 
@@ -121,7 +122,7 @@ fn put_copies<E: Ends>(item: &Item, to: usize, count: usize, ends: &mut E, block
             }
             ends.put_ints(to, copies);
         }
-        Item::Vec(_) => unreachable!(),
+        Item::Vec(_) | Item::Typed(_) => unreachable!(),
     }
 }
 
@@ -160,6 +161,18 @@ fn take_shown<E: Ends>(kind: Kind, from: usize, ends: &mut E) -> Option<Item>
     Some(item)
 }
 
+// The flag that comes next on the edge, where it is shown.
+#[inline(always)]
+fn flag_shown<E: Ends>(ends: &E, edge: usize) -> Option<bool>
+    requires { (E.view ends.now).reads edge ≡ true }
+    ensures { IfSome result (λ b. IsPrefix (carry (flag b) ∷ []) ((E.view ends.now).coming edge)) }
+{
+    let [first, ..] = ends.flags(edge) else {
+        return None;
+    };
+    Some(*first)
+}
+
 impl Dist {
     ghost use Rattle.flow_segment.specs.DistMachine.{at_start};
 
@@ -196,6 +209,54 @@ impl Dist {
         1
     }
 
+    // Writes a copy of the item that is held for the next flag, or lets the item go where that ends its segment. How many
+    // steps it made.
+    #[inline(always)]
+    fn copy_on<E: Ends>(
+        &mut self,
+        inputs: &[usize],
+        outputs: &[usize],
+        ends: &mut E,
+        most: usize,
+    ) -> usize
+        requires idle { self.old.copies ≡ false }
+        requires some { 0 < most }
+        requires wired { IsWired inputs.now outputs.now 2 1 (E.view ends.old) }
+        requires kind { TakesKind ((E.view ends.old).kind (edge_of outputs.now 0)) self.old.kind }
+        ensures idle { self.new.copies ≡ false }
+        ensures kind { self.new.kind ≡ self.old.kind }
+        ensures same { E.same ends.old ends.new }
+        ensures ends { SameEnds (E.view ends.old) (E.view ends.new) }
+        ensures within { result ≤ most }
+        ensures went { (at : ℕ) → Went inputs.now outputs.now (behaviour_of dist_machine)
+            (node_state (dist_view self.old) Working at) (E.view ends.old)
+            (node_state (dist_view self.new) Working at) (E.view ends.new) result }
+    {
+        let Some(item) = &self.held else {
+            return 0;
+        };
+        let (flags, to) = (inputs[1], outputs[0]);
+        let has_room = ends.room(to);
+        let Some(ends_segment) = flag_shown(ends, flags) else {
+            return 0;
+        };
+        if ends_segment {
+            take_front(ends, flags);
+            self.held = None;
+            return 1;
+        }
+        // An item of another kind, and a copy that is refused, are left to single steps.
+        if !has_room || most < 2 || !self.kind.fits(item) {
+            return 0;
+        }
+        let Ok(copy) = item.copy() else {
+            return 0;
+        };
+        take_front(ends, flags);
+        put_in_space(ends, to, Msg::Item(copy));
+        2
+    }
+
     // Where no item is held, holds the next. Otherwise writes copies for the elements of its segment that are shown, and
     // reads the flag that ends the segment where it comes next. How many steps it made.
     #[inline(always)]
@@ -224,9 +285,9 @@ impl Dist {
             return self.hold_next(inputs, outputs, ends);
         };
         let (flags, to) = (inputs[1], outputs[0]);
-        // Other copies are left to single steps.
+        // Other copies are written one by one.
         if !fits_a_block(item, self.kind) {
-            return 0;
+            return self.copy_on(inputs, outputs, ends, most);
         }
         let room = ends.space(to).min(BLOCK).min(block.len()).min(most / 2);
         let shown = ends.flags(flags);
@@ -375,9 +436,6 @@ impl Worker for Dist {
         most: usize,
     ) -> usize {
         if self.copies || ends.flags(inputs[1]).is_empty() {
-            return 0;
-        }
-        if let Kind::Vec = self.kind {
             return 0;
         }
         if most < BLOCK {

@@ -1,19 +1,13 @@
 // Workers over flags alone.
 
-ghost use Rattle.std.specs.Prelude.{◌≡◌, ◌≢◌, ◌≤◌, ◌<◌, ◌+◌, ℕ, false, get_or, length, take, IfSome};
+ghost use Rattle.std.specs.Prelude.{◌≡◌, ◌≢◌, ◌≤◌, ◌<◌, ◌+◌, false, get_or, length, take, IfSome};
 ghost use Rattle.flow_messages.specs.Cells.{flag};
-ghost use Rattle.flow_messages.specs.Ends.{SameEnds};
 ghost use Rattle.flow_messages.specs.Signals.{carry};
-ghost use Rattle.flow_messages.specs.declared.message.Kind.TheVariants.{Bool as BoolKind};
 ghost use Rattle.flow_base.specs.Machines.{Leads, on_flag};
-ghost use Rattle.flow_base.specs.Nodes.{behaviour_of, node_state};
-ghost use Rattle.flow_base.specs.Visits.{edge_of, IsWired, TakeKinds, Went};
-ghost use Rattle.flow_base.specs.declared.node.Phase.TheVariants.{Working};
-ghost use Rattle.flow_segment.specs.FlagTables.{over_flags, stage_view};
 ghost use Rattle.flow_segment.specs.FlagBlocks.{RunsOver};
 
-use flow_base::{Ask, BLOCK, Stop, Worker};
-use flow_messages::{Ends, Flat, Item, Kind};
+use flow_base::{Ask, Moved, Shown, Stop, Worker, Written};
+use flow_messages::{Flat, Item, Kind};
 use snesl_data::FaultKind;
 use std::alloc::AllocError;
 
@@ -69,56 +63,15 @@ impl<S: Stage> OverFlags<S> {
     {
         OverFlags { stage: S::start() }
     }
+}
 
-    // Goes on over the flags that are shown, and writes a block at most. How many steps it made.
-    #[inline(always)]
-    fn round<E: Ends>(
-        &mut self,
-        inputs: &[usize],
-        outputs: &[usize],
-        ends: &mut E,
-        most: usize,
-    ) -> usize
-        requires some { 0 < S.table.inputs }
-        requires few { S.table.inputs ≤ 2 }
-        requires apart { S.table.inputs ≡ 2 → edge_of inputs.now 0 ≢ edge_of inputs.now 1 }
-        requires wired { IsWired inputs.now outputs.now S.table.inputs S.table.outputs
-            (E.view ends.old) }
-        requires kinds { TakeKinds outputs.now (λ _. BoolKind) (E.view ends.old) }
-        ensures same { E.same ends.old ends.new }
-        ensures ends { SameEnds (E.view ends.old) (E.view ends.new) }
-        ensures within { result ≤ most }
-        ensures went { (at : ℕ) → Went inputs.now outputs.now (behaviour_of (over_flags S.table))
-            (node_state (stage_view self.old) Working at) (E.view ends.old)
-            (node_state (stage_view self.new) Working at) (E.view ends.new) result }
-    {
-        let first = inputs[0];
-        // Where there is one input alone, it is shown twice, and nothing is read of it as the second.
-        let second = inputs[S::inputs() - 1];
-        let mut block = [false; BLOCK];
-        let [to, ..] = outputs else {
-            let (firsts, seconds) = (ends.flags(first), ends.flags(second));
-            let ran = run_over(self.stage, firsts, seconds, &mut block, 0, most);
-            let steps = ran.first + ran.second;
-            if steps > 0 {
-                ends.skip(first, ran.first);
-                ends.skip(second, ran.second);
-                self.stage = ran.stage;
-            }
-            return steps;
-        };
-        let room = ends.space(*to).min(BLOCK);
-        let (firsts, seconds) = (ends.flags(first), ends.flags(second));
-        let ran = run_over(self.stage, firsts, seconds, &mut block, room, most);
-        let steps = ran.first + ran.second + ran.written;
-        if steps > 0 {
-            ends.skip(first, ran.first);
-            ends.skip(second, ran.second);
-            ends.put_flags(*to, &block[..ran.written]);
-            self.stage = ran.stage;
-        }
-        steps
-    }
+// How many flags it may write: those of several outputs are left to single steps.
+#[inline(always)]
+fn room_in<S: Stage>(space: usize) -> usize
+    ensures within { result ≤ space }
+    ensures none { S.table.outputs ≢ 1 → result ≡ 0 }
+{
+    if S::outputs() == 1 { space } else { 0 }
 }
 
 // How far a table went over blocks of flags, and how many it read of each of two inputs and wrote.
@@ -155,16 +108,16 @@ fn run_over<S: Stage>(
     stage: S,
     firsts: &[bool],
     seconds: &[bool],
-    block: &mut [bool; BLOCK],
+    block: &mut [bool],
     room: usize,
     most: usize,
 ) -> Ran<S>
-    requires block { room ≤ 64 }
+    requires block { room ≤ length block.old }
     ensures first { result.first ≤ length firsts.now }
     ensures second { result.second ≤ length seconds.now }
     ensures written { result.written ≤ room }
     ensures within { result.first + result.second + result.written ≤ most }
-    ensures only { S.table.inputs ≡ 1 → result.second ≡ 0 }
+    ensures block { length block.new ≡ length block.old }
     ensures ran { RunsOver S.table stage (take result.first firsts.now)
         (take result.second seconds.now) (take result.written block.new) result.stage }
 {
@@ -283,27 +236,26 @@ impl<S: Stage> Worker for OverFlags<S> {
 
     // Flags of one or two inputs are seen at once, and those of one output are written.
     #[inline(always)]
-    fn blocks<E: Ends>(
+    fn along(
         &mut self,
-        inputs: &[usize],
-        outputs: &[usize],
-        ends: &mut E,
+        first: Shown<'_>,
+        second: Shown<'_>,
+        block: &mut Written,
+        space: usize,
         most: usize,
-    ) -> usize {
-        if S::inputs() == 0 || S::inputs() > 2 || S::outputs() > 1 {
-            return 0;
-        }
-        // Two blocks of one edge are not seen at once.
-        if S::inputs() == 2 && inputs[0] == inputs[1] {
-            return 0;
-        }
-        let mut made = 0;
-        'rounds: loop {
-            let steps = self.round(inputs, outputs, ends, most - made);
-            if steps == 0 {
-                return made;
-            }
-            made += steps;
+    ) -> Moved {
+        let room = room_in::<S>(space);
+        let firsts = first.flags();
+        let seconds = second.flags();
+        let ran = run_over(self.stage, firsts, seconds, &mut block.flags, room, most);
+        self.stage = ran.stage;
+        Moved {
+            first: ran.first,
+            second: ran.second,
+            units: 0,
+            flags: ran.written,
+            ints: 0,
+            steps: ran.first + ran.second + ran.written,
         }
     }
 }

@@ -1,16 +1,10 @@
 // The items that are to be kept.
 
-ghost use Rattle.std.specs.Prelude.{◌≡◌, ◌≢◌, ◌≤◌, ℕ, length, take, false};
-ghost use Rattle.flow_messages.specs.Ends.{SameEnds};
-ghost use Rattle.flow_messages.specs.Kinds.{TakesKind};
-ghost use Rattle.flow_base.specs.Nodes.{behaviour_of, node_state};
-ghost use Rattle.flow_base.specs.Visits.{edge_of, IsWired, Went};
-ghost use Rattle.flow_base.specs.declared.node.Phase.TheVariants.{Working};
-ghost use Rattle.flow_segment.specs.PackMachine.{kept, trues, pack_machine, pack_view};
-ghost use Rattle.flow_segment.specs.declared.pack.Pair.TheVariants.{Start as StartState};
+ghost use Rattle.std.specs.Prelude.{◌≡◌, ◌≤◌, false, length, take};
+ghost use Rattle.flow_segment.specs.PackMachine.{kept, trues};
 
-use flow_base::{Ask, BLOCK, SHORT_BLOCK, Stop, Worker};
-use flow_messages::{Ends, Flat, Item, Kind};
+use flow_base::{Ask, Moved, Shown, Stop, Worker, Written};
+use flow_messages::{Flat, Item, Kind};
 use snesl_data::FaultKind;
 use std::alloc::AllocError;
 use std::mem;
@@ -76,103 +70,6 @@ impl Pack {
         Pack {
             kind,
             pair: Pair::Start,
-        }
-    }
-
-    // The pairs that are shown, a block at most. One that is kept is three steps, and one that is not is two. How many
-    // steps it made.
-    #[inline(always)]
-    fn round<E: Ends>(
-        &self,
-        inputs: &[usize],
-        outputs: &[usize],
-        ends: &mut E,
-        most: usize,
-        block: &mut [i64],
-    ) -> usize
-        requires start { self.now.pair ≡ StartState }
-        requires apart { edge_of inputs.now 0 ≢ edge_of inputs.now 1 }
-        requires wired { IsWired inputs.now outputs.now 2 1 (E.view ends.old) }
-        requires kind { TakesKind ((E.view ends.old).kind (edge_of outputs.now 0)) self.now.kind }
-        ensures same { E.same ends.old ends.new }
-        ensures ends { SameEnds (E.view ends.old) (E.view ends.new) }
-        ensures within { result ≤ most }
-        ensures went { (at : ℕ) → Went inputs.now outputs.now (behaviour_of pack_machine)
-            (node_state (pack_view self.now) Working at) (E.view ends.old)
-            (node_state (pack_view self.now) Working at) (E.view ends.new) result }
-    {
-        let (truths, items, to) = (inputs[0], inputs[1], outputs[0]);
-        let room = ends.space(to).min(BLOCK).min(block.len()).min(most / 3);
-        let shown = ends.flags(truths);
-        match self.kind {
-            Kind::Int => {
-                let ints = ends.ints(items);
-                let whole = room.min(shown.len()).min(ints.len());
-                if whole == 0 {
-                    return 0;
-                }
-                let count = keep(&shown[..whole], &ints[..whole], block);
-                ends.skip(truths, whole);
-                ends.skip(items, whole);
-                ends.put_ints(to, &block[..count]);
-                2 * whole + count
-            }
-            Kind::Bool => {
-                let flags = ends.flags(items);
-                let whole = room.min(shown.len()).min(flags.len());
-                if whole == 0 {
-                    return 0;
-                }
-                let mut block = [false; BLOCK];
-                let count = keep(&shown[..whole], &flags[..whole], &mut block);
-                ends.skip(truths, whole);
-                ends.skip(items, whole);
-                ends.put_flags(to, &block[..count]);
-                2 * whole + count
-            }
-            Kind::Unit => {
-                let whole = room.min(shown.len()).min(ends.units(items));
-                if whole == 0 {
-                    return 0;
-                }
-                let count = trues_in(&shown[..whole]);
-                ends.skip(truths, whole);
-                ends.skip(items, whole);
-                ends.put_units(to, count);
-                2 * whole + count
-            }
-            Kind::Vec => 0,
-        }
-    }
-
-    // Rounds through a block that is lent. Each is the pairs that are shown, as far as the block. How many steps.
-    #[inline(never)]
-    fn rounds<E: Ends>(
-        &self,
-        inputs: &[usize],
-        outputs: &[usize],
-        ends: &mut E,
-        most: usize,
-        block: &mut [i64],
-    ) -> usize
-        requires start { self.now.pair ≡ StartState }
-        requires apart { edge_of inputs.now 0 ≢ edge_of inputs.now 1 }
-        requires wired { IsWired inputs.now outputs.now 2 1 (E.view ends.old) }
-        requires kind { TakesKind ((E.view ends.old).kind (edge_of outputs.now 0)) self.now.kind }
-        ensures same { E.same ends.old ends.new }
-        ensures ends { SameEnds (E.view ends.old) (E.view ends.new) }
-        ensures within { result ≤ most }
-        ensures went { (at : ℕ) → Went inputs.now outputs.now (behaviour_of pack_machine)
-            (node_state (pack_view self.now) Working at) (E.view ends.old)
-            (node_state (pack_view self.now) Working at) (E.view ends.new) result }
-    {
-        let mut made = 0;
-        'rounds: loop {
-            let steps = self.round(inputs, outputs, ends, most - made, block);
-            if steps == 0 {
-                return made;
-            }
-            made += steps;
         }
     }
 }
@@ -261,24 +158,62 @@ impl Worker for Pack {
         matches!(self.pair, Pair::Start)
     }
 
+    // A pair that is kept is three steps, and one that is not is two.
     #[inline(always)]
-    fn blocks<E: Ends>(
+    fn along(
         &mut self,
-        inputs: &[usize],
-        outputs: &[usize],
-        ends: &mut E,
+        first: Shown<'_>,
+        second: Shown<'_>,
+        block: &mut Written,
+        space: usize,
         most: usize,
-    ) -> usize {
+    ) -> Moved {
         let Pair::Start = self.pair else {
-            return 0;
+            return Moved::nothing();
         };
-        // Two blocks of one edge are not seen at once.
-        if inputs[0] == inputs[1] || ends.flags(inputs[0]).is_empty() {
-            return 0;
+        let truths = first.flags();
+        let room = truths.len().min(space).min(most / 3);
+        match self.kind {
+            Kind::Int => {
+                let items = second.ints();
+                let whole = room.min(items.len());
+                let count = keep(&truths[..whole], &items[..whole], &mut block.ints);
+                Moved {
+                    first: whole,
+                    second: whole,
+                    units: 0,
+                    flags: 0,
+                    ints: count,
+                    steps: 2 * whole + count,
+                }
+            }
+            Kind::Bool => {
+                let items = second.flags();
+                let whole = room.min(items.len());
+                let count = keep(&truths[..whole], &items[..whole], &mut block.flags);
+                Moved {
+                    first: whole,
+                    second: whole,
+                    units: 0,
+                    flags: count,
+                    ints: 0,
+                    steps: 2 * whole + count,
+                }
+            }
+            Kind::Unit => {
+                let items = second.units();
+                let whole = room.min(items);
+                let count = trues_in(&truths[..whole]);
+                Moved {
+                    first: whole,
+                    second: whole,
+                    units: count,
+                    flags: 0,
+                    ints: 0,
+                    steps: 2 * whole + count,
+                }
+            }
+            Kind::Vec => Moved::nothing(),
         }
-        if most < BLOCK {
-            return self.rounds(inputs, outputs, ends, most, &mut [0; SHORT_BLOCK]);
-        }
-        self.rounds(inputs, outputs, ends, most, &mut [0; BLOCK])
     }
 }

@@ -160,6 +160,10 @@ fn append(alloc: Global, text: &mut Vec<u8>, message: &Msg) -> Result<(), AllocE
             let said = text_of(alloc, &Datum::Vec(elements.share()?))?;
             text.extend_from_slice(&said)
         }
+        Msg::Item(Item::Typed(typed)) => {
+            let said = text_of(alloc, &Datum::Vec(typed.elements.share()?))?;
+            text.extend_from_slice(&said)
+        }
     }
 }
 

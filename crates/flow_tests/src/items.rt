@@ -1,8 +1,9 @@
 // Items and their kinds, and the fault that is named.
 
 use flow_messages::{Item, Kind};
+use flow_values::{item_of_type, kept};
 use kahn::faults::{named, named_fault};
-use snesl_data::{Elements, Fault, FaultKind};
+use snesl_data::{Datum, Elements, Fault, FaultKind, Ty};
 use std::alloc::{AllocError, Global};
 use std::test::Fail;
 
@@ -60,6 +61,44 @@ fn of_many() -> [Option<Fault>; 3] {
         named_fault(&[SHAPE]),
         named_fault(&[]),
     ]
+}
+
+// The type of pairs of integers.
+fn pairs(alloc: Global) -> Result<Ty, AllocError> {
+    let first = Box::new(alloc, Ty::Int)?;
+    Ok(Ty::Pair(first, Box::new(alloc, Ty::Int)?))
+}
+
+// Whether the type is known of an item of the vector of this element, and of a copy of it, where it is asked for this type.
+fn known(alloc: Global, datum: Datum, ty: &Ty) -> Result<[bool; 2], AllocError> {
+    let all = Elements::of_data(alloc, vec![in alloc; datum]?)?;
+    let of = kept(alloc, ty)?;
+    let item = item_of_type(&of, all)?;
+    let copy = item.copy()?;
+    Ok([is_known(&item), is_known(&copy)])
+}
+
+fn is_known(item: &Item) -> bool {
+    match item {
+        Item::Typed(_) => true,
+        _ => false,
+    }
+}
+
+#[test]
+fn types_are_known_of_vectors(rt: HostRuntime) -> Result<(), Fail> {
+    let alloc = rt.alloc();
+    let pair = Datum::Pair(
+        Box::new(alloc, Datum::Int(1))?,
+        Box::new(alloc, Datum::Int(2))?,
+    );
+    assert_eq!(rt; known(alloc, pair, &pairs(alloc)?)?, [true, true]);
+    assert_eq!(rt;
+        known(alloc, Datum::Int(1), &pairs(alloc)?)?,
+        [false, false]
+    );
+    assert_eq!(rt; known(alloc, Datum::Int(1), &Ty::Int)?, [false, false]);
+    Ok(())
 }
 
 #[test]

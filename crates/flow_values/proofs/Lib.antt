@@ -1,4 +1,6 @@
 pub mod Building
+pub mod IndexPairs
+pub mod Known
 pub mod Layings
 pub mod Members
 pub mod Printing

@@ -14,23 +14,23 @@ use Rattle.flow_values.specs.Shapes.{all_are, kinds_of, kind_at}
 use Rattle.flow_values.specs.Flats.{width}
 use Rattle.flow_values.specs.Dues.{DueCell, due_cell, dues_of, output_of, DuesOfKind, DuesInRange}
 use Rattle.flow_values.specs.Rows.{element_at, IndexRow}
-use Rattle.flow_values.specs.declared.index.Stage.{Stage}
-use Rattle.flow_values.specs.declared.index.Stage.TheVariants.{Held, Writing}
+use Rattle.flow_values.specs.declared.dues.Due.{Due}
+use Rattle.snesl_data.specs.declared.datum.Elements.{Elements}
 
 -- how far an instance is: a vector was read, or these items are due, and with none of them the next instance may begin
 pub data IndexState : Type 0 where
   held : Values → IndexState
   writing : List DueCell → IndexState
 
--- what the laws see of a stage
-abbrev pub index_state : Stage → IndexState
-index_state (Held all) = held (elements_of all)
-index_state (Writing dues) = writing (map due_cell dues.items)
+-- what the laws see of a vector that is held, if one is, and of the items that are due
+abbrev pub index_state : Option Elements → List Due → IndexState
+index_state (Some all) dues = held (elements_of all)
+index_state None dues = writing (map due_cell dues)
 
 -- whether a vector that is held is of elements of the type
-abbrev pub holds_such : Ty → Stage → Bool
-holds_such item (Held all) = all_are item (elements_of all)
-holds_such item (Writing dues) = true
+abbrev pub holds_such : Ty → Option Elements → Bool
+holds_such item (Some all) = all_are item (elements_of all)
+holds_such item None = true
 
 -- a vector of such items is held
 abbrev pub vector_given : Ty → Cell → Result IndexState FaultKind

@@ -6,6 +6,7 @@ pub mod Aheads
 pub mod Dues
 pub mod SeqMachine
 pub mod IndexMachine
+pub mod IndexPairs
 pub mod Parts
 pub mod TabMachine
 pub mod laws

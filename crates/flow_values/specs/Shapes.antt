@@ -1,25 +1,16 @@
--- Values of a type, whatever their integers, and the kinds of the edges of a type.
-use Rattle.std.specs.Prelude.{ℕ, IsTrue, ◌↔◌, ◌&&◌, Bool, true, false, List, [], ◌∷◌, ◌++◌, Some, None}
+-- The test of a value's type, and the kinds of the edges of a type.
+use Rattle.std.specs.Prelude.{ℕ, IsTrue, ◌↔◌, Bool, true, false, List, [], ◌∷◌, ◌++◌, Option, Some, None}
 use Rattle.std.specs.List.{slice_get}
-use Rattle.snesl_data.specs.Types.{Ty, int, bool, pair, vec, seq}
-use Rattle.snesl_data.specs.Values.{Value, Values, an_int, a_bool, a_pair, a_vec, a_seq, no_values, more_values, list_of, HasShape}
+use Rattle.std.specs.Arc.{arc_value}
+use Rattle.std.specs.Global.{Global}
+use Rattle.std.specs.declared.sync.Arc.{Arc}
+use Rattle.snesl_data.specs.declared.ty.Ty.{Ty as TyTree}
+use Rattle.snesl_data.specs.Types.{Ty, ty_of, int, bool, pair, vec, seq}
+use Rattle.snesl_data.specs.Values.{Value, Values, an_int, a_bool, a_pair, a_vec, a_seq, list_of, HasShape}
+pub use Rattle.flow_messages.specs.Shapes.{is_a, all_are}
 use Rattle.flow_messages.specs.Cells.{Cell, flag, int as int_cell, datum}
 use Rattle.flow_messages.specs.declared.message.Kind.{Kind}
 use Rattle.flow_messages.specs.declared.message.Kind.TheVariants.{Unit as UnitKind, Bool as BoolKind, Int as IntKind, Vec as VecKind}
-
--- whether the value is one of the type
-abbrev mutual
-  pub is_a : Ty → Value → Bool
-  is_a int (an_int n) = true
-  is_a bool (a_bool b) = true
-  is_a (pair first second) (a_pair a b) = is_a first a && is_a second b
-  is_a (vec item) (a_vec vs) = all_are item vs
-  is_a (seq item) (a_seq vs) = all_are item vs
-  is_a _ _ = false
-
-  pub all_are : Ty → Values → Bool
-  all_are item no_values = true
-  all_are item (more_values v vs) = is_a item v && all_are item vs
 
 -- whether it is the type of integers
 abbrev pub is_int_type : Ty → Bool
@@ -67,3 +58,27 @@ elements_of _ = []
 -- the kind of the edge at this port, where there is one
 abbrev pub kind_at : List Kind → ℕ → Kind
 kind_at kinds p = elim (slice_get kinds p) [ Some kind ↦ kind | None ↦ UnitKind ]
+
+-- the type that is kept of the elements of a vector: none where they are packed, since then a look at the kind is enough
+abbrev pub kept_type : Ty → Option Ty
+kept_type int = None
+kept_type bool = None
+kept_type item = Some item
+
+-- the types that are kept of the vectors on the edges of the type, in order
+abbrev pub kept_types : Ty → List (Option Ty)
+kept_types int = None ∷ []
+kept_types bool = None ∷ []
+kept_types (vec item) = kept_type item ∷ []
+kept_types (pair first second) = kept_types first ++ kept_types second
+kept_types (seq item) = None ∷ kept_types item
+
+-- whether the values are of the type that is kept of them, where one is
+abbrev pub are_as_known : Option (Arc TyTree Global) → Values → Bool
+are_as_known None vs = true
+are_as_known (Some of) vs = all_are (ty_of (arc_value of)) vs
+
+-- the type that is shared
+abbrev pub shared_type : Option (Arc TyTree Global) → Option Ty
+shared_type None = None
+shared_type (Some of) = Some (ty_of (arc_value of))

@@ -30,4 +30,4 @@ abbrev pub seq_node : NodeOf (Node Seq)
 seq_node = node_of (λ n. (ty_of n.element, map due_cell n.dues.items ++ left_dues (ty_of n.element) n.vector n.begun)) seq_machine seq_laws
 
 abbrev pub index_node : NodeOf (Node Index)
-index_node = node_of (λ n. (ty_of n.element, index_state n.stage)) index_machine index_laws
+index_node = node_of (λ n. (ty_of n.element, index_state n.held n.dues.items)) index_machine index_laws

@@ -9,7 +9,7 @@ ghost use Rattle.flow_values.specs.PrintMachine as machine;
 ghost use Rattle.flow_values.specs.Aheads.{pending_of, stack, LeadsAhead, Finds};
 
 use crate::pending::{Flags, Pending, Place};
-use crate::shapes::{are_elements, edge_count};
+use crate::shapes::{are_elements, edge_count, is_typed};
 use flow_base::Stop;
 use flow_messages::Item;
 use snesl_data::{Datum, FaultKind, Ty, copy_ty, text_of};
@@ -159,6 +159,15 @@ impl Ahead {
                     return Err(Stop::Faulted(FaultKind::Shape));
                 }
                 let vector = Datum::Vec(elements.share()?);
+                let said = text_of(alloc, &vector)?;
+                self.finish(&said, brackets)?;
+                Ok(())
+            }
+            (Ty::Vec(element), Item::Typed(typed)) => {
+                if !is_typed(element, typed) {
+                    return Err(Stop::Faulted(FaultKind::Shape));
+                }
+                let vector = Datum::Vec(typed.elements.share()?);
                 let said = text_of(alloc, &vector)?;
                 self.finish(&said, brackets)?;
                 Ok(())

@@ -1,18 +1,19 @@
 // Items that are due, in the order in which they are written.
 
-ghost use Rattle.std.specs.Prelude.{◌≡◌, ◌<◌, ◌^◌, ◌+◌, ◌∷◌, ◌++◌, [], true, map, OnOk};
+ghost use Rattle.std.specs.Prelude.{◌≡◌, ◌<◌, ◌^◌, ◌+◌, ◌∷◌, ◌++◌, [], true, map, IfOk, OnOk};
 ghost use Rattle.snesl_data.specs.Types.{ty_of, seq};
-ghost use Rattle.snesl_data.specs.Values.{value_of, values_of};
+ghost use Rattle.snesl_data.specs.Values.{value_of, values_of, a_vec, elements_of};
 ghost use Rattle.flow_values.specs.Shapes.{is_a, all_are};
 ghost use Rattle.flow_values.specs.Flats.{width};
 ghost use Rattle.flow_values.specs.Dues.{due, due_cell, dues_of, segment_dues, output_of};
-ghost use Rattle.flow_messages.specs.Cells.{cell_of};
+ghost use Rattle.flow_messages.specs.Cells.{cell_of, datum};
 
 use crate::shapes::edge_count;
 use flow_messages::Item;
-use snesl_data::{Datum, Ty};
+use snesl_data::{Datum, Elements, Ty};
 use std::alloc::AllocError;
 use std::collections::VecDeque;
+use std::sync::Arc;
 
 /// An item, and the output that it is to be written to.
 #[derive(Drop)]
@@ -39,11 +40,32 @@ fn add(dues: &mut VecDeque<Due>, port: usize, item: Item) -> Result<(), AllocErr
     Ok(())
 }
 
+// The item of a vector of elements of this type. The type is known of it where it is the one that is kept for this port.
+fn vector_item(
+    types: &[Option<Arc<Ty>>],
+    port: usize,
+    element: &Ty,
+    elements: &Elements,
+) -> Result<Item, AllocError>
+    requires { all_are (ty_of element.now) (elements_of elements.now) ≡ true }
+    ensures { IfOk result (λ item. cell_of item ≡ datum (a_vec (elements_of elements.now))) }
+{
+    let shared = elements.share()?;
+    if let Some(Some(of)) = types.get(port) {
+        if of.is(element) {
+            let of = Arc::try_clone(of)?;
+            return Ok(Item::of_known(shared, of));
+        }
+    }
+    Ok(Item::of_elements(shared))
+}
+
 /// Adds what the value puts on the edges of its type, the first of which is this port. Its only error is that memory
-/// was refused, or that too many share a vector.
+/// was refused, or that too many share a vector. Of a vector its type is known where it is kept for its port.
 #[cycle(add_value)]
 pub fn add_value(
     dues: &mut VecDeque<Due>,
+    types: &[Option<Arc<Ty>>],
     ty: &Ty,
     port: usize,
     datum: &Datum,
@@ -56,15 +78,15 @@ pub fn add_value(
     match (ty, datum) {
         (Ty::Int, Datum::Int(number)) => add(dues, port, Item::Int(*number)),
         (Ty::Bool, Datum::Bool(truth)) => add(dues, port, Item::Bool(*truth)),
-        (Ty::Vec(_), Datum::Vec(elements)) => {
-            let shared = elements.share()?;
-            add(dues, port, Item::of_elements(shared))
+        (Ty::Vec(element), Datum::Vec(elements)) => {
+            let vector = vector_item(types, port, element, elements)?;
+            add(dues, port, vector)
         }
         (Ty::Pair(first, second), Datum::Pair(a, b)) => {
-            add_value(dues, first, port, a)?;
-            add_value(dues, second, port + edge_count(first), b)
+            add_value(dues, types, first, port, a)?;
+            add_value(dues, types, second, port + edge_count(first), b)
         }
-        (Ty::Seq(item), Datum::Seq(all)) => add_segment(dues, item, port, all),
+        (Ty::Seq(item), Datum::Seq(all)) => add_segment(dues, types, item, port, all),
         _ => unreachable!(),
     }
 }
@@ -73,6 +95,7 @@ pub fn add_value(
 #[cycle(add_value)]
 fn add_segment(
     dues: &mut VecDeque<Due>,
+    types: &[Option<Arc<Ty>>],
     item: &Ty,
     port: usize,
     all: &[Datum],
@@ -84,7 +107,7 @@ fn add_segment(
 {
     for datum in all {
         add(dues, port, Item::Bool(false))?;
-        add_value(dues, item, port + 1, datum)?;
+        add_value(dues, types, item, port + 1, datum)?;
     }
     add(dues, port, Item::Bool(true))
 }

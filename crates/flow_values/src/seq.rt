@@ -9,13 +9,14 @@ ghost use Rattle.flow_values.specs.Dues.{DueCell, due_cell};
 ghost use Rattle.flow_values.specs.SeqMachine.{seq_machine, seq_takes_memory, left_dues, writes_such};
 
 use crate::dues::{Due, add_value};
-use crate::shapes::{add_kinds, kind_at};
+use crate::shapes::{add_kinds, add_types, kind_at};
 use crate::vectors::vector_in;
 use flow_base::{Ask, Stop, Worker};
 use flow_messages::{Flat, Item, Kind};
 use snesl_data::{Elements, Ty};
 use std::alloc::{AllocError, Global};
 use std::collections::VecDeque;
+use std::sync::Arc;
 
 /// Writes the elements of each vector as a sequence. Each vector is an instance.
 ///
@@ -33,6 +34,8 @@ pub struct Seq {
     element: Ty,
     // Of the outputs.
     kinds: Vec<Kind>,
+    // Of the vectors on them, as far as they are kept.
+    types: Vec<Option<Arc<Ty>>>,
     // What is due of the element that was begun last.
     dues: VecDeque<Due>,
     // The vector that is written, and how many of its elements were begun.
@@ -51,10 +54,14 @@ impl Seq {
         let mut kinds = Vec::new(alloc);
         kinds.push(Kind::Bool)?;
         add_kinds(&mut kinds, &element)?;
+        let mut types = Vec::new(alloc);
+        types.push(None)?;
+        add_types(&mut types, alloc, &element)?;
         Ok(Seq {
             alloc,
             element,
             kinds,
+            types,
             dues: VecDeque::new(alloc),
             vector: None,
             begun: 0,
@@ -88,7 +95,7 @@ impl Seq {
         let Some(datum) = elements.at(self.alloc, self.begun)? else {
             unreachable!()
         };
-        if add_value(&mut self.dues, &self.element, 1, &datum).is_err() {
+        if add_value(&mut self.dues, &self.types, &self.element, 1, &datum).is_err() {
             self.dues.clear();
             return Err(AllocError);
         }

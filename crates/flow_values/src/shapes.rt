@@ -4,13 +4,14 @@ ghost use Rattle.std.specs.Prelude.{◌≡◌, ◌<◌, ◌^◌, ◌++◌, map, 
 ghost use Rattle.snesl_data.specs.Types.{ty_of};
 ghost use Rattle.snesl_data.specs.Values.{value_of, values_of, elements_of};
 ghost use Rattle.flow_messages.specs.Cells.{cell_of};
-ghost use Rattle.flow_values.specs.Shapes.{is_a, all_are, is_int_type, is_bool_type, ShapesAreTested, kinds_of, kind_at};
+ghost use Rattle.flow_values.specs.Shapes.{is_a, all_are, is_int_type, is_bool_type, ShapesAreTested, kinds_of, kind_at, kept_type, kept_types, shared_type};
 ghost use Rattle.flow_values.specs.Flats.{width};
 ghost use Rattle.flow_values.specs.Parts.{part_fits};
 
-use flow_messages::{Item, Kind};
-use snesl_data::{Datum, Elements, Ty};
+use flow_messages::{Item, Kind, Typed};
+use snesl_data::{Datum, Elements, Ty, copy_ty};
 use std::alloc::{AllocError, Global};
+use std::sync::Arc;
 
 /// Whether the value is one of the type. Of a vector whose integers or truth values are packed it looks at no element.
 #[cycle(is_value)]
@@ -49,6 +50,16 @@ fn are_values(item: &Ty, all: &[Datum]) -> bool
         }
     }
     true
+}
+
+/// Whether each element is of the type. Where it is the type that is known of them, it looks at none.
+pub fn is_typed(element: &Ty, typed: &Typed) -> bool
+    ensures { result ≡ all_are (ty_of element.now) (elements_of typed.now.elements) }
+{
+    if typed.of.is(element) {
+        return true;
+    }
+    are_elements(element, &typed.elements)
 }
 
 fn is_int(ty: &Ty) -> bool
@@ -96,6 +107,43 @@ pub fn add_kinds(all: &mut Vec<Kind>, ty: &Ty) -> Result<(), AllocError>
     Ok(())
 }
 
+/// Of each edge of the type, in order, the type of the elements of the vectors on it, as far as `kept_type` keeps one. Its
+/// only error is that memory was refused.
+pub fn add_types(all: &mut Vec<Option<Arc<Ty>>>, alloc: Global, ty: &Ty) -> Result<(), AllocError>
+    ensures { OnOk result (map shared_type all.new.items ≡
+        map shared_type all.old.items ++ kept_types (ty_of ty.now)) }
+{
+    match ty {
+        Ty::Int | Ty::Bool => all.push(None)?,
+        Ty::Vec(item) => {
+            let kept = kept(alloc, item)?;
+            all.push(kept)?;
+        }
+        Ty::Pair(first, second) => {
+            add_types(all, alloc, first)?;
+            add_types(all, alloc, second)?;
+        }
+        Ty::Seq(item) => {
+            all.push(None)?;
+            add_types(all, alloc, item)?;
+        }
+    }
+    Ok(())
+}
+
+/// The type of the elements of a vector, shared, where they are not packed. Its only error is that memory was refused.
+pub fn kept(alloc: Global, element: &Ty) -> Result<Option<Arc<Ty>>, AllocError>
+    ensures { IfOk result (λ kept. shared_type kept ≡ kept_type (ty_of element.now)) }
+{
+    match element {
+        Ty::Int | Ty::Bool => Ok(None),
+        Ty::Pair(_, _) | Ty::Vec(_) | Ty::Seq(_) => {
+            let copy = copy_ty(alloc, element)?;
+            Ok(Some(Arc::new(alloc, copy)?))
+        }
+    }
+}
+
 /// How many edges the type has, where the number fits.
 pub fn edge_count(ty: &Ty) -> usize
     requires { width (ty_of ty.now) < 2 ^ 64 }
@@ -117,6 +165,7 @@ pub fn part_fits(ty: &Ty, place: usize, item: &Item) -> bool
     match (ty, item) {
         (Ty::Int, Item::Int(_)) | (Ty::Bool, Item::Bool(_)) => place == 0,
         (Ty::Vec(element), Item::Vec(elements)) => place == 0 && are_elements(element, elements),
+        (Ty::Vec(element), Item::Typed(typed)) => place == 0 && is_typed(element, typed),
         (Ty::Pair(first, second), _) => {
             let edges = edge_count(first);
             if place < edges {

@@ -1,8 +1,9 @@
 // The elements of sequences, as vectors.
 
-ghost use Rattle.std.specs.Prelude.{◌≡◌, [], map, List, IfOk, false};
+ghost use Rattle.std.specs.Prelude.{◌≡◌, [], map, List, IfOk, OnOk, true, false};
 ghost use Rattle.snesl_data.specs.Types.{Ty as ElementType, ty_of, seq};
-ghost use Rattle.snesl_data.specs.Values.{Value, value_of, a_pair};
+ghost use Rattle.snesl_data.specs.Values.{Value, Values, value_of, values_of, a_pair};
+ghost use Rattle.flow_values.specs.Shapes.{all_are, are_as_known};
 ghost use Rattle.snesl_data.specs.Builders.{built_in};
 ghost use Rattle.flow_messages.specs.Cells.{cell_of};
 ghost use Rattle.flow_base.specs.Workers.{Takes};
@@ -11,13 +12,14 @@ ghost use Rattle.flow_values.specs.Parts.{built, PartsFit};
 ghost use Rattle.flow_base.specs.Machines.{state_after_item, with_parameters};
 ghost use Rattle.flow_values.specs.TabMachine.{TabState, start, tab_state, staged, flag_taking, grown, item_given, item_port, MakesDatum};
 
-use crate::shapes::{add_kinds, are_elements, kind_at, part_fits};
+use crate::shapes::{add_kinds, are_elements, is_typed, kept, kind_at, part_fits};
 use flow_base::{Ask, Stop, Worker};
 use flow_messages::{Flat, Item, Kind};
 use snesl_data::{Builder, Datum, FaultKind, Ty};
 use std::alloc::{AllocError, Global};
 use std::collections::VecDeque;
 use std::mem;
+use std::sync::Arc;
 
 /// Writes the elements of each sequence as a vector. Each sequence is an instance.
 ///
@@ -34,12 +36,17 @@ pub struct Tab {
     element: Ty,
     // Of the inputs.
     kinds: Vec<Kind>,
+    // The type of the elements once more, where it is kept for the vectors.
+    of: Option<Arc<Ty>>,
     // The elements of the sequence so far, and the items of the next one.
     elements: Builder,
     items: Vec<Item>,
+    // Copies of these, while their value is made. Between calls they say nothing.
+    parts: VecDeque<Item>,
     stage: Stage,
     ghost kinds_are: { kinds.items ≡ kinds_of (seq (ty_of element)) },
     ghost items_fit: { PartsFit (ty_of element) (map cell_of items.items) },
+    ghost elements_are: { all_are (ty_of element) (values_of (built_in elements)) ≡ true },
 }
 
 // What comes next.
@@ -63,12 +70,15 @@ impl Tab {
         let mut kinds = Vec::new(alloc);
         kinds.push(Kind::Bool)?;
         add_kinds(&mut kinds, &element)?;
+        let of = kept(alloc, &element)?;
         Ok(Tab {
             alloc,
             element,
             kinds,
+            of,
             elements: Builder::Empty,
             items: Vec::new(alloc),
+            parts: VecDeque::new(alloc),
             stage: Stage::Start,
         })
     }
@@ -81,6 +91,17 @@ impl Tab {
             self.items.len() + 1
         } else {
             0
+        }
+    }
+
+    // The type of its elements, shared, where it is kept. Its only error is that too many share it.
+    fn known(&self) -> Result<Option<Arc<Ty>>, AllocError>
+        ensures { IfOk result (λ of. (vs : Values) →
+            all_are (ty_of self.now.element) vs ≡ true → are_as_known of vs ≡ true) }
+    {
+        match &self.of {
+            Some(of) if of.is(&self.element) => Ok(Some(Arc::try_clone(of)?)),
+            _ => Ok(None),
         }
     }
 
@@ -114,9 +135,9 @@ impl Tab {
         if self.items.len() < self.kinds.len() - 1 {
             return Ok(());
         }
-        let mut items = copies(self.alloc, &self.items)?;
-        let datum = build(self.alloc, &self.element, &mut items)?;
-        if !items.is_empty() {
+        copy_items(&mut self.parts, &self.items)?;
+        let datum = build(self.alloc, &self.element, &mut self.parts)?;
+        if !self.parts.is_empty() {
             return Err(Stop::Faulted(FaultKind::Shape));
         }
         if self.elements.push(self.alloc, datum).is_err() {
@@ -150,15 +171,15 @@ impl Tab {
     }
 }
 
-// Items that carry the same.
-fn copies(alloc: Global, items: &[Item]) -> Result<VecDeque<Item>, AllocError>
-    ensures { IfOk result (λ all. map cell_of all.items ≡ map cell_of items.now) }
+// Makes the first items carry the same as the others.
+fn copy_items(copies: &mut VecDeque<Item>, items: &[Item]) -> Result<(), AllocError>
+    ensures { OnOk result (map cell_of copies.new.items ≡ map cell_of items.now) }
 {
-    let mut all = VecDeque::new(alloc);
+    copies.clear();
     for item in items {
-        all.push_back(item.copy()?)?;
+        copies.push_back(item.copy()?)?;
     }
-    Ok(all)
+    Ok(())
 }
 
 fn paired(alloc: Global, a: Datum, b: Datum) -> Result<Datum, AllocError>
@@ -184,6 +205,13 @@ fn build(alloc: Global, ty: &Ty, items: &mut VecDeque<Item>) -> Result<Datum, St
             Some(Item::Vec(all)) => {
                 if are_elements(element, &all) {
                     Ok(Datum::Vec(all))
+                } else {
+                    Err(Stop::Faulted(FaultKind::Shape))
+                }
+            }
+            Some(Item::Typed(typed)) => {
+                if is_typed(element, &typed) {
+                    Ok(Datum::Vec(typed.elements))
                 } else {
                     Err(Stop::Faulted(FaultKind::Shape))
                 }
@@ -259,13 +287,13 @@ impl Worker for Tab {
             Stage::Start => {
                 let stage = self.at_flag(&item)?;
                 self.elements = Builder::Empty;
-                self.items = Vec::new(self.alloc);
+                self.items.clear();
                 self.stage = stage;
                 Ok(())
             }
             Stage::Flag => {
                 let stage = self.at_flag(&item)?;
-                self.items = Vec::new(self.alloc);
+                self.items.clear();
                 self.stage = stage;
                 Ok(())
             }
@@ -278,11 +306,15 @@ impl Worker for Tab {
     fn give(&mut self) -> Result<Item, AllocError> {
         match self.stage {
             Stage::End => {
+                let of = self.known()?;
                 let elements = mem::replace(&mut self.elements, Builder::Empty);
                 match elements.finish(self.alloc) {
                     Ok(all) => {
                         self.stage = Stage::Start;
-                        Ok(Item::of_elements(all))
+                        match of {
+                            Some(of) => Ok(Item::of_known(all, of)),
+                            None => Ok(Item::of_elements(all)),
+                        }
                     }
                     Err(same) => {
                         self.elements = same;

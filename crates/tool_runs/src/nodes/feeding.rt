@@ -144,5 +144,9 @@ fn word_of(alloc: Global, way: char, port: usize, message: &Msg) -> Result<Strin
             let text = text_of(alloc, &Datum::Vec(elements.share()?))?;
             format!(in alloc; " {way}{port} {}", text.escape_ascii())
         }
+        Msg::Item(Item::Typed(typed)) => {
+            let text = text_of(alloc, &Datum::Vec(typed.elements.share()?))?;
+            format!(in alloc; " {way}{port} {}", text.escape_ascii())
+        }
     }
 }

@@ -1,10 +1,6 @@
-use Rattle.std.proofs.Common.{◌≡◌, length}
 use Rattle.flow_scalar.specs.BinaryMachine.{FlagsAt}
 use Rattle.flow_scalar.proofs.binary.flags_by.Given as goal
 
 -- the values so far, one for each pair
 abbrev pub invariant-loop-at : goal.invariant-loop-at
-invariant-loop-at l = record {
-  long : length l.values ≡ 64;
-  values : FlagsAt l.dialect l.operator l.lefts l.rights l.values l.at;
-}
+invariant-loop-at l = FlagsAt l.dialect l.operator l.lefts l.rights l.values l.at

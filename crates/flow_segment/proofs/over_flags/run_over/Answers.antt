@@ -6,7 +6,7 @@ use Rattle.flow_base.specs.Machines.{on_flag, begins, takes, gives, ask_of, stat
 use Rattle.flow_base.specs.Nodes.{want_for}
 use Rattle.flow_segment.specs.FlagBlocks.{RunsOver}
 use Rattle.flow_segment.specs.declared.over_flags.Ran.{Ran}
-use Rattle.flow_segment.proofs.FlagBlocks.{input_there, runs_none, next_first, next_second, next_written}
+use Rattle.flow_segment.proofs.FlagBlocks.{runs_none, next_first, next_second, next_written}
 use Rattle.flow_segment.proofs.over_flags.run_over.Goals.{in-Begin+in-Some, in-Take-eq0-default-default+in-Some-stage_after, in-Take-eq1-default-default+in-Some-stage_after-2, in-Give-eq0-default-default+else-ran-room}
 use Rattle.flow_segment.proofs.over_flags.run_over.Goals as goal
 
@@ -16,8 +16,7 @@ loop-init g c = record {
   first = omega arith;
   second = omega arith;
   written = omega arith;
-  long = c.told-block;
-  only = λ one. refl;
+  long = refl;
   ran = runs_none g.S.Stage.table c.args.stage;
 }
 
@@ -49,7 +48,6 @@ loop-preserved g c =
             second = omega (arith, inv.second, ap second w.ran-is);
             written = omega (arith, inv.written, ap written w.ran-is);
             long = ap length w.block-is ∙ inv.long;
-            only = λ one. ap second w.ran-is ∙ inv.only one;
             ran = subst (λ q. at_stage q block) (sym w.ran-is) (subst (λ l. RunsOver t s (take (ran.first + 1) xs) (take ran.second ys) (take ran.written l) w.in-Some.next) (sym w.block-is) run);
           })
       | in-Take-eq0-default-default+in-Some-stage_after w ↦ (
@@ -66,7 +64,6 @@ loop-preserved g c =
             second = omega (arith, inv.second, ap second w.ran-is);
             written = omega (arith, inv.written, ap written w.ran-is);
             long = ap length w.block-is ∙ inv.long;
-            only = λ one. ap second w.ran-is ∙ inv.only one;
             ran = subst (λ q. at_stage q block) (sym w.ran-is) (subst (λ l. RunsOver t s (take (ran.first + 1) xs) (take ran.second ys) (take ran.written l) next) (sym w.block-is) run);
           })
       | in-Take-eq1-default-default+in-Some-stage_after-2 w ↦ (
@@ -76,7 +73,6 @@ loop-preserved g c =
           let wants = sym (ap (λ m. want_for (ask_of m)) is) ∙ ap Read it.field-0-test in
           let next = w.in-Some-stage_after-2.next in
           let shown = w.in-Some-stage_after-2.ensures in
-          let there : it.field-0 < t.inputs = input_there t g.S.Stage.laws ran.stage it.field-0 k is in
           let run = next_second t s xs ys zs ran.first ran.second ran.written ran.stage next inv.ran k shown.shown wants (λ y. sym (ap (λ m. state_after_read m y) is)) shown.leads in
           record {
             counted = omega (arith, inv.counted, ap first w.ran-is, ap second w.ran-is, ap written w.ran-is);
@@ -84,7 +80,6 @@ loop-preserved g c =
             second = omega (arith, shown.shown, ap second w.ran-is);
             written = omega (arith, inv.written, ap written w.ran-is);
             long = ap length w.block-is ∙ inv.long;
-            only = λ one. absurd (omega (arith, there, it.field-0-test, one));
             ran = subst (λ q. at_stage q block) (sym w.ran-is) (subst (λ l. RunsOver t s (take ran.first xs) (take (ran.second + 1) ys) (take ran.written l) next) (sym w.block-is) run);
           })
       | in-Give-eq0-default-default+else-ran-room w ↦ (
@@ -99,7 +94,6 @@ loop-preserved g c =
             second = omega (arith, inv.second, ap second w.ran-is);
             written = omega (arith, inv.written, w.if-ran-room.false, ap written w.ran-is);
             long = ap length w.block-is ∙ length-set zs ran.written it.flag ∙ inv.long;
-            only = λ one. ap second w.ran-is ∙ inv.only one;
             ran = subst (λ q. at_stage q block) (sym w.ran-is) (subst (λ l. RunsOver t s (take ran.first xs) (take ran.second ys) (take (ran.written + 1) l) it.next) (sym w.block-is) run);
           })
     ]

@@ -9,7 +9,6 @@ invariant-loop g l = record {
   first : l.ran.first ≤ length l.firsts;
   second : l.ran.second ≤ length l.seconds;
   written : l.ran.written ≤ l.room;
-  long : length l.block ≡ 64;
-  only : g.S.Stage.table.inputs ≡ 1 → l.ran.second ≡ 0;
+  long : length l.block ≡ length l.fn.block;
   ran : RunsOver g.S.Stage.table l.fn.stage (take l.ran.first l.firsts) (take l.ran.second l.seconds) (take l.ran.written l.block) l.ran.stage;
 }

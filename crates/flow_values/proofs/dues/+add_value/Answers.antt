@@ -15,14 +15,14 @@ add_value-add_value-requires t c =
     let first = ty_of c.in-Pair-Pair.first.value in
     let second = ty_of c.in-Pair-Pair.second.value in
     let whole : width (ty_of c.args.ty.now) ≡ width (pair first second) = ap (λ x. width (ty_of x)) c.in-Pair-Pair.is-0 in
-    let left : width (ty_of c.deref.result.now) ≡ width first = ap (λ x. width (ty_of x)) c.deref.ensures in
+    let left : width (ty_of c.deref-in-Pair-Pair.result.now) ≡ width first = ap (λ x. width (ty_of x)) c.deref-in-Pair-Pair.ensures in
     let narrower = (parts_narrower first second).0 in
     let fits = c.requires.fits in
     let are : is_a first (value_of c.in-Pair-Pair.a.value) && is_a second (value_of c.in-Pair-Pair.b.value) ≡ true = sym (ap₂ (λ x y. is_a (ty_of x) (value_of y)) c.in-Pair-Pair.is-0 c.in-Pair-Pair.is-1) ∙ c.requires.of_type in (
       omega (arith, whole, left, narrower),
       (
         omega (arith, whole, left, narrower, fits),
-        ap₂ (λ x y. is_a (ty_of x) (value_of y)) c.deref.ensures c.deref-in-Pair-Pair.ensures ∙ (both_true (is_a first (value_of c.in-Pair-Pair.a.value)) (is_a second (value_of c.in-Pair-Pair.b.value)) are).0,
+        ap₂ (λ x y. is_a (ty_of x) (value_of y)) c.deref-in-Pair-Pair.ensures c.deref-in-Pair-Pair-2.ensures ∙ (both_true (is_a first (value_of c.in-Pair-Pair.a.value)) (is_a second (value_of c.in-Pair-Pair.b.value)) are).0,
       ),
     )
 
@@ -31,16 +31,16 @@ add_value-add_value-requires-in-Pair-Pair t c =
     let first = ty_of c.in-Pair-Pair.first.value in
     let second = ty_of c.in-Pair-Pair.second.value in
     let both : width (ty_of c.args.ty.now) ≡ width first + width second = ap (λ x. width (ty_of x)) c.in-Pair-Pair.is-0 ∙ length-append (kinds_of first) (kinds_of second) in
-    let left : c.edge_count.result ≡ width first = c.edge_count.ensures ∙ ap (λ x. width (ty_of x)) c.deref-in-Pair-Pair-3.ensures in
+    let left : c.edge_count.result ≡ width first = c.edge_count.ensures ∙ ap (λ x. width (ty_of x)) c.deref-in-Pair-Pair-4.ensures in
     let whole : width (ty_of c.args.ty.now) ≡ width (pair first second) = ap (λ x. width (ty_of x)) c.in-Pair-Pair.is-0 in
     let narrower = (parts_narrower first second).1 in
-    let right : width (ty_of c.deref-in-Pair-Pair-2.result.now) ≡ width second = ap (λ x. width (ty_of x)) c.deref-in-Pair-Pair-2.ensures in
+    let right : width (ty_of c.deref-in-Pair-Pair-3.result.now) ≡ width second = ap (λ x. width (ty_of x)) c.deref-in-Pair-Pair-3.ensures in
     let fits = c.requires.fits in
     let are : is_a first (value_of c.in-Pair-Pair.a.value) && is_a second (value_of c.in-Pair-Pair.b.value) ≡ true = sym (ap₂ (λ x y. is_a (ty_of x) (value_of y)) c.in-Pair-Pair.is-0 c.in-Pair-Pair.is-1) ∙ c.requires.of_type in (
       omega (arith, whole, right, narrower),
       (
         omega (arith, both, left, right, fits),
-        ap₂ (λ x y. is_a (ty_of x) (value_of y)) c.deref-in-Pair-Pair-2.ensures c.deref-in-Pair-Pair-4.ensures ∙ (both_true (is_a first (value_of c.in-Pair-Pair.a.value)) (is_a second (value_of c.in-Pair-Pair.b.value)) are).1,
+        ap₂ (λ x y. is_a (ty_of x) (value_of y)) c.deref-in-Pair-Pair-3.ensures c.deref-in-Pair-Pair-5.ensures ∙ (both_true (is_a first (value_of c.in-Pair-Pair.a.value)) (is_a second (value_of c.in-Pair-Pair.b.value)) are).1,
       ),
     )
 

@@ -12,3 +12,10 @@ returns-else-are_elements-clause-none c vs e =
     let all = elements_of c.in-Vec.all in
     let not : all_are item all ≡ false = sym c.if-are_elements.ensures in
     same_vector item all vs (sym (ap cell_of c.in-Vec.is) ∙ e) not
+
+pub returns-else-is_typed-clause-none : goal.returns-else-is_typed-clause-none
+returns-else-is_typed-clause-none c vs e =
+    let item = ty_of c.args.element.now in
+    let all = elements_of c.in-Typed.typed.elements in
+    let not : all_are item all ≡ false = sym c.if-is_typed.ensures in
+    same_vector item all vs (sym (ap cell_of c.in-Typed.is) ∙ e) not

@@ -1,10 +1,9 @@
-use Rattle.std.proofs.Common.{◌≡◌, ◌+◌, refl, sym, subst, arith}
+use Rattle.std.proofs.Common.{◌≡◌, ◌+◌, refl, subst, arith}
 use Rattle.std.specs.Prelude.{nat_lt}
 use Rattle.flow_base.specs.Members.{node_of}
-use Rattle.flow_base.specs.Nodes.{node_state}
-use Rattle.flow_base.specs.Visits.{Went, WentOn}
+use Rattle.flow_base.specs.Visits.{WentOn}
 use Rattle.flow_base.proofs.Visits.{placed_on}
-use Rattle.flow_base.proofs.Kernels.{wired, made_went, went_none, went_on_alone, went_then}
+use Rattle.flow_base.proofs.Kernels.{made_went, went_none, went_on_alone, went_then}
 use Rattle.flow_base.proofs.node.Node.many.Goals as goal
 
 -- it made no step
@@ -18,8 +17,8 @@ pub look_for_messages-requires : goal.look_for_messages-requires
 look_for_messages-requires g c = c.requires.placed.reads
 
 -- the steps of a worker that goes on from where it stands, once it has looked for messages
-pub blocks-requires : goal.blocks-requires
-blocks-requires g c =
+pub blocks-requires-clause-placed : goal.blocks-requires-clause-placed
+blocks-requires-clause-placed g c =
     let node = node_of g.W.Worker.state g.W.Worker.machine g.met.W.Worker.laws in
     let b = node.behaviour in
     let ins = c.args.inputs.now in
@@ -30,13 +29,11 @@ blocks-requires g c =
     let a = view c.args.ends.now in
     let w = view c.look_for_messages.new.ends in
     let went = went_on_alone b ins outs 0 (0, went_none b ins outs s a, refl) w (c.look_for_messages.ensures.looked outs) in
-    let now = placed_on node.laws placed (made_went went node.laws placed c.look_for_messages.ensures.ends) in
-    record { wired = wired b ins outs s w now; kinds = now.kinds }
+    placed_on node.laws placed (made_went went node.laws placed c.look_for_messages.ensures.ends)
 
 pub returns-then-chunk-outputs-clause-went : goal.returns-then-chunk-outputs-clause-went
 returns-then-chunk-outputs-clause-went g c =
-    let state = g.W.Worker.state in
-    let node = node_of state g.W.Worker.machine g.met.W.Worker.laws in
+    let node = node_of g.W.Worker.state g.W.Worker.machine g.met.W.Worker.laws in
     let b = node.behaviour in
     let ins = c.args.inputs.now in
     let outs = c.args.outputs.now in
@@ -46,7 +43,6 @@ returns-then-chunk-outputs-clause-went g c =
     let a = view c.args.ends.now in
     let w = view c.look_for_messages.new.ends in
     let first = went_on_alone b ins outs 0 (0, went_none b ins outs (node.state n) a, refl) w (c.look_for_messages.ensures.looked outs) in
-    let next = subst (λ p. Went ins outs b (node_state (state n.worker) p n.at) w (node_state (state whole.new.self) p n.at) (view whole.new.ends) whole.result) (sym c.requires.works) (whole.ensures.went n.at) in
     let k = whole.result in
     let none : 0 + k ≡ k = omega arith in
-    subst (λ m. WentOn ins outs b (node.state n) a (node_state (state whole.new.self) n.phase n.at) (view whole.new.ends) (nat_lt 0 m)) none (went_then b ins outs 0 first next)
+    subst (λ m. WentOn ins outs b (node.state n) a (node.state whole.new.self) (view whole.new.ends) (nat_lt 0 m)) none (went_then b ins outs 0 first whole.ensures.walk.went)

@@ -1,10 +1,7 @@
-use Rattle.std.proofs.Common.{sym, subst}
 use Rattle.flow_base.specs.Members.{node_of}
-use Rattle.flow_base.specs.Nodes.{node_state}
-use Rattle.flow_base.specs.Visits.{Went}
 use Rattle.flow_base.proofs.Carried.{same_ends_then}
 use Rattle.flow_base.proofs.Visits.{placed_on}
-use Rattle.flow_base.proofs.Kernels.{wired, made_went, went_on_alone, went_then}
+use Rattle.flow_base.proofs.Kernels.{made_went, went_on_alone, went_then}
 use Rattle.flow_base.proofs.node.Node.whole_blocks.Goals as goal
 
 -- its ends are still there where an instance may begin
@@ -15,8 +12,8 @@ look_for_messages-requires g c =
     (placed_on node.laws placed (made_went c.in_ok-first.ensures.went node.laws placed c.finish.ensures.ends)).reads
 
 -- where it has looked for messages
-pub blocks-whole-requires : goal.blocks-whole-requires
-blocks-whole-requires g c =
+pub blocks-whole-requires-clause-placed : goal.blocks-whole-requires-clause-placed
+blocks-whole-requires-clause-placed g c =
     let node = node_of g.W.Worker.state g.W.Worker.machine g.met.W.Worker.laws in
     let b = node.behaviour in
     let ins = c.args.inputs.now in
@@ -27,20 +24,15 @@ blocks-whole-requires g c =
     let w = view c.look_for_messages.new.ends in
     let ends = same_ends_then (view c.args.ends.now) v w c.finish.ensures.ends c.look_for_messages.ensures.ends in
     let went = went_on_alone b ins outs c.in_ok-first.first c.in_ok-first.ensures.went w (c.look_for_messages.ensures.looked outs) in
-    record { wired = wired b ins outs (node.state c.finish.new.self) w (placed_on node.laws placed (made_went went node.laws placed ends)); kinds = (placed_on node.laws placed (made_went went node.laws placed ends)).kinds }
+    placed_on node.laws placed (made_went went node.laws placed ends)
 
 -- the steps to where an instance may begin, and those over slices
 pub returns-in-Working-clause-went : goal.returns-in-Working-clause-went
 returns-in-Working-clause-went g c =
-    let state = g.W.Worker.state in
-    let node = node_of state g.W.Worker.machine g.met.W.Worker.laws in
+    let node = node_of g.W.Worker.state g.W.Worker.machine g.met.W.Worker.laws in
     let b = node.behaviour in
     let ins = c.args.inputs.now in
     let outs = c.args.outputs.now in
-    let view = g.E.Ends.view in
-    let n = c.finish.new.self in
-    let whole = c.blocks-whole in
-    let w = view c.look_for_messages.new.ends in
+    let w = g.E.Ends.view c.look_for_messages.new.ends in
     let first = went_on_alone b ins outs c.in_ok-first.first c.in_ok-first.ensures.went w (c.look_for_messages.ensures.looked outs) in
-    let next = subst (λ p. Went ins outs b (node_state (state n.worker) p n.at) w (node_state (state whole.new.self) p n.at) (view whole.new.ends) whole.result) (sym c.in-Working.is) (whole.ensures.went n.at) in
-    went_then b ins outs c.in_ok-first.first first next
+    went_then b ins outs c.in_ok-first.first first c.blocks-whole.ensures.walk.went

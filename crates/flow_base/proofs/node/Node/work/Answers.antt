@@ -10,7 +10,7 @@ use Rattle.flow_base.specs.Members.{node_of}
 use Rattle.flow_base.specs.Visits.{edge_of, IsStuck, Visited}
 use Rattle.flow_base.proofs.Carried.{same_ends_then}
 use Rattle.flow_base.proofs.Visits.{Made, input_there, output_there, put_fits, reads_at, made_none, made_read, made_put, made_looked, made_room, visited, broke_off, broke_reading, starves_err, no_room, on_err}
-use Rattle.flow_base.proofs.node.Node.work.Goals.{in-Read+else-prove+in-Some+in_ok-read_on-in-Read+else-not-branch, in-Write+else-prove-2+else-not-room+in_ok-item-in-Write+in-Err+in-Item+in-Vec+in-Ints-1, in-Write+else-prove-2+else-not-room+in_ok-item-in-Write+in-Err+in-Item+in-Vec+in-Wides-1, in-Write+else-prove-2+else-not-room+in_ok-item-in-Write+in-Err+in-Item+in-Vec+in-Bools-1, in-Write+else-prove-2+else-not-room+in_ok-item-in-Write+in-Err+in-Item+in-Vec+in-Others-1, in-Write+else-prove-2+else-not-room+in_ok-item-in-Write+in-Err+in-Item+in-Unit-1, in-Write+else-prove-2+else-not-room+in_ok-item-in-Write+in-Err+in-End-1, in-Write+else-prove-2+else-not-room+in_ok-item-in-Write+in-Ok-1}
+use Rattle.flow_base.proofs.node.Node.work.Goals.{in-Read+else-prove+in-Some+in_ok-read_on-in-Read+else-not-branch, in-Write+else-prove-2+else-not-room+in_ok-item-in-Write}
 use Rattle.flow_base.proofs.node.Node.work.Goals as goal
 
 stepped : (n : ℕ) → true ≡ nat_lt 0 (n + 1)
@@ -176,67 +176,7 @@ loop-made-preserved g c =
             works = ap (λ n. n.phase) w.self-is ∙ w.in_ok-read_on-in-Read.ensures.on (cc (w.if-not-branch.false));
             made = subst (λ x. Made b ins outs s a next (view x) (nat_lt 0 (c.loop-made.made + 1))) (sym w.ends-is) (subst (Made b ins outs s a next (view w.take.new.self)) (stepped c.loop-made.made) (made_read laws placed made w.in-Read.port (signal_of w.in-Some.message) next (view w.take.new.self) wants w.in-Some.ensures.some is));
           })
-      | in-Write+else-prove-2+else-not-room+in_ok-item-in-Write+in-Err+in-Item+in-Vec+in-Ints-1 w ↦ (let wants : b.process.want t ≡ Write w.in-Write.port = ap (λ p. want_in m p t) works ∙ sym c.want_on.ensures ∙ w.in-Write.is in
-          let sent = w.in_ok-item-in-Write in
-          let told : carry (written_cell (move_of m t.worker)) ≡ b.process.written t = sym (ap (λ p. written_signal m p t) works) in
-          let is : next ≡ b.process.wrote t = ap node.state w.self-is ∙ ap (λ x. node_state x c.loop-made.self.phase c.loop-made.self.at) sent.ensures.ok.1 ∙ sym (ap (λ p. after_in m p t) works) in
-          let certain : 0 < (view w.room.new.self).room (edge_of outs w.in-Write.port) = w.room.ensures.value.0 (cc (w.if-not-room.false)) in
-          record {
-            same = subst (g.E.Ends.same c.args.ends.now) (sym w.ends-is) (g.met.E.Ends.same_trans c.args.ends.now w.room.new.self w.put.new.self (g.met.E.Ends.same_trans c.args.ends.now c.loop-made.ends w.room.new.self inv.same w.room.ensures.same) w.put.ensures.same);
-            works = ap (λ n. n.phase) w.self-is ∙ works;
-            made = subst (λ x. Made b ins outs s a next (view x) (nat_lt 0 (c.loop-made.made + 1))) (sym w.ends-is) (subst (Made b ins outs s a next (view w.put.new.self)) (stepped c.loop-made.made) (made_put laws placed made w.in-Write.port (msg.Item sent.item) next (view w.room.new.self) (view w.put.new.self) w.put.result wants (ap carry sent.ensures.ok.0 ∙ told) is w.room.ensures.looked certain w.put.ensures.ok w.put.ensures.refused w.put.ensures.closed w.put.ensures.succeeds));
-          })
-      | in-Write+else-prove-2+else-not-room+in_ok-item-in-Write+in-Err+in-Item+in-Vec+in-Wides-1 w ↦ (let wants : b.process.want t ≡ Write w.in-Write.port = ap (λ p. want_in m p t) works ∙ sym c.want_on.ensures ∙ w.in-Write.is in
-          let sent = w.in_ok-item-in-Write in
-          let told : carry (written_cell (move_of m t.worker)) ≡ b.process.written t = sym (ap (λ p. written_signal m p t) works) in
-          let is : next ≡ b.process.wrote t = ap node.state w.self-is ∙ ap (λ x. node_state x c.loop-made.self.phase c.loop-made.self.at) sent.ensures.ok.1 ∙ sym (ap (λ p. after_in m p t) works) in
-          let certain : 0 < (view w.room.new.self).room (edge_of outs w.in-Write.port) = w.room.ensures.value.0 (cc (w.if-not-room.false)) in
-          record {
-            same = subst (g.E.Ends.same c.args.ends.now) (sym w.ends-is) (g.met.E.Ends.same_trans c.args.ends.now w.room.new.self w.put.new.self (g.met.E.Ends.same_trans c.args.ends.now c.loop-made.ends w.room.new.self inv.same w.room.ensures.same) w.put.ensures.same);
-            works = ap (λ n. n.phase) w.self-is ∙ works;
-            made = subst (λ x. Made b ins outs s a next (view x) (nat_lt 0 (c.loop-made.made + 1))) (sym w.ends-is) (subst (Made b ins outs s a next (view w.put.new.self)) (stepped c.loop-made.made) (made_put laws placed made w.in-Write.port (msg.Item sent.item) next (view w.room.new.self) (view w.put.new.self) w.put.result wants (ap carry sent.ensures.ok.0 ∙ told) is w.room.ensures.looked certain w.put.ensures.ok w.put.ensures.refused w.put.ensures.closed w.put.ensures.succeeds));
-          })
-      | in-Write+else-prove-2+else-not-room+in_ok-item-in-Write+in-Err+in-Item+in-Vec+in-Bools-1 w ↦ (let wants : b.process.want t ≡ Write w.in-Write.port = ap (λ p. want_in m p t) works ∙ sym c.want_on.ensures ∙ w.in-Write.is in
-          let sent = w.in_ok-item-in-Write in
-          let told : carry (written_cell (move_of m t.worker)) ≡ b.process.written t = sym (ap (λ p. written_signal m p t) works) in
-          let is : next ≡ b.process.wrote t = ap node.state w.self-is ∙ ap (λ x. node_state x c.loop-made.self.phase c.loop-made.self.at) sent.ensures.ok.1 ∙ sym (ap (λ p. after_in m p t) works) in
-          let certain : 0 < (view w.room.new.self).room (edge_of outs w.in-Write.port) = w.room.ensures.value.0 (cc (w.if-not-room.false)) in
-          record {
-            same = subst (g.E.Ends.same c.args.ends.now) (sym w.ends-is) (g.met.E.Ends.same_trans c.args.ends.now w.room.new.self w.put.new.self (g.met.E.Ends.same_trans c.args.ends.now c.loop-made.ends w.room.new.self inv.same w.room.ensures.same) w.put.ensures.same);
-            works = ap (λ n. n.phase) w.self-is ∙ works;
-            made = subst (λ x. Made b ins outs s a next (view x) (nat_lt 0 (c.loop-made.made + 1))) (sym w.ends-is) (subst (Made b ins outs s a next (view w.put.new.self)) (stepped c.loop-made.made) (made_put laws placed made w.in-Write.port (msg.Item sent.item) next (view w.room.new.self) (view w.put.new.self) w.put.result wants (ap carry sent.ensures.ok.0 ∙ told) is w.room.ensures.looked certain w.put.ensures.ok w.put.ensures.refused w.put.ensures.closed w.put.ensures.succeeds));
-          })
-      | in-Write+else-prove-2+else-not-room+in_ok-item-in-Write+in-Err+in-Item+in-Vec+in-Others-1 w ↦ (let wants : b.process.want t ≡ Write w.in-Write.port = ap (λ p. want_in m p t) works ∙ sym c.want_on.ensures ∙ w.in-Write.is in
-          let sent = w.in_ok-item-in-Write in
-          let told : carry (written_cell (move_of m t.worker)) ≡ b.process.written t = sym (ap (λ p. written_signal m p t) works) in
-          let is : next ≡ b.process.wrote t = ap node.state w.self-is ∙ ap (λ x. node_state x c.loop-made.self.phase c.loop-made.self.at) sent.ensures.ok.1 ∙ sym (ap (λ p. after_in m p t) works) in
-          let certain : 0 < (view w.room.new.self).room (edge_of outs w.in-Write.port) = w.room.ensures.value.0 (cc (w.if-not-room.false)) in
-          record {
-            same = subst (g.E.Ends.same c.args.ends.now) (sym w.ends-is) (g.met.E.Ends.same_trans c.args.ends.now w.room.new.self w.put.new.self (g.met.E.Ends.same_trans c.args.ends.now c.loop-made.ends w.room.new.self inv.same w.room.ensures.same) w.put.ensures.same);
-            works = ap (λ n. n.phase) w.self-is ∙ works;
-            made = subst (λ x. Made b ins outs s a next (view x) (nat_lt 0 (c.loop-made.made + 1))) (sym w.ends-is) (subst (Made b ins outs s a next (view w.put.new.self)) (stepped c.loop-made.made) (made_put laws placed made w.in-Write.port (msg.Item sent.item) next (view w.room.new.self) (view w.put.new.self) w.put.result wants (ap carry sent.ensures.ok.0 ∙ told) is w.room.ensures.looked certain w.put.ensures.ok w.put.ensures.refused w.put.ensures.closed w.put.ensures.succeeds));
-          })
-      | in-Write+else-prove-2+else-not-room+in_ok-item-in-Write+in-Err+in-Item+in-Unit-1 w ↦ (let wants : b.process.want t ≡ Write w.in-Write.port = ap (λ p. want_in m p t) works ∙ sym c.want_on.ensures ∙ w.in-Write.is in
-          let sent = w.in_ok-item-in-Write in
-          let told : carry (written_cell (move_of m t.worker)) ≡ b.process.written t = sym (ap (λ p. written_signal m p t) works) in
-          let is : next ≡ b.process.wrote t = ap node.state w.self-is ∙ ap (λ x. node_state x c.loop-made.self.phase c.loop-made.self.at) sent.ensures.ok.1 ∙ sym (ap (λ p. after_in m p t) works) in
-          let certain : 0 < (view w.room.new.self).room (edge_of outs w.in-Write.port) = w.room.ensures.value.0 (cc (w.if-not-room.false)) in
-          record {
-            same = subst (g.E.Ends.same c.args.ends.now) (sym w.ends-is) (g.met.E.Ends.same_trans c.args.ends.now w.room.new.self w.put.new.self (g.met.E.Ends.same_trans c.args.ends.now c.loop-made.ends w.room.new.self inv.same w.room.ensures.same) w.put.ensures.same);
-            works = ap (λ n. n.phase) w.self-is ∙ works;
-            made = subst (λ x. Made b ins outs s a next (view x) (nat_lt 0 (c.loop-made.made + 1))) (sym w.ends-is) (subst (Made b ins outs s a next (view w.put.new.self)) (stepped c.loop-made.made) (made_put laws placed made w.in-Write.port (msg.Item sent.item) next (view w.room.new.self) (view w.put.new.self) w.put.result wants (ap carry sent.ensures.ok.0 ∙ told) is w.room.ensures.looked certain w.put.ensures.ok w.put.ensures.refused w.put.ensures.closed w.put.ensures.succeeds));
-          })
-      | in-Write+else-prove-2+else-not-room+in_ok-item-in-Write+in-Err+in-End-1 w ↦ (let wants : b.process.want t ≡ Write w.in-Write.port = ap (λ p. want_in m p t) works ∙ sym c.want_on.ensures ∙ w.in-Write.is in
-          let sent = w.in_ok-item-in-Write in
-          let told : carry (written_cell (move_of m t.worker)) ≡ b.process.written t = sym (ap (λ p. written_signal m p t) works) in
-          let is : next ≡ b.process.wrote t = ap node.state w.self-is ∙ ap (λ x. node_state x c.loop-made.self.phase c.loop-made.self.at) sent.ensures.ok.1 ∙ sym (ap (λ p. after_in m p t) works) in
-          let certain : 0 < (view w.room.new.self).room (edge_of outs w.in-Write.port) = w.room.ensures.value.0 (cc (w.if-not-room.false)) in
-          record {
-            same = subst (g.E.Ends.same c.args.ends.now) (sym w.ends-is) (g.met.E.Ends.same_trans c.args.ends.now w.room.new.self w.put.new.self (g.met.E.Ends.same_trans c.args.ends.now c.loop-made.ends w.room.new.self inv.same w.room.ensures.same) w.put.ensures.same);
-            works = ap (λ n. n.phase) w.self-is ∙ works;
-            made = subst (λ x. Made b ins outs s a next (view x) (nat_lt 0 (c.loop-made.made + 1))) (sym w.ends-is) (subst (Made b ins outs s a next (view w.put.new.self)) (stepped c.loop-made.made) (made_put laws placed made w.in-Write.port (msg.Item sent.item) next (view w.room.new.self) (view w.put.new.self) w.put.result wants (ap carry sent.ensures.ok.0 ∙ told) is w.room.ensures.looked certain w.put.ensures.ok w.put.ensures.refused w.put.ensures.closed w.put.ensures.succeeds));
-          })
-      | in-Write+else-prove-2+else-not-room+in_ok-item-in-Write+in-Ok-1 w ↦ (let wants : b.process.want t ≡ Write w.in-Write.port = ap (λ p. want_in m p t) works ∙ sym c.want_on.ensures ∙ w.in-Write.is in
+      | in-Write+else-prove-2+else-not-room+in_ok-item-in-Write w ↦ (let wants : b.process.want t ≡ Write w.in-Write.port = ap (λ p. want_in m p t) works ∙ sym c.want_on.ensures ∙ w.in-Write.is in
           let sent = w.in_ok-item-in-Write in
           let told : carry (written_cell (move_of m t.worker)) ≡ b.process.written t = sym (ap (λ p. written_signal m p t) works) in
           let is : next ≡ b.process.wrote t = ap node.state w.self-is ∙ ap (λ x. node_state x c.loop-made.self.phase c.loop-made.self.at) sent.ensures.ok.1 ∙ sym (ap (λ p. after_in m p t) works) in

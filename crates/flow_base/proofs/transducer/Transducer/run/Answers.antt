@@ -5,7 +5,7 @@ use Rattle.flow_messages.specs.Kinds.{FitsEdge}
 use Rattle.flow_base.specs.Visits.{edge_of, IsStuck}
 use Rattle.flow_base.proofs.Carried.{same_ends_then}
 use Rattle.flow_base.proofs.Visits.{Made, made_none, input_there, output_there, put_fits, reads_at, made_read, made_put, made_looked, made_room, visited, broke_off, broke_reading, starves_err, no_room, on_err}
-use Rattle.flow_base.proofs.transducer.Transducer.run.Goals.{in-Read+else-prove+in-Some+in_ok-give-in-Read, in-Write+else-prove-2+else-not-room+in_ok-message-in-Write+in-Err+in-Item+in-Vec+in-Ints-1, in-Write+else-prove-2+else-not-room+in_ok-message-in-Write+in-Err+in-Item+in-Vec+in-Wides-1, in-Write+else-prove-2+else-not-room+in_ok-message-in-Write+in-Err+in-Item+in-Vec+in-Bools-1, in-Write+else-prove-2+else-not-room+in_ok-message-in-Write+in-Err+in-Item+in-Vec+in-Others-1, in-Write+else-prove-2+else-not-room+in_ok-message-in-Write+in-Err+in-Item+in-Unit-1, in-Write+else-prove-2+else-not-room+in_ok-message-in-Write+in-Err+in-End-1, in-Write+else-prove-2+else-not-room+in_ok-message-in-Write+in-Ok-1}
+use Rattle.flow_base.proofs.transducer.Transducer.run.Goals.{in-Read+else-prove+in-Some+in_ok-give-in-Read, in-Write+else-prove-2+else-not-room+in_ok-message-in-Write}
 use Rattle.flow_base.proofs.transducer.Transducer.run.Goals as goal
 
 pub loop-init : goal.loop-init
@@ -137,61 +137,7 @@ loop-preserved g c =
             made = subst (λ x. Made b ins outs s a next (view x) true) (sym w.ends-is) (made_read laws placed made w.in-Read.port (signal_of w.in-Some.message) next (view w.take.new.self) wants w.in-Some.ensures.some is);
             first = λ h. cc;
           })
-      | in-Write+else-prove-2+else-not-room+in_ok-message-in-Write+in-Err+in-Item+in-Vec+in-Ints-1 w ↦ (let wants : b.process.want t ≡ Write w.in-Write.port = sym c.want.ensures ∙ w.in-Write.is in
-          let sent = w.in_ok-message-in-Write in
-          let is : next ≡ b.process.wrote t = ap state w.self-is ∙ sent.ensures.ok.1 in
-          let certain : 0 < (view w.room.new.self).room (edge_of outs w.in-Write.port) = w.room.ensures.value.0 (cc (w.if-not-room.false)) in
-          record {
-            same = subst (g.E.Ends.same c.args.ends.now) (sym w.ends-is) (g.met.E.Ends.same_trans c.args.ends.now w.room.new.self w.put.new.self (g.met.E.Ends.same_trans c.args.ends.now c.loop.ends w.room.new.self inv.same w.room.ensures.same) w.put.ensures.same);
-            made = subst (λ x. Made b ins outs s a next (view x) true) (sym w.ends-is) (made_put laws placed made w.in-Write.port sent.message next (view w.room.new.self) (view w.put.new.self) w.put.result wants sent.ensures.ok.0 is w.room.ensures.looked certain w.put.ensures.ok w.put.ensures.refused w.put.ensures.closed w.put.ensures.succeeds);
-            first = λ h. cc;
-          })
-      | in-Write+else-prove-2+else-not-room+in_ok-message-in-Write+in-Err+in-Item+in-Vec+in-Wides-1 w ↦ (let wants : b.process.want t ≡ Write w.in-Write.port = sym c.want.ensures ∙ w.in-Write.is in
-          let sent = w.in_ok-message-in-Write in
-          let is : next ≡ b.process.wrote t = ap state w.self-is ∙ sent.ensures.ok.1 in
-          let certain : 0 < (view w.room.new.self).room (edge_of outs w.in-Write.port) = w.room.ensures.value.0 (cc (w.if-not-room.false)) in
-          record {
-            same = subst (g.E.Ends.same c.args.ends.now) (sym w.ends-is) (g.met.E.Ends.same_trans c.args.ends.now w.room.new.self w.put.new.self (g.met.E.Ends.same_trans c.args.ends.now c.loop.ends w.room.new.self inv.same w.room.ensures.same) w.put.ensures.same);
-            made = subst (λ x. Made b ins outs s a next (view x) true) (sym w.ends-is) (made_put laws placed made w.in-Write.port sent.message next (view w.room.new.self) (view w.put.new.self) w.put.result wants sent.ensures.ok.0 is w.room.ensures.looked certain w.put.ensures.ok w.put.ensures.refused w.put.ensures.closed w.put.ensures.succeeds);
-            first = λ h. cc;
-          })
-      | in-Write+else-prove-2+else-not-room+in_ok-message-in-Write+in-Err+in-Item+in-Vec+in-Bools-1 w ↦ (let wants : b.process.want t ≡ Write w.in-Write.port = sym c.want.ensures ∙ w.in-Write.is in
-          let sent = w.in_ok-message-in-Write in
-          let is : next ≡ b.process.wrote t = ap state w.self-is ∙ sent.ensures.ok.1 in
-          let certain : 0 < (view w.room.new.self).room (edge_of outs w.in-Write.port) = w.room.ensures.value.0 (cc (w.if-not-room.false)) in
-          record {
-            same = subst (g.E.Ends.same c.args.ends.now) (sym w.ends-is) (g.met.E.Ends.same_trans c.args.ends.now w.room.new.self w.put.new.self (g.met.E.Ends.same_trans c.args.ends.now c.loop.ends w.room.new.self inv.same w.room.ensures.same) w.put.ensures.same);
-            made = subst (λ x. Made b ins outs s a next (view x) true) (sym w.ends-is) (made_put laws placed made w.in-Write.port sent.message next (view w.room.new.self) (view w.put.new.self) w.put.result wants sent.ensures.ok.0 is w.room.ensures.looked certain w.put.ensures.ok w.put.ensures.refused w.put.ensures.closed w.put.ensures.succeeds);
-            first = λ h. cc;
-          })
-      | in-Write+else-prove-2+else-not-room+in_ok-message-in-Write+in-Err+in-Item+in-Vec+in-Others-1 w ↦ (let wants : b.process.want t ≡ Write w.in-Write.port = sym c.want.ensures ∙ w.in-Write.is in
-          let sent = w.in_ok-message-in-Write in
-          let is : next ≡ b.process.wrote t = ap state w.self-is ∙ sent.ensures.ok.1 in
-          let certain : 0 < (view w.room.new.self).room (edge_of outs w.in-Write.port) = w.room.ensures.value.0 (cc (w.if-not-room.false)) in
-          record {
-            same = subst (g.E.Ends.same c.args.ends.now) (sym w.ends-is) (g.met.E.Ends.same_trans c.args.ends.now w.room.new.self w.put.new.self (g.met.E.Ends.same_trans c.args.ends.now c.loop.ends w.room.new.self inv.same w.room.ensures.same) w.put.ensures.same);
-            made = subst (λ x. Made b ins outs s a next (view x) true) (sym w.ends-is) (made_put laws placed made w.in-Write.port sent.message next (view w.room.new.self) (view w.put.new.self) w.put.result wants sent.ensures.ok.0 is w.room.ensures.looked certain w.put.ensures.ok w.put.ensures.refused w.put.ensures.closed w.put.ensures.succeeds);
-            first = λ h. cc;
-          })
-      | in-Write+else-prove-2+else-not-room+in_ok-message-in-Write+in-Err+in-Item+in-Unit-1 w ↦ (let wants : b.process.want t ≡ Write w.in-Write.port = sym c.want.ensures ∙ w.in-Write.is in
-          let sent = w.in_ok-message-in-Write in
-          let is : next ≡ b.process.wrote t = ap state w.self-is ∙ sent.ensures.ok.1 in
-          let certain : 0 < (view w.room.new.self).room (edge_of outs w.in-Write.port) = w.room.ensures.value.0 (cc (w.if-not-room.false)) in
-          record {
-            same = subst (g.E.Ends.same c.args.ends.now) (sym w.ends-is) (g.met.E.Ends.same_trans c.args.ends.now w.room.new.self w.put.new.self (g.met.E.Ends.same_trans c.args.ends.now c.loop.ends w.room.new.self inv.same w.room.ensures.same) w.put.ensures.same);
-            made = subst (λ x. Made b ins outs s a next (view x) true) (sym w.ends-is) (made_put laws placed made w.in-Write.port sent.message next (view w.room.new.self) (view w.put.new.self) w.put.result wants sent.ensures.ok.0 is w.room.ensures.looked certain w.put.ensures.ok w.put.ensures.refused w.put.ensures.closed w.put.ensures.succeeds);
-            first = λ h. cc;
-          })
-      | in-Write+else-prove-2+else-not-room+in_ok-message-in-Write+in-Err+in-End-1 w ↦ (let wants : b.process.want t ≡ Write w.in-Write.port = sym c.want.ensures ∙ w.in-Write.is in
-          let sent = w.in_ok-message-in-Write in
-          let is : next ≡ b.process.wrote t = ap state w.self-is ∙ sent.ensures.ok.1 in
-          let certain : 0 < (view w.room.new.self).room (edge_of outs w.in-Write.port) = w.room.ensures.value.0 (cc (w.if-not-room.false)) in
-          record {
-            same = subst (g.E.Ends.same c.args.ends.now) (sym w.ends-is) (g.met.E.Ends.same_trans c.args.ends.now w.room.new.self w.put.new.self (g.met.E.Ends.same_trans c.args.ends.now c.loop.ends w.room.new.self inv.same w.room.ensures.same) w.put.ensures.same);
-            made = subst (λ x. Made b ins outs s a next (view x) true) (sym w.ends-is) (made_put laws placed made w.in-Write.port sent.message next (view w.room.new.self) (view w.put.new.self) w.put.result wants sent.ensures.ok.0 is w.room.ensures.looked certain w.put.ensures.ok w.put.ensures.refused w.put.ensures.closed w.put.ensures.succeeds);
-            first = λ h. cc;
-          })
-      | in-Write+else-prove-2+else-not-room+in_ok-message-in-Write+in-Ok-1 w ↦ (let wants : b.process.want t ≡ Write w.in-Write.port = sym c.want.ensures ∙ w.in-Write.is in
+      | in-Write+else-prove-2+else-not-room+in_ok-message-in-Write w ↦ (let wants : b.process.want t ≡ Write w.in-Write.port = sym c.want.ensures ∙ w.in-Write.is in
           let sent = w.in_ok-message-in-Write in
           let is : next ≡ b.process.wrote t = ap state w.self-is ∙ sent.ensures.ok.1 in
           let certain : 0 < (view w.room.new.self).room (edge_of outs w.in-Write.port) = w.room.ensures.value.0 (cc (w.if-not-room.false)) in

@@ -27,9 +27,9 @@ put_copies-requires-2-clause-kind g c =
     let same = c.skip-2.ensures.taken.ends.kinds _ ∙ c.space.ensures.looked.ends.kinds _ in
     kind_fits _ k (carry (cell_of c.in-Some.item)) (subst (λ of. TakesKind of k) (sym same) c.requires.kind) (c.fits_a_block.ensures.kind c.if-not-fits_a_block.false)
 
--- it made no step
+-- what it does one by one
 pub returns-then-not-fits_a_block-clause-went : goal.returns-then-not-fits_a_block-clause-went
-returns-then-not-fits_a_block-clause-went g c = λ at. went_none (behaviour_of dist_machine) c.args.inputs.now c.args.outputs.now (node_state (dist_view c.args.self.now) Working at) (g.E.Ends.view c.args.ends.now)
+returns-then-not-fits_a_block-clause-went g c = c.copy_on.ensures.went
 
 -- it only looked for room
 pub returns-then-count-eq0-clause-went : goal.returns-then-count-eq0-clause-went

@@ -9,9 +9,6 @@ use Rattle.flow_segment.proofs.dist.DistWorker.blocks.Goals as goal
 pub returns-then-self-clause-went : goal.returns-then-self-clause-went
 returns-then-self-clause-went g c = λ at. went_none (behaviour_of dist_machine) c.args.inputs.now c.args.outputs.now (node_state (dist_view c.args.self.now) Working at) (g.E.Ends.view c.args.ends.now)
 
-pub returns-in-Vec-clause-went : goal.returns-in-Vec-clause-went
-returns-in-Vec-clause-went g c = λ at. went_none (behaviour_of dist_machine) c.args.inputs.now c.args.outputs.now (node_state (dist_view c.args.self.now) Working at) (g.E.Ends.view c.args.ends.now)
-
 pub rounds-requires-clause-kind : goal.rounds-requires-clause-kind
 rounds-requires-clause-kind g c = c.requires.kinds 0 (omega (arith, c.requires.wired.each_output))
 

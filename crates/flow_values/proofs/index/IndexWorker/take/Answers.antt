@@ -8,5 +8,5 @@ use Rattle.flow_values.proofs.index.IndexWorker.take.Goals as goal
 pub add_value-requires-clause-of_type : goal.add_value-requires-clause-of_type
 add_value-requires-clause-of_type c =
     let item = ty_of c.args.self.now.element in
-    let found = ap (option_map value_of) (sym c.in-Some.is) ∙ c.in_ok-datum-in-Held.ensures.ok in
-    held_element item (elements_of c.in-Held.all) _ (value_of c.in-Some.datum) found (sym (ap (holds_such item) c.in-Held.is) ∙ c.args.self.now.holds)
+    let found = ap (option_map value_of) (sym c.in-Some-2.is) ∙ c.in_ok-datum.ensures.ok in
+    held_element item (elements_of c.in-Some.all) _ (value_of c.in-Some-2.datum) found (sym (ap (holds_such item) c.in-Some.is) ∙ c.args.self.now.holds)

@@ -1,0 +1,251 @@
+// What a worker is shown of its inputs, where it puts what it writes, and how far it went.
+
+ghost use Rattle.std.specs.Prelude.{◌≡◌, ◌<◌, ◌≤◌, ℕ, true, List, [], length, take};
+ghost use Rattle.std.specs.List.{All};
+ghost use mathlib.Core.List.{IsPrefix};
+ghost use Rattle.flow_messages.specs.Blocks.{unit_signals, flag_signals, int_signals};
+ghost use Rattle.flow_messages.specs.Ends.{SameEnds, held, TakenAll, PutAll};
+ghost use Rattle.flow_messages.specs.Kinds.{TakesKind};
+ghost use Rattle.flow_base.specs.Along.{AreApart, HasRoom, PutOnEach, shown_signals, written_signals};
+ghost use Rattle.flow_base.specs.Visits.{edge_of, LeavesAlone, TakeKinds};
+
+use crate::worker::Worker;
+use flow_messages::{Ends, Kind};
+
+/// How many places there are for what a worker writes in one call. A slice borrows the ends that show it, and a put changes
+/// them, so nothing is written straight to an edge.
+pub const PLACES: usize = 256;
+
+/// What a worker is shown of an input: items that the next takes are certain to give, side by side, or the first of them.
+#[derive(Clone, Copy)]
+pub enum Shown<'a> {
+    /// No item.
+    Nothing,
+    /// So many units.
+    Units(usize),
+    /// These truth values.
+    Flags(&'a [bool]),
+    /// These integers of 64 bits.
+    Ints(&'a [i64]),
+}
+
+impl<'a> Shown<'a> {
+    /// How many units it shows.
+    #[inline(always)]
+    pub fn units(self) -> usize
+        ensures { IsPrefix (unit_signals result) (shown_signals self.entry) }
+    {
+        match self {
+            Shown::Units(count) => count,
+            _ => 0,
+        }
+    }
+
+    /// The truth values that it shows.
+    #[inline(always)]
+    pub fn flags(self) -> &'a [bool]
+        ensures { IsPrefix (flag_signals result.now) (shown_signals self.entry) }
+    {
+        match self {
+            Shown::Flags(flags) => flags,
+            _ => &[],
+        }
+    }
+
+    /// The integers that it shows.
+    #[inline(always)]
+    pub fn ints(self) -> &'a [i64]
+        ensures { IsPrefix (int_signals result.now) (shown_signals self.entry) }
+    {
+        match self {
+            Shown::Ints(ints) => ints,
+            _ => &[],
+        }
+    }
+}
+
+/// Where a worker puts what it writes. Each output gets what is there of its kind. It is lent, and what it held before is
+/// nobody's.
+#[derive(Drop)]
+pub struct Written {
+    pub flags: [bool; PLACES],
+    pub ints: [i64; PLACES],
+}
+
+impl Written {
+    // Places to write to.
+    pub(crate) fn new() -> Written {
+        Written {
+            flags: [false; PLACES],
+            ints: [0; PLACES],
+        }
+    }
+}
+
+/// How far a worker went along slices.
+#[derive(Clone, Copy, Debug, PartialEq, Eq)]
+pub struct Moved {
+    /// How many items of port 0 it read.
+    pub first: usize,
+    /// How many items of port 1 it read.
+    pub second: usize,
+    /// How many units it wrote to each output of that kind.
+    pub units: usize,
+    /// How many truth values it wrote to each output of that kind.
+    pub flags: usize,
+    /// How many integers it wrote to each output of that kind.
+    pub ints: usize,
+    /// How many steps these were.
+    pub steps: usize,
+}
+
+impl Moved {
+    /// It moved nothing.
+    pub fn nothing() -> Moved
+        ensures { result ≡
+            record { first = 0; second = 0; units = 0; flags = 0; ints = 0; steps = 0 } }
+    {
+        Moved {
+            first: 0,
+            second: 0,
+            units: 0,
+            flags: 0,
+            ints: 0,
+            steps: 0,
+        }
+    }
+}
+
+// What these ends show of an edge with items of this kind.
+#[inline(always)]
+fn shown_on<E: Ends>(ends: &E, edge: usize, kind: Kind) -> Shown<'_>
+    requires { (E.view ends.now).reads edge ≡ true }
+    ensures { IsPrefix (shown_signals result) ((E.view ends.now).coming edge) }
+{
+    match kind {
+        Kind::Unit => Shown::Units(ends.units(edge)),
+        Kind::Bool => Shown::Flags(ends.flags(edge)),
+        Kind::Int => Shown::Ints(ends.ints(edge)),
+        Kind::Vec => Shown::Nothing,
+    }
+}
+
+// What these ends show of this port, with items of this kind, where there is such a port.
+#[inline(always)]
+pub(crate) fn shown_at<'e, E: Ends>(
+    ends: &'e E,
+    inputs: &[usize],
+    port: usize,
+    kind: Kind,
+) -> Shown<'e>
+    requires { All (λ e. (E.view ends.now).reads e ≡ true) inputs.now }
+    ensures shown { IsPrefix (shown_signals result)
+        ((E.view ends.now).coming (edge_of inputs.now port)) }
+    ensures none { length inputs.now ≤ port → shown_signals result ≡ [] }
+{
+    if port >= inputs.len() {
+        return Shown::Nothing;
+    }
+    shown_on(ends, inputs[port], kind)
+}
+
+// Takes so many of the messages that are certain at this port, and drops them.
+#[inline(always)]
+pub(crate) fn skip_at<E: Ends>(ends: &mut E, inputs: &[usize], port: usize, count: usize)
+    requires reads { All (λ e. (E.view ends.old).reads e ≡ true) inputs.now }
+    requires there { 0 < count → port < length inputs.now }
+    requires certain { count ≤ held (E.view ends.old) (edge_of inputs.now port) }
+    ensures same { E.same ends.old ends.new }
+    ensures taken { TakenAll (E.view ends.old) (edge_of inputs.now port)
+        (take count ((E.view ends.old).coming (edge_of inputs.now port))) (E.view ends.new) }
+{
+    if count > 0 {
+        ends.skip(inputs[port], count);
+    }
+}
+
+// Puts what was written to outputs of this kind on the edge of one, where there is room.
+#[inline(always)]
+fn put_on<E: Ends>(ends: &mut E, edge: usize, kind: Kind, block: &Written, moved: Moved)
+    requires writes { (E.view ends.old).writes edge ≡ true }
+    requires kind { TakesKind ((E.view ends.old).kind edge) kind }
+    requires room { HasRoom moved ((E.view ends.old).room edge) }
+    requires places { HasRoom moved 256 }
+    ensures same { E.same ends.old ends.new }
+    ensures put { PutAll (E.view ends.old) edge (written_signals block.now moved kind)
+        (E.view ends.new) }
+{
+    match kind {
+        Kind::Unit => ends.put_units(edge, moved.units),
+        Kind::Bool => ends.put_flags(edge, &block.flags[..moved.flags]),
+        Kind::Int => ends.put_ints(edge, &block.ints[..moved.ints]),
+        Kind::Vec => {}
+    }
+}
+
+// Puts what a worker wrote on the edge of each of its outputs, where there is room.
+#[inline(always)]
+pub(crate) fn put_on_each<W: Worker, E: Ends>(
+    worker: &W,
+    ends: &mut E,
+    outputs: &[usize],
+    block: &Written,
+    moved: Moved,
+)
+    requires writes { All (λ e. (E.view ends.old).writes e ≡ true) outputs.now }
+    requires kinds { TakeKinds outputs.now (W.machine.kind_out (W.state worker.now).0)
+        (E.view ends.old) }
+    requires apart { AreApart outputs.now }
+    requires room { (q : ℕ) → q < length outputs.now →
+        HasRoom moved ((E.view ends.old).room (edge_of outputs.now q)) }
+    requires places { HasRoom moved 256 }
+    ensures same { E.same ends.old ends.new }
+    ensures put { PutOnEach outputs.now (length outputs.now)
+        (λ q. written_signals block.now moved (W.machine.kind_out (W.state worker.now).0 q))
+        (E.view ends.old) (E.view ends.new) }
+{
+    for port in 0..outputs.len() {
+        put_on(ends, outputs[port], worker.kind_out(port), block, moved);
+    }
+}
+
+// How many messages each of the outputs has room for.
+#[inline(always)]
+pub(crate) fn least_space<E: Ends>(ends: &mut E, outputs: &[usize]) -> usize
+    requires { All (λ e. (E.view ends.old).writes e ≡ true) outputs.now }
+    ensures same { E.same ends.old ends.new }
+    ensures ends { SameEnds (E.view ends.old) (E.view ends.new) }
+    ensures room { (q : ℕ) → q < length outputs.now →
+        result ≤ (E.view ends.new).room (edge_of outputs.now q) }
+    ensures alone { (inputs : List ℕ) →
+        LeavesAlone inputs outputs.now (E.view ends.old) (E.view ends.new) }
+{
+    let mut least = usize::MAX;
+    for port in 0..outputs.len() {
+        least = least.min(ends.space(outputs[port]));
+    }
+    least
+}
+
+// Whether no two edges are the same: each has a greater number than the one before it, as it has where the outputs were
+// joined in their order.
+#[inline(always)]
+pub(crate) fn rise(edges: &[usize]) -> bool
+    ensures { result ≡ true → (p q : ℕ) → p < q → q < length edges.now →
+        edge_of edges.now p < edge_of edges.now q }
+{
+    for port in 1..edges.len() {
+        if edges[port] <= edges[port - 1] {
+            return false;
+        }
+    }
+    true
+}
+
+// Whether there are at most two inputs, and they have edges of their own. Slices of more are not shown.
+#[inline(always)]
+pub(crate) fn at_most_two_apart(inputs: &[usize]) -> bool
+    ensures { result ≡ true → AreApart inputs.now }
+{
+    inputs.len() < 2 || inputs.len() == 2 && inputs[0] != inputs[1]
+}

@@ -1,9 +1,0 @@
-use Rattle.flow_base.specs.Nodes.{behaviour_of, node_state}
-use Rattle.flow_base.specs.declared.node.Phase.TheVariants.{Working}
-use Rattle.flow_base.proofs.Kernels.{went_none}
-use Rattle.flow_folds.specs.LengthMachine.{length_machine, length_view}
-use Rattle.flow_folds.proofs.length.LengthWorker.blocks.Goals as goal
-
--- it made no step
-pub returns-then-is_empty-clause-went : goal.returns-then-is_empty-clause-went
-returns-then-is_empty-clause-went g c = λ at. went_none (behaviour_of length_machine) c.args.inputs.now c.args.outputs.now (node_state (length_view c.args.self.now) Working at) (g.E.Ends.view c.args.ends.now)
