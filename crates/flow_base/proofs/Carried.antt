@@ -82,6 +82,16 @@ put_coming u w f e m put = elim (cases_eq e f) [
   | inr ne ↦ prefix_same (u.coming e) (w.coming e) (put.coming e ne)
 ]
 
+-- a look for room before, and then a message written
+pub wrote_looked : (v u w : View) (f : ℕ) (m : Signal) → LookedForRoom v f u → Wrote u f m w → Wrote v f m w
+wrote_looked v u w f m looked wrote = record {
+  ends = same_ends_then v u w looked.ends wrote.ends;
+  sent = λ e. wrote.sent e ∙ ap (λ l. cond (eqb e f) (longer l m) l) (looked.traffic.sent e);
+  received = λ e. wrote.received e ∙ looked.traffic.received e;
+  coming = λ e. subst (λ l. IsPrefix l (w.coming e)) (looked.coming e) (wrote.coming e);
+  room = λ e ne. wrote.room e ne ∙ looked.room e ne;
+}
+
 -- the answers of `room` and then of `put`
 module _ (v u w : View) (f : ℕ) (m : Signal) (message : Msg) (looked : LookedForRoom v f u) where
   pub put_wrote : (r : Result (Unit {0}) Refused) → 0 < u.room f → OnOk r (Put u f m w) → IfErr r (λ x. (x.message ≡ message) × LookedForRoom u f w) → IsErrAnd r (λ x. x.why ≡ Closed) ↔ (ended (u.sent f) ≡ true) → (ended (u.sent f) ≡ false → 0 < u.room f → IsOk r) → Wrote v f m w

@@ -15,7 +15,7 @@ use Rattle.flow_messages.specs.declared.ends.Why.TheVariants.{Closed}
 use Rattle.flow_messages.specs.declared.message.Msg.{Msg}
 use Rattle.flow_base.specs.Transducers.{Behaviour, BehaviourLaws}
 use Rattle.flow_base.specs.Visits.{read_from, sent_after, longer, Wrote, edge_of, IsNone, Carried, SparesOthers, LeavesAlone, IsStuck, Visited, BrokeOff, IsReached, IsPlaced}
-use Rattle.flow_base.proofs.Carried.{looked_coming, looked_room, same_ends_refl, same_ends_then, prefix_same, prefix_then, read_append, sent_append, taken_received, taken_room, put_wrote}
+use Rattle.flow_base.proofs.Carried.{looked_coming, looked_room, same_ends_refl, same_ends_then, prefix_same, prefix_then, read_append, sent_append, taken_received, taken_room, put_wrote, wrote_looked}
 use Rattle.flow_base.proofs.Reached.{opening_does, reached_does, opening_read, opening_wrote, reached_read, reached_wrote, written_fits, wants_input, wants_output}
 
 pub not_nil : {X : Type 0} (h : List X) (x : X) → h ++ x ∷ [] ≡ [] → ⊥
@@ -187,6 +187,11 @@ module _ {S : Type 0} {b : Behaviour S} (laws : BehaviourLaws b) {inputs outputs
     made_put q message t' u w r wants told is looked certain ok refused closed succeeds =
         let m = signal_of message in
         made_write q m t' w wants told (put_wrote v u w (edge_of outputs q) m message looked r certain ok refused closed succeeds) is
+
+    -- it looked for room, and wrote a message where that was certain
+    pub made_wrote : (q : ℕ) (m : Signal) (t' : S) (u w : View) → b.process.want t ≡ Write q → m ≡ b.process.written t → t' ≡ b.process.wrote t →
+        LookedForRoom v (edge_of outputs q) u → Wrote u (edge_of outputs q) m w → Made b inputs outputs s a t' w true
+    made_wrote q m t' u w wants told is looked wrote = made_write q m t' w wants told (wrote_looked v u w (edge_of outputs q) m looked wrote) is
 
     -- it looked for a message
     pub made_looked : (p : ℕ) (w : View) → b.process.want t ≡ Read p → LookedForMessages v (edge_of inputs p) w → Made b inputs outputs s a t w any

@@ -14,7 +14,7 @@ ghost use Rattle.flow_base.specs.Visits.{IsPlaced, WentOn, Visited, BrokeOff};
 ghost use Rattle.flow_base.specs.Walks.{Walk};
 ghost use Rattle.flow_base.specs.declared.node.Phase.TheVariants.{Working, Ending};
 
-use crate::certain::look_for_messages;
+use crate::certain::{look_for_messages, put_in_space};
 use crate::slices::{
     PLACES, Written, at_most_two_apart, least_space, put_on_each, rise, shown_at, skip_at,
 };
@@ -415,8 +415,7 @@ impl<W: Worker> Node<W> {
                         return Ok(made);
                     }
                     let item = self.worker.give()?;
-                    // Only after End is the message refused, and no lawful node writes after End.
-                    drop(ends.put(edge, Msg::Item(item)));
+                    put_in_space(ends, edge, Msg::Item(item));
                 }
                 Want::Ended | Want::Faulted(_) => return Ok(made),
             }

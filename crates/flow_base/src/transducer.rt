@@ -3,6 +3,7 @@
 ghost use Rattle.std.specs.Prelude.{◌≡◌};
 ghost use Rattle.flow_base.specs.Transducers.{TransducerLaws};
 
+use crate::certain::put_in_space;
 use flow_messages::{Block, Ends, Kind, Msg};
 use kahn::Want;
 use std::alloc::AllocError;
@@ -159,8 +160,7 @@ pub trait Transducer {
                         break;
                     }
                     let message = self.emit()?;
-                    // Only after End is the message refused, and no lawful node writes after End.
-                    drop(ends.put(edge, message));
+                    put_in_space(ends, edge, message);
                 }
                 Want::Ended | Want::Faulted(_) => break,
             }

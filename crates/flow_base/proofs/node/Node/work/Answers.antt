@@ -9,7 +9,7 @@ use Rattle.flow_base.specs.Nodes.{node_state, want_in, written_signal, after_in,
 use Rattle.flow_base.specs.Members.{node_of}
 use Rattle.flow_base.specs.Visits.{edge_of, IsStuck, Visited}
 use Rattle.flow_base.proofs.Carried.{same_ends_then}
-use Rattle.flow_base.proofs.Visits.{Made, input_there, output_there, put_fits, reads_at, made_none, made_read, made_put, made_looked, made_room, visited, broke_off, broke_reading, starves_err, no_room, on_err}
+use Rattle.flow_base.proofs.Visits.{Made, input_there, output_there, put_fits, reads_at, made_none, made_read, made_wrote, made_looked, made_room, visited, broke_off, broke_reading, starves_err, no_room, on_err}
 use Rattle.flow_base.proofs.node.Node.work.Goals.{in-Read+else-prove+in-Some+in_ok-read_on-in-Read+else-not-branch, in-Write+else-prove-2+else-not-room+in_ok-item-in-Write}
 use Rattle.flow_base.proofs.node.Node.work.Goals as goal
 
@@ -136,8 +136,8 @@ returns-in_err-item-in-Write-clause-broke g c =
     let looked = made_room laws placed made c.in-Write.port u wants c.room.ensures.looked in
     on_err c.from_residual-in_err-item-in-Write.result (broke_off laws placed looked (node_state (g.W.Worker.state c.give.new.self) c.loop-made.self.phase c.loop-made.self.at) (ap (λ x. node_state x c.loop-made.self.phase c.loop-made.self.at) c.in_err-item-in-Write.ensures.err) starves)
 
-pub put-requires-clause-fits : goal.put-requires-clause-fits
-put-requires-clause-fits g c =
+pub put_in_space-requires-clause-fits : goal.put_in_space-requires-clause-fits
+put_in_space-requires-clause-fits g c =
     let m = g.W.Worker.machine in
     let node = node_of g.W.Worker.state m g.met.W.Worker.laws in
     let b = node.behaviour in
@@ -180,11 +180,10 @@ loop-made-preserved g c =
           let sent = w.in_ok-item-in-Write in
           let told : carry (written_cell (move_of m t.worker)) ≡ b.process.written t = sym (ap (λ p. written_signal m p t) works) in
           let is : next ≡ b.process.wrote t = ap node.state w.self-is ∙ ap (λ x. node_state x c.loop-made.self.phase c.loop-made.self.at) sent.ensures.ok.1 ∙ sym (ap (λ p. after_in m p t) works) in
-          let certain : 0 < (view w.room.new.self).room (edge_of outs w.in-Write.port) = w.room.ensures.value.0 (cc (w.if-not-room.false)) in
           record {
-            same = subst (g.E.Ends.same c.args.ends.now) (sym w.ends-is) (g.met.E.Ends.same_trans c.args.ends.now w.room.new.self w.put.new.self (g.met.E.Ends.same_trans c.args.ends.now c.loop-made.ends w.room.new.self inv.same w.room.ensures.same) w.put.ensures.same);
+            same = subst (g.E.Ends.same c.args.ends.now) (sym w.ends-is) (g.met.E.Ends.same_trans c.args.ends.now w.room.new.self w.put_in_space.new.ends (g.met.E.Ends.same_trans c.args.ends.now c.loop-made.ends w.room.new.self inv.same w.room.ensures.same) w.put_in_space.ensures.same);
             works = ap (λ n. n.phase) w.self-is ∙ works;
-            made = subst (λ x. Made b ins outs s a next (view x) (nat_lt 0 (c.loop-made.made + 1))) (sym w.ends-is) (subst (Made b ins outs s a next (view w.put.new.self)) (stepped c.loop-made.made) (made_put laws placed made w.in-Write.port (msg.Item sent.item) next (view w.room.new.self) (view w.put.new.self) w.put.result wants (ap carry sent.ensures.ok.0 ∙ told) is w.room.ensures.looked certain w.put.ensures.ok w.put.ensures.refused w.put.ensures.closed w.put.ensures.succeeds));
+            made = subst (λ x. Made b ins outs s a next (view x) (nat_lt 0 (c.loop-made.made + 1))) (sym w.ends-is) (subst (Made b ins outs s a next (view w.put_in_space.new.ends)) (stepped c.loop-made.made) (made_wrote laws placed made w.in-Write.port (signal_of (msg.Item sent.item)) next (view w.room.new.self) (view w.put_in_space.new.ends) wants (ap carry sent.ensures.ok.0 ∙ told) is w.room.ensures.looked w.put_in_space.ensures.wrote));
           })
     ]
 

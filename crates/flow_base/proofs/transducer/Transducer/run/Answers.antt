@@ -4,7 +4,7 @@ use Rattle.flow_messages.specs.Signals.{signal_of}
 use Rattle.flow_messages.specs.Kinds.{FitsEdge}
 use Rattle.flow_base.specs.Visits.{edge_of, IsStuck}
 use Rattle.flow_base.proofs.Carried.{same_ends_then}
-use Rattle.flow_base.proofs.Visits.{Made, made_none, input_there, output_there, put_fits, reads_at, made_read, made_put, made_looked, made_room, visited, broke_off, broke_reading, starves_err, no_room, on_err}
+use Rattle.flow_base.proofs.Visits.{Made, made_none, input_there, output_there, put_fits, reads_at, made_read, made_wrote, made_looked, made_room, visited, broke_off, broke_reading, starves_err, no_room, on_err}
 use Rattle.flow_base.proofs.transducer.Transducer.run.Goals.{in-Read+else-prove+in-Some+in_ok-give-in-Read, in-Write+else-prove-2+else-not-room+in_ok-message-in-Write}
 use Rattle.flow_base.proofs.transducer.Transducer.run.Goals as goal
 
@@ -56,8 +56,8 @@ returns-in_err-give-in-Read-clause-broke g c =
     let starves : b.takes_memory t ≡ true = starves_err (b.takes_memory t) c.give.result c.in_err-give-in-Read.field-0.0 c.in_err-give-in-Read.was c.give.ensures.sure in
     on_err c.from_residual.result (broke_reading laws placed made c.in-Read.port (signal_of c.in-Some.message) (state c.give.new.self) (view c.take.new.self) (sym c.want.ensures ∙ c.in-Read.is) c.in-Some.ensures.some c.in_err-give-in-Read.ensures.err starves)
 
-pub put-requires-clause-fits : goal.put-requires-clause-fits
-put-requires-clause-fits g c =
+pub put_in_space-requires-clause-fits : goal.put_in_space-requires-clause-fits
+put_in_space-requires-clause-fits g c =
     let b = g.Self.Transducer.behaviour in
     let laws = g.met.Self.Transducer.laws in
     let t = g.Self.Transducer.state c.loop.self in
@@ -140,10 +140,9 @@ loop-preserved g c =
       | in-Write+else-prove-2+else-not-room+in_ok-message-in-Write w ↦ (let wants : b.process.want t ≡ Write w.in-Write.port = sym c.want.ensures ∙ w.in-Write.is in
           let sent = w.in_ok-message-in-Write in
           let is : next ≡ b.process.wrote t = ap state w.self-is ∙ sent.ensures.ok.1 in
-          let certain : 0 < (view w.room.new.self).room (edge_of outs w.in-Write.port) = w.room.ensures.value.0 (cc (w.if-not-room.false)) in
           record {
-            same = subst (g.E.Ends.same c.args.ends.now) (sym w.ends-is) (g.met.E.Ends.same_trans c.args.ends.now w.room.new.self w.put.new.self (g.met.E.Ends.same_trans c.args.ends.now c.loop.ends w.room.new.self inv.same w.room.ensures.same) w.put.ensures.same);
-            made = subst (λ x. Made b ins outs s a next (view x) true) (sym w.ends-is) (made_put laws placed made w.in-Write.port sent.message next (view w.room.new.self) (view w.put.new.self) w.put.result wants sent.ensures.ok.0 is w.room.ensures.looked certain w.put.ensures.ok w.put.ensures.refused w.put.ensures.closed w.put.ensures.succeeds);
+            same = subst (g.E.Ends.same c.args.ends.now) (sym w.ends-is) (g.met.E.Ends.same_trans c.args.ends.now w.room.new.self w.put_in_space.new.ends (g.met.E.Ends.same_trans c.args.ends.now c.loop.ends w.room.new.self inv.same w.room.ensures.same) w.put_in_space.ensures.same);
+            made = subst (λ x. Made b ins outs s a next (view x) true) (sym w.ends-is) (made_wrote laws placed made w.in-Write.port (signal_of sent.message) next (view w.room.new.self) (view w.put_in_space.new.ends) wants sent.ensures.ok.0 is w.room.ensures.looked w.put_in_space.ensures.wrote);
             first = λ h. cc;
           })
     ]
