@@ -1,9 +1,10 @@
 -- What Reduce makes of blocks: flags and the elements that they stand for, and the ends of segments.
-use Rattle.std.proofs.Common.{◌≡◌, ◌≢◌, ℕ, zero, suc, ◌+◌, ◌<◌, ◌≤◌, ◌*◌, ℤ, pos, negsuc, ◌+ℤ◌, ◌≤ℤ◌, Bool, true, false, cond, eqb, List, [], ◌∷◌, ◌++◌, length, take, get_or, Option, Some, Result, Ok, Err, refl, sym, ◌∙◌, ap, subst, arith}
+use Rattle.std.proofs.Common.{◌≡◌, ℕ, zero, suc, ◌+◌, ◌<◌, ◌≤◌, ◌*◌, ℤ, pos, negsuc, ◌+ℤ◌, ◌≤ℤ◌, Bool, true, false, List, [], ◌∷◌, ◌++◌, length, take, drop, set, get_or, Option, Some, Result, Ok, Err, refl, sym, ◌∙◌, ap, subst, arith, append-nil, length-append}
 use Rattle.std.specs.Prelude.{if◌then◌else◌}
+use Rattle.std.proofs.Math.Seq.{take-add}
 use Rattle.std.proofs.lemmas.Bool.Decides.{nat_tests}
 use Rattle.std.proofs.lemmas.Int.{ints}
-use mathlib.Core.List.{IsPrefix}
+use Rattle.std.proofs.lemmas.List.{length-take-le, map-append, take_more_set}
 use Rattle.kahn.specs.declared.want.Want.TheVariants.{Read}
 use Rattle.snesl_data.specs.declared.dialect.Dialect.{Dialect}
 use Rattle.snesl_data.specs.declared.fault.FaultKind.{FaultKind}
@@ -17,30 +18,18 @@ use Rattle.snesl_operators.specs.declared.operator.Reduction.TheVariants.{Sum}
 use Rattle.snesl_operators.specs.declared.scalar.Scalar.{Scalar}
 use Rattle.snesl_operators.specs.declared.scalar.Scalar.TheVariants.{Int}
 use Rattle.flow_messages.specs.Cells.{Cell, flag, int}
-use Rattle.flow_messages.specs.Ends.{View, TakenAll, PutAll}
 use Rattle.flow_messages.specs.Blocks.{flag_signals, int_signals}
-use Rattle.flow_messages.specs.Signals.{Signal, carry}
-use Rattle.flow_base.specs.Machines.{on_kind, state_after_item, state_after_read}
-use Rattle.flow_base.specs.Nodes.{NodeState, behaviour_of, node_state}
-use Rattle.flow_base.specs.Transducers.{Behaviour}
-use Rattle.flow_base.specs.Visits.{edge_of, Went}
-use Rattle.flow_base.specs.declared.node.Phase.TheVariants.{Working}
-use Rattle.flow_base.proofs.Kernels.{went_none, went_further, leads_on}
-use Rattle.flow_base.proofs.Batches.{Batch, batch_none, batch_read, batch_write, batch_then, batch_as, blocks_then, shifted_none, shifted_skip, shifted_put, went_batch, shown, take_flags, take_ints, length_flags, length_ints, ended_one}
+use Rattle.flow_messages.specs.Signals.{carry}
+use Rattle.flow_base.specs.Machines.{ask_of, on_kind, state_after_item, state_after_read}
+use Rattle.flow_base.specs.Nodes.{want_for}
+use Rattle.flow_base.proofs.Along.{only, ran_as, single_none, single_first, single_second, single_write, single_then}
 use Rattle.flow_folds.specs.Scalars.{scalar_in}
 use Rattle.flow_folds.specs.ReduceMachine.{at_flag, at_element, reduced_kind, reduce_machine}
-use Rattle.flow_folds.specs.ReduceBlocks.{reduction_of_ints, AwaitsFlag}
+use Rattle.flow_folds.specs.ReduceBlocks.{reduction_of_ints, AwaitsFlag, Reduces}
 use Rattle.flow_folds.specs.declared.reduce.Stage.{Stage}
 use Rattle.flow_folds.specs.declared.reduce.Stage.TheVariants.{Start, Flag, Element, Value}
 use Rattle.flow_folds.specs.laws.Reduce.{element_is}
 use Rattle.flow_folds.proofs.SegmentBlocks.{elements_block}
-
-abbrev pub stage_on : Dialect × Reduction → ℕ → Stage → NodeState ((Dialect × Reduction) × Stage)
-stage_on p at s = node_state (p, s) Working at
-
--- it went on, and then stays
-pub went_stays : {S : Type 0} (b : Behaviour S) (ins outs : List ℕ) {s : S} {a : View} {t : S} {v : View} {n : ℕ} {w : View} → Went ins outs b s a t v n → Went ins outs b t v t w 0 → Went ins outs b s a t w n
-went_stays b ins outs {s} {a} {t} {v} {n} {w} went stays = let all : n + 0 ≡ n = omega arith in subst (Went ins outs b s a t w) all (went_further b ins outs went stays)
 
 -- one element more
 pub ints_more : (dialect : Dialect) (reduction : Reduction) (so_far : Option Scalar) (xs : List ℤ) (x : ℤ) → reduction_of_ints dialect reduction so_far (xs ++ x ∷ []) ≡ and_then (reduction_of_ints dialect reduction so_far xs) (λ more. reduced_more dialect reduction more (Int x))
@@ -68,23 +57,21 @@ first_elements (suc n) (b ∷ bs) within ahead =
     let rest : take n bs ≡ elements_block n = first_elements n bs (omega arith) (λ k h. ahead (suc k) (omega arith)) in
     cc
 
--- what is shown is what many takes give
-pub flags_taken : (bs : List Bool) (c : List Signal) (n : ℕ) → IsPrefix (flag_signals bs) c → n ≤ length bs → take n c ≡ flag_signals (take n bs)
-flags_taken bs c n seen within = shown (flag_signals bs) c n seen (omega (arith, length_flags bs)) ∙ take_flags n bs
+-- the first flag is this
+pub some_flag : (bs : List Bool) → get_or bs 0 false ≡ true → 0 < length bs
+some_flag [] is = absurd (cc)
+some_flag (b ∷ bs) is = omega arith
 
-pub ints_taken : (ns : List ℤ) (c : List Signal) (n : ℕ) → IsPrefix (int_signals ns) c → n ≤ length ns → take n c ≡ int_signals (take n ns)
-ints_taken ns c n seen within = shown (int_signals ns) c n seen (omega (arith, length_ints ns)) ∙ take_ints n ns
-
-pub first_flag_taken : (bs : List Bool) (c : List Signal) → IsPrefix (flag_signals bs) c → get_or bs 0 false ≡ true → take 1 c ≡ carry (flag true) ∷ []
-first_flag_taken [] c seen is = absurd (cc)
-first_flag_taken (b ∷ bs) c seen is = flags_taken (b ∷ bs) c 1 seen (omega arith) ∙ ap (λ t. carry (flag t) ∷ []) is
+first_flag : (bs : List Bool) → get_or bs 0 false ≡ true → take 1 bs ≡ true ∷ []
+first_flag [] is = absurd (cc)
+first_flag (b ∷ bs) is = ap (λ t. t ∷ []) is
 
 -- where a flag comes, one is read, and leads as it does after what is so far
-awaits_wants : (p : Dialect × Reduction) (s : Stage) (so_far : Option Scalar) (at : ℕ) → AwaitsFlag p.1 s so_far → (behaviour_of reduce_machine).process.want (stage_on p at s) ≡ Read 0
-awaits_wants p Start so_far at awaits = refl
-awaits_wants p (Flag held) so_far at awaits = refl
-awaits_wants p (Element held) so_far at awaits = absurd awaits
-awaits_wants p (Value value) so_far at awaits = absurd awaits
+awaits_wants : (p : Dialect × Reduction) (s : Stage) (so_far : Option Scalar) → AwaitsFlag p.1 s so_far → want_for (ask_of (reduce_machine.move p s)) ≡ Read 0
+awaits_wants p Start so_far awaits = refl
+awaits_wants p (Flag held) so_far awaits = refl
+awaits_wants p (Element held) so_far awaits = absurd awaits
+awaits_wants p (Value value) so_far awaits = absurd awaits
 
 awaits_takes : (p : Dialect × Reduction) (s : Stage) (so_far : Option Scalar) → AwaitsFlag p.1 s so_far → (y : Cell) → state_after_read (reduce_machine.move p s) y ≡ state_after_item (at_flag so_far) y
 awaits_takes p Start so_far awaits y = ap (λ held. state_after_item (at_flag held) y) awaits
@@ -92,65 +79,75 @@ awaits_takes p (Flag held) so_far awaits y = ap (λ held. state_after_item (at_f
 awaits_takes p (Element held) so_far awaits y = absurd awaits
 awaits_takes p (Value value) so_far awaits y = absurd awaits
 
-module _ (ins outs : List ℕ) where
-  -- blocks of flags and of elements
-  abbrev pub Elements : Dialect × Reduction → ℕ → Stage → Stage → List ℤ → Type 0
-  Elements p at s t xs = Batch ins outs (behaviour_of reduce_machine) (stage_on p at s) (stage_on p at t) (λ e. cond (eqb e (edge_of ins 0)) (flag_signals (elements_block (length xs))) [] ++ cond (eqb e (edge_of ins 1)) (int_signals xs) []) (λ e. []) (2 * length xs)
+module _ (p : Dialect × Reduction) where
+  pub reduces_none : (s : Stage) → Reduces p s [] [] [] s
+  reduces_none s = single_none reduce_machine p s
 
-  one_element : (p : Dialect × Reduction) (at : ℕ) (s : Stage) (so_far more : Option Scalar) (x : ℤ) → AwaitsFlag p.1 s so_far → reduced_more p.0 p.1 so_far (Int x) ≡ Ok more → Elements p at s (Flag more) (x ∷ [])
-  one_element p at s so_far more x awaits is =
-      let b = behaviour_of reduce_machine in
-      let flagged = leads_on reduce_machine p s (Element so_far) at (at_flag so_far) (carry (flag false)) (awaits_takes p s so_far awaits) refl in
-      let one = batch_read ins outs b (batch_none ins outs b (stage_on p at s)) 0 (carry (flag false)) (stage_on p at (Element so_far)) (awaits_wants p s so_far at awaits) flagged in
-      let taking = on_kind (reduced_kind p.1) (λ k. at_element p.0 p.1 so_far (scalar_in k)) in
-      let leads : state_after_item taking (int x) ≡ Ok (Flag more) = element_is p.0 p.1 so_far (int x) ∙ ap (λ r. and_then r (λ held. Ok (Flag held))) is in
-      batch_as ins outs b (batch_read ins outs b one 1 (carry (int x)) (stage_on p at (Flag more)) refl (leads_on reduce_machine p (Element so_far) (Flag more) at taking (carry (int x)) (λ y. refl) leads)) _ _ (λ e. refl) (λ e. refl)
+  -- an element, after its flag
+  one_element : (s : Stage) (so_far more : Option Scalar) (x : ℤ) → AwaitsFlag p.1 s so_far → reduced_more p.0 p.1 so_far (Int x) ≡ Ok more → Reduces p s (false ∷ []) (x ∷ []) [] (Flag more)
+  one_element s so_far more x awaits is =
+      let m = reduce_machine in
+      let one = single_first m p s (Element so_far) (flag false) (awaits_wants p s so_far awaits) (awaits_takes p s so_far awaits (flag false)) in
+      let leads : state_after_item (on_kind (reduced_kind p.1) (λ k. at_element p.0 p.1 so_far (scalar_in k))) (int x) ≡ Ok (Flag more) = element_is p.0 p.1 so_far (int x) ∙ ap (λ r. and_then r (λ held. Ok (Flag held))) is in
+      let two = single_second m p (Element so_far) (Flag more) (int x) refl leads in
+      single_then m p (flag_signals (false ∷ [])) [] [] [] (int_signals (x ∷ [])) [] one two
 
-  pub elements_rounds : edge_of ins 0 ≢ edge_of ins 1 → (p : Dialect × Reduction) (at : ℕ) (more : Option Scalar) (s : Stage) (so_far : Option Scalar) (x : ℤ) (xs : List ℤ) → AwaitsFlag p.1 s so_far → reduction_of_ints p.0 p.1 so_far (x ∷ xs) ≡ Ok more → Elements p at s (Flag more) (x ∷ xs)
-  elements_rounds apart p at more s so_far x [] awaits is = go (reduced_more p.0 p.1 so_far (Int x)) refl is
+  -- the end of a segment, with its value
+  end_step : (s : Stage) (n : ℤ) → AwaitsFlag p.1 s (Some (Int n)) → Reduces p s (true ∷ []) [] (n ∷ []) Start
+  end_step s n awaits =
+      let m = reduce_machine in
+      let one = single_first m p s (Value (Int n)) (flag true) (awaits_wants p s (Some (Int n)) awaits) (awaits_takes p s (Some (Int n)) awaits (flag true)) in
+      let two = single_write m p (Value (Int n)) Start (int n) refl refl refl in
+      single_then m p (flag_signals (true ∷ [])) [] [] [] [] (int_signals (n ∷ [])) one two
+
+  -- steps, and then others
+  joined : (s t u : Stage) (bs cs : List Bool) (xs ys vs ws : List ℤ) → Reduces p s bs xs vs t → Reduces p t cs ys ws u → Reduces p s (bs ++ cs) (xs ++ ys) (vs ++ ws) u
+  joined s t u bs cs xs ys vs ws before after =
+      let m = reduce_machine in
+      let both = single_then m p (flag_signals bs) (int_signals xs) (int_signals vs) (flag_signals cs) (int_signals ys) (int_signals ws) before after in
+      let counts : 2 * length bs + 2 * length cs ≡ 2 * length (bs ++ cs) = omega (arith, length-append bs cs) in
+      ran_as m p both (flag_signals (bs ++ cs)) (int_signals (xs ++ ys)) (only (int_signals (vs ++ ws))) (2 * length (bs ++ cs)) (sym (map-append (λ b. carry (flag b)) bs cs)) (sym (map-append (λ n. carry (int n)) xs ys)) (λ q. ap (λ l. only l q) (sym (map-append (λ n. carry (int n)) vs ws))) counts
+
+  -- elements, each after its flag
+  elements_steps : (more : Option Scalar) (s : Stage) (so_far : Option Scalar) (x : ℤ) (xs : List ℤ) → AwaitsFlag p.1 s so_far → reduction_of_ints p.0 p.1 so_far (x ∷ xs) ≡ Ok more → Reduces p s (elements_block (length (x ∷ xs))) (x ∷ xs) [] (Flag more)
+  elements_steps more s so_far x [] awaits is = go (reduced_more p.0 p.1 so_far (Int x)) refl is
     where
-      go : (r : Result (Option Scalar) FaultKind) → reduced_more p.0 p.1 so_far (Int x) ≡ r → and_then r (λ held. Ok held) ≡ Ok more → Elements p at s (Flag more) (x ∷ [])
+      go : (r : Result (Option Scalar) FaultKind) → reduced_more p.0 p.1 so_far (Int x) ≡ r → and_then r (λ held. Ok held) ≡ Ok more → Reduces p s (false ∷ []) (x ∷ []) [] (Flag more)
       go (Err kind) first is = absurd (cc)
-      go (Ok held) first is = one_element p at s so_far more x awaits (first ∙ is)
-  elements_rounds apart p at more s so_far x (y ∷ ys) awaits is = go (reduced_more p.0 p.1 so_far (Int x)) refl (λ held. elements_rounds apart p at more (Flag held) held y ys refl) is
+      go (Ok held) first is = one_element s so_far more x awaits (first ∙ is)
+  elements_steps more s so_far x (y ∷ ys) awaits is = go (reduced_more p.0 p.1 so_far (Int x)) refl (λ held. elements_steps more (Flag held) held y ys refl) is
     where
-      go : (r : Result (Option Scalar) FaultKind) → reduced_more p.0 p.1 so_far (Int x) ≡ r → ((held : Option Scalar) → reduction_of_ints p.0 p.1 held (y ∷ ys) ≡ Ok more → Elements p at (Flag held) (Flag more) (y ∷ ys)) → and_then r (λ held. reduction_of_ints p.0 p.1 held (y ∷ ys)) ≡ Ok more → Elements p at s (Flag more) (x ∷ y ∷ ys)
+      go : (r : Result (Option Scalar) FaultKind) → reduced_more p.0 p.1 so_far (Int x) ≡ r → ((held : Option Scalar) → reduction_of_ints p.0 p.1 held (y ∷ ys) ≡ Ok more → Reduces p (Flag held) (elements_block (length (y ∷ ys))) (y ∷ ys) [] (Flag more)) → and_then r (λ held. reduction_of_ints p.0 p.1 held (y ∷ ys)) ≡ Ok more → Reduces p s (elements_block (length (x ∷ y ∷ ys))) (x ∷ y ∷ ys) [] (Flag more)
       go (Err kind) first rest is = absurd (cc)
-      go (Ok held) first rest is =
-          let b = behaviour_of reduce_machine in
-          let reads = λ (e : ℕ). cond (eqb e (edge_of ins 0)) (flag_signals (elements_block (length (x ∷ y ∷ ys)))) [] ++ cond (eqb e (edge_of ins 1)) (int_signals (x ∷ y ∷ ys)) [] in
-          let all = batch_as ins outs b (batch_then ins outs b (one_element p at s so_far held x awaits first) (rest held is)) reads (λ e. []) (λ e. blocks_then e (edge_of ins 0) (edge_of ins 1) (carry (flag false) ∷ []) (carry (int x) ∷ []) (flag_signals (elements_block (length (y ∷ ys)))) (int_signals (y ∷ ys)) apart) (λ e. refl) in
-          let count : 2 + 2 * length (y ∷ ys) ≡ 2 * length (x ∷ y ∷ ys) = omega arith in
-          subst (Batch ins outs b (stage_on p at s) (stage_on p at (Flag more)) reads (λ e. [])) count all
+      go (Ok held) first rest is = joined s (Flag held) (Flag more) (false ∷ []) (elements_block (length (y ∷ ys))) (x ∷ []) (y ∷ ys) [] [] (one_element s so_far held x awaits first) (rest held is)
 
-  -- the end of a segment
-  pub end_rounds : (p : Dialect × Reduction) (at : ℕ) (s : Stage) (n : ℤ) → AwaitsFlag p.1 s (Some (Int n)) →
-      Batch ins outs (behaviour_of reduce_machine) (stage_on p at s) (stage_on p at Start) (λ e. cond (eqb e (edge_of ins 0)) (carry (flag true) ∷ []) []) (λ e. cond (eqb e (edge_of outs 0)) (carry (int n) ∷ []) []) 2
-  end_rounds p at s n awaits =
-      let b = behaviour_of reduce_machine in
-      let flagged = leads_on reduce_machine p s (Value (Int n)) at (at_flag (Some (Int n))) (carry (flag true)) (awaits_takes p s (Some (Int n)) awaits) refl in
-      let one = batch_read ins outs b (batch_none ins outs b (stage_on p at s)) 0 (carry (flag true)) (stage_on p at (Value (Int n))) (awaits_wants p s (Some (Int n)) at awaits) flagged in
-      batch_write ins outs b one 0 (int n) (stage_on p at Start) refl refl refl
+  some_elements : (more : Option Scalar) (s : Stage) (so_far : Option Scalar) (xs : List ℤ) → 0 < length xs → AwaitsFlag p.1 s so_far → reduction_of_ints p.0 p.1 so_far xs ≡ Ok more → Reduces p s (elements_block (length xs)) xs [] (Flag more)
+  some_elements more s so_far [] some awaits is = absurd (omega arith)
+  some_elements more s so_far (x ∷ xs) some awaits is = elements_steps more s so_far x xs awaits is
 
-  -- blocks that are skipped are those rounds
-  pub elements_went : edge_of ins 0 ≢ edge_of ins 1 → 1 < length ins → (p : Dialect × Reduction) (at : ℕ) (more : Option Scalar) (s : Stage) (so_far : Option Scalar) (xs : List ℤ) → 0 < length xs → AwaitsFlag p.1 s so_far → reduction_of_ints p.0 p.1 so_far xs ≡ Ok more → (a v w : View) →
-      TakenAll a (edge_of ins 0) (flag_signals (elements_block (length xs))) v → TakenAll v (edge_of ins 1) (int_signals xs) w → Went ins outs (behaviour_of reduce_machine) (stage_on p at s) a (stage_on p at (Flag more)) w (2 * length xs)
-  elements_went apart there p at more s so_far [] some awaits is a v w flags elements = absurd (omega arith)
-  elements_went apart there p at more s so_far (x ∷ xs) some awaits is a v w flags elements =
-      let b = behaviour_of reduce_machine in
-      let one = shifted_skip ins outs (shifted_none ins outs a) 0 (flag_signals (elements_block (length (x ∷ xs)))) v (omega arith) flags in
-      let two = shifted_skip ins outs one 1 (int_signals (x ∷ xs)) w there elements in
-      let all = went_batch ins outs b (went_none b ins outs (stage_on p at s) a) (elements_rounds apart p at more s so_far x xs awaits is) (omega arith) w two in
-      let count : 0 + 2 * length (x ∷ xs) ≡ 2 * length (x ∷ xs) = omega arith in
-      subst (Went ins outs b (stage_on p at s) a (stage_on p at (Flag more)) w) count all
+  -- the first flags are those of elements
+  pub first_reduced : (more : Option Scalar) (s : Stage) (so_far : Option Scalar) (bs : List Bool) (xs : List ℤ) (n : ℕ) → 0 < n → n ≤ length bs → n ≤ length xs → ((k : ℕ) → k < n → get_or bs k true ≡ false) → AwaitsFlag p.1 s so_far → reduction_of_ints p.0 p.1 so_far (take n xs) ≡ Ok more → Reduces p s (take n bs) (take n xs) [] (Flag more)
+  first_reduced more s so_far bs xs n some in_bs in_xs ahead awaits is =
+      let long : length (take n xs) ≡ n = length-take-le n xs in_xs in
+      let flags : elements_block (length (take n xs)) ≡ take n bs = ap elements_block long ∙ sym (first_elements n bs in_bs ahead) in
+      subst (λ l. Reduces p s l (take n xs) [] (Flag more)) flags (some_elements more s so_far (take n xs) (omega (arith, long, some)) awaits is)
 
-  pub end_went : 0 < length ins → 0 < length outs → (p : Dialect × Reduction) (at : ℕ) (s : Stage) (n : ℤ) → AwaitsFlag p.1 s (Some (Int n)) → (a v u w : View) → Went ins outs (behaviour_of reduce_machine) (stage_on p at s) a (stage_on p at s) v 0 →
-      PutAll v (edge_of outs 0) (carry (int n) ∷ []) u → TakenAll u (edge_of ins 0) (carry (flag true) ∷ []) w → Went ins outs (behaviour_of reduce_machine) (stage_on p at s) a (stage_on p at Start) w 2
-  end_went reads writes p at s n awaits a v u w went put state_after_item =
-      let b = behaviour_of reduce_machine in
-      let one = shifted_put ins outs (shifted_none ins outs v) 0 (carry (int n) ∷ []) u writes (ended_one (int n)) put in
-      let two = shifted_skip ins outs one 0 (carry (flag true) ∷ []) w reads state_after_item in
-      went_batch ins outs b went (end_rounds p at s n awaits) (omega arith) w two
+  -- elements more
+  pub elements_more : (s t u : Stage) (bs : List Bool) (xs vs : List ℤ) (i j k n : ℕ) → Reduces p s (take i bs) (take j xs) (take n vs) t → Reduces p t (take k (drop i bs)) (take k (drop j xs)) [] u → Reduces p s (take (i + k) bs) (take (j + k) xs) (take n vs) u
+  elements_more s t u bs xs vs i j k n before after =
+      let both = joined s t u (take i bs) (take k (drop i bs)) (take j xs) (take k (drop j xs)) (take n vs) [] before after in
+      let in_flags = subst (λ l. Reduces p s l (take j xs ++ take k (drop j xs)) (take n vs ++ []) u) (sym (take-add i k bs)) both in
+      let in_elements = subst (λ l. Reduces p s (take (i + k) bs) l (take n vs ++ []) u) (sym (take-add j k xs)) in_flags in
+      subst (λ l. Reduces p s (take (i + k) bs) (take (j + k) xs) l u) (append-nil (take n vs)) in_elements
+
+  -- and the end of a segment more
+  pub end_more : (s t : Stage) (bs : List Bool) (xs vs : List ℤ) (i j n : ℕ) (v : ℤ) → Reduces p s (take i bs) (take j xs) (take n vs) t → get_or (drop i bs) 0 false ≡ true → AwaitsFlag p.1 t (Some (Int v)) → n < length vs → Reduces p s (take (i + 1) bs) (take j xs) (take (n + 1) (set vs n v)) Start
+  end_more s t bs xs vs i j n v before is awaits within =
+      let both = joined s t Start (take i bs) (true ∷ []) (take j xs) [] (take n vs) (v ∷ []) before (end_step t v awaits) in
+      let flags : take i bs ++ true ∷ [] ≡ take (i + 1) bs = sym (take-add i 1 bs ∙ ap (λ l. take i bs ++ l) (first_flag (drop i bs) is)) in
+      let in_flags = subst (λ l. Reduces p s l (take j xs ++ []) (take n vs ++ v ∷ []) Start) flags both in
+      let in_elements = subst (λ l. Reduces p s (take (i + 1) bs) l (take n vs ++ v ∷ []) Start) (append-nil (take j xs)) in_flags in
+      subst (λ l. Reduces p s (take (i + 1) bs) (take j xs) l Start) (sym (take_more_set vs n v within)) in_elements
 
 -- an integer of 64 bits lies in the range of each dialect
 pub small_ranged : (dialect : Dialect) (z : ℤ) → negsuc 9223372036854775807 ≤ℤ z → z ≤ℤ pos 9223372036854775807 → ranged dialect z ≡ Ok z

@@ -1,22 +1,16 @@
 // Reductions of segments.
 
-ghost use Rattle.std.specs.Prelude.{◌≡◌, ◌≢◌, ◌≤◌, ◌<◌, ◌*◌, ℕ, true, false, List, length, take, get_or, int_lt, if◌then◌else◌, Some, IfSome, Ok};
-ghost use Rattle.std.specs.List.{All};
+ghost use Rattle.std.specs.Prelude.{◌≡◌, ◌≤◌, ◌<◌, ℕ, true, false, [], length, take, get_or, int_lt, if◌then◌else◌, Some, IfSome, Ok};
 ghost use Rattle.flow_messages.specs.declared.message.Kind.TheVariants.{Int as IntKind};
-ghost use Rattle.flow_messages.specs.Ends.{SameEnds};
-ghost use Rattle.flow_base.specs.Nodes.{behaviour_of, node_state};
-ghost use Rattle.flow_base.specs.Visits.{edge_of, IsWired, TakeKinds, Went};
-ghost use Rattle.flow_base.specs.declared.node.Phase.TheVariants.{Working};
-ghost use Rattle.flow_folds.specs.ReduceMachine.{reduced_kind, reduce_machine, reduce_view};
-ghost use Rattle.flow_folds.specs.ReduceBlocks.{reduction_of_ints, AwaitsFlag};
+ghost use Rattle.flow_folds.specs.ReduceMachine.{reduced_kind};
+ghost use Rattle.flow_folds.specs.ReduceBlocks.{reduction_of_ints, AwaitsFlag, Reduces};
 ghost use Rattle.snesl_data.specs.declared.dialect.Dialect.{Dialect};
 ghost use Rattle.snesl_operators.specs.declared.operator.Reduction.TheVariants.{Sum as SumOf, Max as MaxOf};
 ghost use Rattle.snesl_operators.specs.declared.scalar.Scalar.TheVariants.{Int as IntScalar};
-ghost use Rattle.flow_folds.specs.declared.reduce.Stage.TheVariants.{Start as StartState};
 
 use crate::scalars::{item_of, kind_of, scalar_of, wide};
-use flow_base::{Ask, Stop, Worker};
-use flow_messages::{Ends, Flat, Item, Kind};
+use flow_base::{Ask, Moved, Shown, Stop, Worker, Written};
+use flow_messages::{Flat, Item, Kind};
 use snesl_data::{Dialect, FaultKind};
 use snesl_operators::{Reduction, Scalar, sum};
 use std::alloc::AllocError;
@@ -198,6 +192,15 @@ fn begins_with_end(flags: &[bool]) -> bool
     flags.len() > 0 && flags[0]
 }
 
+// How far a reduction went: how many flags and elements it read, how many values it wrote, and where these led.
+#[derive(Clone, Copy)]
+struct Reached {
+    flags: usize,
+    elements: usize,
+    values: usize,
+    stage: Stage,
+}
+
 impl Reduce {
     /// A worker over this reduction in this dialect, before its first instance.
     pub fn new(dialect: Dialect, reduction: Reduction) -> Reduce
@@ -238,174 +241,90 @@ impl Reduce {
         }
     }
 
-    // Reads the elements that are shown, each after its flag, until one faults. How many, and where they lead.
+    // Reads the elements at the front, each after its flag, until one faults. How many, and where they lead.
     #[inline(always)]
-    fn take_elements<E: Ends>(
-        &self,
-        stage: Stage,
-        inputs: &[usize],
-        ends: &mut E,
-        most: usize,
-    ) -> (usize, Stage)
-        requires two { length inputs.now ≡ 2 }
-        requires apart { edge_of inputs.now 0 ≢ edge_of inputs.now 1 }
-        requires reads { All (λ e. (E.view ends.old).reads e ≡ true) inputs.now }
-        ensures same { E.same ends.old ends.new }
-        ensures ends { SameEnds (E.view ends.old) (E.view ends.new) }
-        ensures within { 2 * result.0 ≤ most }
-        ensures went { (outputs : List ℕ) (at : ℕ) → Went inputs.now outputs
-            (behaviour_of reduce_machine)
-            (node_state ((self.now.dialect, self.now.reduction), stage) Working at)
-            (E.view ends.old)
-            (node_state ((self.now.dialect, self.now.reduction), result.1) Working at)
-            (E.view ends.new) (2 * result.0) }
+    fn elements_along(&self, stage: Stage, flags: &[bool], elements: &[i64]) -> (usize, Stage)
+        ensures flags { result.0 ≤ length flags.now }
+        ensures elements { result.0 ≤ length elements.now }
+        ensures along { Reduces (self.now.dialect, self.now.reduction) stage
+            (take result.0 flags.now) (take result.0 elements.now) [] result.1 }
     {
-        let (flags, elements) = (inputs[0], inputs[1]);
         let Some(so_far) = stage.so_far(self.reduction) else {
             return (0, stage);
         };
-        let block = ends.ints(elements);
-        let ahead = elements_ahead(ends.flags(flags), block.len().min(most / 2));
-        let (count, more) = self.more_of(so_far, &block[..ahead]);
+        let ahead = elements_ahead(flags, elements.len());
+        let (count, more) = self.more_of(so_far, &elements[..ahead]);
         if count == 0 {
             return (0, stage);
         }
-        ends.skip(flags, count);
-        ends.skip(elements, count);
         (count, Stage::Flag(more))
     }
 
-    // The sum so far, where a flag comes and the sum fits 64 bits.
+    // The value of the segment that the first flag ends, where it is an integer of 64 bits.
     #[inline(always)]
-    fn small_sum(&self) -> Option<i64>
-        ensures sum { IfSome result (λ n. self.now.reduction ≡ SumOf) }
-        ensures so_far { IfSome result (λ n.
-            AwaitsFlag self.now.reduction self.now.stage (Some (IntScalar n))) }
+    fn value_at_end(&self, stage: Stage, flags: &[bool]) -> Option<i64>
+        ensures flag { IfSome result (λ n. get_or flags.now 0 false ≡ true) }
+        ensures kind { IfSome result (λ n. reduced_kind self.now.reduction ≡ IntKind) }
+        ensures value { IfSome result (λ n.
+            AwaitsFlag self.now.reduction stage (Some (IntScalar n))) }
     {
-        if !matches!(self.reduction, Reduction::Sum) {
+        if !begins_with_end(flags) {
             return None;
         }
-        let Some(total) = self.stage.int(self.reduction) else {
+        let Some(value) = stage.int(self.reduction) else {
             return None;
         };
-        match i64::try_from(total) {
-            Ok(small) => Some(small),
+        match i64::try_from(value) {
+            Ok(narrow) => Some(narrow),
             Err(_) => None,
         }
     }
 
-    // Reads the elements that are shown, each after its flag, while they are added up in 64 bits. How many steps. Most visits
-    // of a sum end here, and carry one word of all that a state may be.
+    // Goes along flags: reads the element of each that stands for one, and writes the value of each segment that ends, at most
+    // so many values. It stops where no element is shown, an element faults, or a value is left to single steps.
     #[inline(always)]
-    fn add_elements<E: Ends>(&mut self, inputs: &[usize], ends: &mut E, most: usize) -> usize
-        requires two { length inputs.now ≡ 2 }
-        requires apart { edge_of inputs.now 0 ≢ edge_of inputs.now 1 }
-        requires reads { All (λ e. (E.view ends.old).reads e ≡ true) inputs.now }
-        ensures same { E.same ends.old ends.new }
-        ensures ends { SameEnds (E.view ends.old) (E.view ends.new) }
-        ensures reduction { self.new.reduction ≡ self.old.reduction }
-        ensures within { result ≤ most }
-        ensures went { (outputs : List ℕ) (at : ℕ) → Went inputs.now outputs
-            (behaviour_of reduce_machine) (node_state (reduce_view self.old) Working at)
-            (E.view ends.old) (node_state (reduce_view self.new) Working at)
-            (E.view ends.new) result }
-    {
-        let (flags, elements) = (inputs[0], inputs[1]);
-        let Some(total) = self.small_sum() else {
-            return 0;
-        };
-        let block = ends.ints(elements);
-        let ahead = elements_ahead(ends.flags(flags), block.len().min(most / 2));
-        let (count, reached) = small_sum_of(total, &block[..ahead]);
-        if count == 0 {
-            return 0;
-        }
-        ends.skip(flags, count);
-        ends.skip(elements, count);
-        self.stage = Stage::Flag(Some(Scalar::Int(reached as i128)));
-        2 * count
-    }
-
-    // Reads the flag that ends a segment and writes the segment's value, an integer of 64 bits, where both can be. Whether it did.
-    #[inline(always)]
-    fn end_segment<E: Ends>(
+    fn reductions_along(
         &self,
-        stage: Stage,
-        inputs: &[usize],
-        outputs: &[usize],
-        ends: &mut E,
-    ) -> bool
-        requires wired { IsWired inputs.now outputs.now 2 1 (E.view ends.old) }
-        requires kinds { TakeKinds outputs.now (λ _. reduced_kind self.now.reduction)
-            (E.view ends.old) }
-        ensures same { E.same ends.old ends.new }
-        ensures ends { SameEnds (E.view ends.old) (E.view ends.new) }
-        ensures ended { result ≡ true → (at : ℕ) → Went inputs.now outputs.now
-            (behaviour_of reduce_machine)
-            (node_state ((self.now.dialect, self.now.reduction), stage) Working at)
-            (E.view ends.old)
-            (node_state ((self.now.dialect, self.now.reduction), StartState) Working at)
-            (E.view ends.new) 2 }
-        ensures stays { result ≡ false → (at : ℕ) → Went inputs.now outputs.now
-            (behaviour_of reduce_machine)
-            (node_state ((self.now.dialect, self.now.reduction), stage) Working at)
-            (E.view ends.old)
-            (node_state ((self.now.dialect, self.now.reduction), stage) Working at)
-            (E.view ends.new) 0 }
-    {
-        let (flags, to) = (inputs[0], outputs[0]);
-        let Some(value) = stage.int(self.reduction) else {
-            return false;
-        };
-        let Ok(narrow) = i64::try_from(value) else {
-            return false;
-        };
-        if !begins_with_end(ends.flags(flags)) || ends.space(to) == 0 {
-            return false;
-        }
-        ends.put_ints(to, &[narrow]);
-        ends.skip(flags, 1);
-        true
-    }
-
-    // Rounds, at most `most` steps. Each is a block of flags with their elements, and the end of their segment with its value.
-    // How many steps.
-    #[inline(never)]
-    fn rounds<E: Ends>(
-        &mut self,
-        inputs: &[usize],
-        outputs: &[usize],
-        ends: &mut E,
+        flags: &[bool],
+        elements: &[i64],
         most: usize,
-    ) -> usize
-        requires apart { edge_of inputs.now 0 ≢ edge_of inputs.now 1 }
-        requires wired { IsWired inputs.now outputs.now 2 1 (E.view ends.old) }
-        requires kinds { TakeKinds outputs.now (λ _. reduced_kind self.old.reduction)
-            (E.view ends.old) }
-        ensures same { E.same ends.old ends.new }
-        ensures ends { SameEnds (E.view ends.old) (E.view ends.new) }
-        ensures within { result ≤ most }
-        ensures went { (at : ℕ) → Went inputs.now outputs.now
-            (behaviour_of reduce_machine) (node_state (reduce_view self.old) Working at)
-            (E.view ends.old) (node_state (reduce_view self.new) Working at)
-            (E.view ends.new) result }
+        values: &mut [i64],
+    ) -> Reached
+        requires block { most ≤ length values.old }
+        ensures flags { result.flags ≤ length flags.now }
+        ensures elements { result.elements ≤ length elements.now }
+        ensures most { result.values ≤ most }
+        ensures kind { 0 < result.values → reduced_kind self.now.reduction ≡ IntKind }
+        ensures along { Reduces (self.now.dialect, self.now.reduction) self.now.stage
+            (take result.flags flags.now) (take result.elements elements.now)
+            (take result.values values.new) result.stage }
     {
+        let mut passed = 0;
+        let mut read = 0;
+        let mut ended = 0;
         let mut stage = self.stage;
-        let mut made = 0;
-        // Where no flag is shown, or no two steps are left, nothing else is looked at.
-        while most - made >= 2 && !ends.flags(inputs[0]).is_empty() {
-            let (count, reached) = self.take_elements(stage, inputs, ends, most - made);
+        'segments: loop {
+            let (count, reached) = self.elements_along(stage, &flags[passed..], &elements[read..]);
+            passed += count;
+            read += count;
             stage = reached;
-            made += 2 * count;
-            if most - made >= 2 && self.end_segment(stage, inputs, outputs, ends) {
-                stage = Stage::Start;
-                made += 2;
-            } else if count == 0 {
-                break;
+            match self.value_at_end(stage, &flags[passed..]) {
+                Some(value) if ended < most => {
+                    values[ended] = value;
+                    ended += 1;
+                    passed += 1;
+                    stage = Stage::Start;
+                }
+                _ => {
+                    return Reached {
+                        flags: passed,
+                        elements: read,
+                        values: ended,
+                        stage,
+                    };
+                }
             }
         }
-        self.stage = stage;
-        made
     }
 }
 
@@ -488,24 +407,28 @@ impl Worker for Reduce {
         matches!(self.stage, Stage::Start | Stage::Flag(_))
     }
 
-    // The elements of a sum that is small first, and then rounds.
+    // A flag is one step, and its element or the value of its segment one more.
     #[inline(always)]
-    fn blocks<E: Ends>(
+    fn along(
         &mut self,
-        inputs: &[usize],
-        outputs: &[usize],
-        ends: &mut E,
+        first: Shown<'_>,
+        second: Shown<'_>,
+        block: &mut Written,
+        space: usize,
         most: usize,
-    ) -> usize {
-        // Two blocks of one edge are not seen at once.
-        if inputs[0] == inputs[1] {
-            return 0;
+    ) -> Moved {
+        let flags = first.flags();
+        let elements = second.ints();
+        let ahead = flags.len().min(most / 2);
+        let reached = self.reductions_along(&flags[..ahead], elements, space, &mut block.ints);
+        self.stage = reached.stage;
+        Moved {
+            first: reached.flags,
+            second: reached.elements,
+            units: 0,
+            flags: 0,
+            ints: reached.values,
+            steps: 2 * reached.flags,
         }
-        let first = self.add_elements(inputs, ends, most);
-        if ends.flags(inputs[0]).is_empty() {
-            return first;
-        }
-        let more = self.rounds(inputs, outputs, ends, most - first);
-        first + more
     }
 }
