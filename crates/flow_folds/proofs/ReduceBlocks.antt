@@ -1,10 +1,10 @@
 -- What Reduce makes of blocks: flags and the elements that they stand for, and the ends of segments.
-use Rattle.std.proofs.Common.{◌≡◌, ℕ, zero, suc, ◌+◌, ◌<◌, ◌≤◌, ◌*◌, ℤ, pos, negsuc, ◌+ℤ◌, ◌≤ℤ◌, Bool, true, false, List, [], ◌∷◌, ◌++◌, length, take, drop, set, get_or, Option, Some, Result, Ok, Err, refl, sym, ◌∙◌, ap, subst, arith, append-nil, length-append}
+use Rattle.std.proofs.Common.{◌≡◌, ℕ, zero, suc, ◌+◌, ◌-◌, ◌<◌, ◌≤◌, ◌*◌, ℤ, pos, negsuc, ◌+ℤ◌, ◌≤ℤ◌, Bool, true, false, List, [], ◌∷◌, ◌++◌, length, take, drop, set, get_or, Option, Some, Result, Ok, Err, refl, sym, ◌∙◌, ap, subst, arith, append-nil, length-append}
 use Rattle.std.specs.Prelude.{if◌then◌else◌}
 use Rattle.std.proofs.Math.Seq.{take-add}
 use Rattle.std.proofs.lemmas.Bool.Decides.{nat_tests}
 use Rattle.std.proofs.lemmas.Int.{ints}
-use Rattle.std.proofs.lemmas.List.{length-take-le, map-append, take_more_set}
+use Rattle.std.proofs.lemmas.List.{length-drop, length-take-le, map-append, take_more_set, take_rest}
 use Rattle.kahn.specs.declared.want.Want.TheVariants.{Read}
 use Rattle.snesl_data.specs.declared.dialect.Dialect.{Dialect}
 use Rattle.snesl_data.specs.declared.fault.FaultKind.{FaultKind}
@@ -56,6 +56,13 @@ first_elements (suc n) (b ∷ bs) within ahead =
     let first : b ≡ false = ahead 0 (omega arith) in
     let rest : take n bs ≡ elements_block n = first_elements n bs (omega arith) (λ k h. ahead (suc k) (omega arith)) in
     cc
+
+-- what comes from a place on
+abbrev pub rest_of : {X : Type 0} → List X → ℕ → List X
+rest_of xs i = take (length xs - i) (drop i xs)
+
+pub length_rest : {X : Type 0} (xs : List X) (i : ℕ) → length (rest_of xs i) ≡ length xs - i
+length_rest xs i = ap length (take_rest xs i) ∙ length-drop i xs
 
 -- the first flag is this
 pub some_flag : (bs : List Bool) → get_or bs 0 false ≡ true → 0 < length bs
@@ -133,18 +140,20 @@ module _ (p : Dialect × Reduction) where
       subst (λ l. Reduces p s l (take n xs) [] (Flag more)) flags (some_elements more s so_far (take n xs) (omega (arith, long, some)) awaits is)
 
   -- elements more
-  pub elements_more : (s t u : Stage) (bs : List Bool) (xs vs : List ℤ) (i j k n : ℕ) → Reduces p s (take i bs) (take j xs) (take n vs) t → Reduces p t (take k (drop i bs)) (take k (drop j xs)) [] u → Reduces p s (take (i + k) bs) (take (j + k) xs) (take n vs) u
+  pub elements_more : (s t u : Stage) (bs : List Bool) (xs vs : List ℤ) (i j k n : ℕ) → Reduces p s (take i bs) (take j xs) (take n vs) t → Reduces p t (take k (rest_of bs i)) (take k (rest_of xs j)) [] u → Reduces p s (take (i + k) bs) (take (j + k) xs) (take n vs) u
   elements_more s t u bs xs vs i j k n before after =
-      let both = joined s t u (take i bs) (take k (drop i bs)) (take j xs) (take k (drop j xs)) (take n vs) [] before after in
+      let of_flags = subst (λ l. Reduces p t (take k l) (take k (rest_of xs j)) [] u) (take_rest bs i) after in
+      let of_both = subst (λ l. Reduces p t (take k (drop i bs)) (take k l) [] u) (take_rest xs j) of_flags in
+      let both = joined s t u (take i bs) (take k (drop i bs)) (take j xs) (take k (drop j xs)) (take n vs) [] before of_both in
       let in_flags = subst (λ l. Reduces p s l (take j xs ++ take k (drop j xs)) (take n vs ++ []) u) (sym (take-add i k bs)) both in
       let in_elements = subst (λ l. Reduces p s (take (i + k) bs) l (take n vs ++ []) u) (sym (take-add j k xs)) in_flags in
       subst (λ l. Reduces p s (take (i + k) bs) (take (j + k) xs) l u) (append-nil (take n vs)) in_elements
 
   -- and the end of a segment more
-  pub end_more : (s t : Stage) (bs : List Bool) (xs vs : List ℤ) (i j n : ℕ) (v : ℤ) → Reduces p s (take i bs) (take j xs) (take n vs) t → get_or (drop i bs) 0 false ≡ true → AwaitsFlag p.1 t (Some (Int v)) → n < length vs → Reduces p s (take (i + 1) bs) (take j xs) (take (n + 1) (set vs n v)) Start
+  pub end_more : (s t : Stage) (bs : List Bool) (xs vs : List ℤ) (i j n : ℕ) (v : ℤ) → Reduces p s (take i bs) (take j xs) (take n vs) t → get_or (rest_of bs i) 0 false ≡ true → AwaitsFlag p.1 t (Some (Int v)) → n < length vs → Reduces p s (take (i + 1) bs) (take j xs) (take (n + 1) (set vs n v)) Start
   end_more s t bs xs vs i j n v before is awaits within =
       let both = joined s t Start (take i bs) (true ∷ []) (take j xs) [] (take n vs) (v ∷ []) before (end_step t v awaits) in
-      let flags : take i bs ++ true ∷ [] ≡ take (i + 1) bs = sym (take-add i 1 bs ∙ ap (λ l. take i bs ++ l) (first_flag (drop i bs) is)) in
+      let flags : take i bs ++ true ∷ [] ≡ take (i + 1) bs = sym (take-add i 1 bs ∙ ap (λ l. take i bs ++ l) (first_flag (drop i bs) (ap (λ l. get_or l 0 false) (sym (take_rest bs i)) ∙ is))) in
       let in_flags = subst (λ l. Reduces p s l (take j xs ++ []) (take n vs ++ v ∷ []) Start) flags both in
       let in_elements = subst (λ l. Reduces p s (take (i + 1) bs) l (take n vs ++ v ∷ []) Start) (append-nil (take j xs)) in_flags in
       subst (λ l. Reduces p s (take (i + 1) bs) (take j xs) l Start) (sym (take_more_set vs n v within)) in_elements

@@ -260,15 +260,16 @@ impl Reduce {
         (count, Stage::Flag(more))
     }
 
-    // The value of the segment that the first flag ends, where it is an integer of 64 bits.
+    // The value of the segment that the first flag ends, where it is an integer of 64 bits and there is room for it.
     #[inline(always)]
-    fn value_at_end(&self, stage: Stage, flags: &[bool]) -> Option<i64>
+    fn value_at_end(&self, stage: Stage, flags: &[bool], room: usize) -> Option<i64>
+        ensures room { IfSome result (λ n. 0 < room) }
         ensures flag { IfSome result (λ n. get_or flags.now 0 false ≡ true) }
         ensures kind { IfSome result (λ n. reduced_kind self.now.reduction ≡ IntKind) }
         ensures value { IfSome result (λ n.
             AwaitsFlag self.now.reduction stage (Some (IntScalar n))) }
     {
-        if !begins_with_end(flags) {
+        if room == 0 || !begins_with_end(flags) {
             return None;
         }
         let Some(value) = stage.int(self.reduction) else {
@@ -308,22 +309,18 @@ impl Reduce {
             passed += count;
             read += count;
             stage = reached;
-            match self.value_at_end(stage, &flags[passed..]) {
-                Some(value) if ended < most => {
-                    values[ended] = value;
-                    ended += 1;
-                    passed += 1;
-                    stage = Stage::Start;
-                }
-                _ => {
-                    return Reached {
-                        flags: passed,
-                        elements: read,
-                        values: ended,
-                        stage,
-                    };
-                }
-            }
+            let Some(value) = self.value_at_end(stage, &flags[passed..], most - ended) else {
+                return Reached {
+                    flags: passed,
+                    elements: read,
+                    values: ended,
+                    stage,
+                };
+            };
+            values[ended] = value;
+            ended += 1;
+            passed += 1;
+            stage = Stage::Start;
         }
     }
 }
