@@ -1,10 +1,10 @@
 -- What Reduce makes of blocks: flags and the elements that they stand for, and the ends of segments.
-use Rattle.std.proofs.Common.{◌≡◌, ℕ, zero, suc, ◌+◌, ◌-◌, ◌<◌, ◌≤◌, ◌*◌, ℤ, pos, negsuc, ◌+ℤ◌, ◌≤ℤ◌, Bool, true, false, List, [], ◌∷◌, ◌++◌, length, take, drop, set, get_or, Option, Some, Result, Ok, Err, refl, sym, ◌∙◌, ap, subst, arith, append-nil, length-append}
+use Rattle.std.proofs.Common.{◌≡◌, ℕ, zero, suc, ◌+◌, ◌-◌, ◌<◌, ◌≤◌, ◌*◌, ℤ, pos, negsuc, ◌+ℤ◌, ◌≤ℤ◌, Bool, true, false, cond, List, [], ◌∷◌, ◌++◌, length, take, drop, set, get_or, Option, Some, Result, Ok, Err, refl, sym, ◌∙◌, ap, subst, arith, append-nil, length-append}
 use Rattle.std.specs.Prelude.{if◌then◌else◌}
 use Rattle.std.proofs.Math.Seq.{take-add}
 use Rattle.std.proofs.lemmas.Bool.Decides.{nat_tests}
 use Rattle.std.proofs.lemmas.Int.{ints}
-use Rattle.std.proofs.lemmas.List.{length-drop, length-take-le, map-append, take_more_set, take_rest}
+use Rattle.std.proofs.lemmas.List.{length-drop, length-take-le, map-append, take_more, take_more_set, take_rest}
 use Rattle.kahn.specs.declared.want.Want.TheVariants.{Read}
 use Rattle.snesl_data.specs.declared.dialect.Dialect.{Dialect}
 use Rattle.snesl_data.specs.declared.fault.FaultKind.{FaultKind}
@@ -25,7 +25,7 @@ use Rattle.flow_base.specs.Nodes.{want_for}
 use Rattle.flow_base.proofs.Along.{only, ran_as, single_none, single_first, single_second, single_write, single_then}
 use Rattle.flow_folds.specs.Scalars.{scalar_in}
 use Rattle.flow_folds.specs.ReduceMachine.{at_flag, at_element, reduced_kind, reduce_machine}
-use Rattle.flow_folds.specs.ReduceBlocks.{reduction_of_ints, AwaitsFlag, Reduces}
+use Rattle.flow_folds.specs.ReduceBlocks.{reduction_of_ints, stage_of_sum, AwaitsFlag, Reduces, SumsOfSegments}
 use Rattle.flow_folds.specs.declared.reduce.Stage.{Stage}
 use Rattle.flow_folds.specs.declared.reduce.Stage.TheVariants.{Start, Flag, Element, Value}
 use Rattle.flow_folds.specs.laws.Reduce.{element_is}
@@ -171,3 +171,41 @@ small_ranged dialect z low high = ap (λ b. if b then Ok z else Err Overflow) (s
 -- a sum of 64 bits is one element more of a sum
 pub small_sum_more : (dialect : Dialect) (m x k : ℤ) → k ≡ m +ℤ x → negsuc 9223372036854775807 ≤ℤ k → k ≤ℤ pos 9223372036854775807 → reduced_more dialect Sum (Some (Int m)) (Int x) ≡ Ok (Some (Int k))
 small_sum_more dialect m x k is low high = ap (λ z. some_of (an_integer (ranged dialect z))) (sym is) ∙ ap (λ r. some_of (an_integer r)) (small_ranged dialect k low high)
+
+-- where one flag more leads
+after_flag : (s : Stage) (total : ℤ) (bs : List Bool) (b : Bool) → stage_of_sum s total (bs ++ b ∷ []) ≡ cond b Start (Flag (Some (Int total)))
+after_flag s total [] true = refl
+after_flag s total [] false = refl
+after_flag s total (true ∷ bs) b = after_flag Start total bs b
+after_flag s total (false ∷ bs) b = after_flag (Flag (Some (Int total))) total bs b
+
+pub last_flag : (s : Stage) (total : ℤ) (bs : List Bool) (n : ℕ) (b : Bool) → 0 < n → n ≤ length bs → get_or bs (n - 1) false ≡ b → stage_of_sum s total (take n bs) ≡ cond b Start (Flag (Some (Int total)))
+last_flag s total bs n b some within is =
+    let before : (n - 1) + 1 ≡ n = omega (arith, some) in
+    let flags : take n bs ≡ take (n - 1) bs ++ b ∷ [] = ap (λ k. take k bs) (sym before) ∙ take_more bs (n - 1) false (omega (arith, some, within)) ∙ ap (λ c. take (n - 1) bs ++ c ∷ []) is in
+    ap (stage_of_sum s total) flags ∙ after_flag s total (take (n - 1) bs) b
+
+pub sums_none : (total : ℤ) → SumsOfSegments total [] [] [] total
+sums_none total dialect s awaits = (reduces_none (dialect, Sum) s, awaits)
+
+-- an element more
+pub sums_element : (total reached more x : ℤ) (bs : List Bool) (xs vs : List ℤ) → more ≡ reached +ℤ x → negsuc 9223372036854775807 ≤ℤ more → more ≤ℤ pos 9223372036854775807 → SumsOfSegments total bs xs vs reached → SumsOfSegments total (bs ++ false ∷ []) (xs ++ x ∷ []) vs more
+sums_element total reached more x bs xs vs is low high along dialect s awaits =
+    let p : Dialect × Reduction = (dialect, Sum) in
+    let before = along dialect s awaits in
+    let t = stage_of_sum s reached bs in
+    let next = Flag (Some (Int more)) in
+    let leads : next ≡ stage_of_sum s more (bs ++ false ∷ []) = sym (after_flag s more bs false) in
+    let one = one_element p t (Some (Int reached)) (Some (Int more)) x before.1 (small_sum_more dialect reached x more is low high) in
+    let both = subst (λ l. Reduces p s (bs ++ false ∷ []) (xs ++ x ∷ []) l next) (append-nil vs) (joined p s t next bs (false ∷ []) xs (x ∷ []) vs [] before.0 one) in
+    (subst (Reduces p s (bs ++ false ∷ []) (xs ++ x ∷ []) vs) leads both, subst (λ u. AwaitsFlag Sum u (Some (Int more))) leads refl)
+
+-- and the end of a segment more
+pub sums_end : (total reached : ℤ) (bs : List Bool) (xs vs : List ℤ) → SumsOfSegments total bs xs vs reached → SumsOfSegments total (bs ++ true ∷ []) xs (vs ++ reached ∷ []) (pos 0)
+sums_end total reached bs xs vs along dialect s awaits =
+    let p : Dialect × Reduction = (dialect, Sum) in
+    let before = along dialect s awaits in
+    let t = stage_of_sum s reached bs in
+    let leads : Start ≡ stage_of_sum s (pos 0) (bs ++ true ∷ []) = sym (after_flag s (pos 0) bs true) in
+    let both = subst (λ l. Reduces p s (bs ++ true ∷ []) l (vs ++ reached ∷ []) Start) (append-nil xs) (joined p s t Start bs (true ∷ []) xs [] vs (reached ∷ []) before.0 (end_step p t reached before.1)) in
+    (subst (Reduces p s (bs ++ true ∷ []) xs (vs ++ reached ∷ [])) leads both, subst (λ u. AwaitsFlag Sum u (Some (Int (pos 0)))) leads refl)

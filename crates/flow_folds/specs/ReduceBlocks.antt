@@ -1,9 +1,10 @@
 -- What Reduce makes of blocks of flags and integers.
-use Rattle.std.specs.Prelude.{◌≡◌, ◌*◌, ℤ, eqb, cond, Bool, List, [], ◌∷◌, length, Option, Result, Ok}
+use Rattle.std.specs.Prelude.{◌≡◌, ◌*◌, ℤ, eqb, cond, Bool, true, false, List, [], ◌∷◌, length, Option, Some, Result, Ok}
 use Rattle.snesl_data.specs.declared.dialect.Dialect.{Dialect}
 use Rattle.snesl_data.specs.declared.fault.FaultKind.{FaultKind}
 use Rattle.snesl_operators.specs.Reductions.{and_then, reduced_nothing, reduced_more}
 use Rattle.snesl_operators.specs.declared.operator.Reduction.{Reduction}
+use Rattle.snesl_operators.specs.declared.operator.Reduction.TheVariants.{Sum}
 use Rattle.snesl_operators.specs.declared.scalar.Scalar.{Scalar}
 use Rattle.snesl_operators.specs.declared.scalar.Scalar.TheVariants.{Int}
 use Rattle.flow_messages.specs.Blocks.{flag_signals, int_signals}
@@ -26,3 +27,13 @@ AwaitsFlag reduction _ so_far = ⊥
 -- the machine goes from one stage to the other, reads just these flags and elements and writes just these values: two steps for each flag
 abbrev pub Reduces : Dialect × Reduction → Stage → List Bool → List ℤ → List ℤ → Stage → Type 0
 Reduces p s flags elements values t = RunsAlong reduce_machine (p, s) (p, t) (flag_signals flags) (int_signals elements) (λ q. cond (eqb q 0) (int_signals values) []) (2 * length flags)
+
+-- where these flags lead, each with the element that it stands for or the value that it ends, where the elements since the last end add up to this
+abbrev pub stage_of_sum : Stage → ℤ → List Bool → Stage
+stage_of_sum s total [] = s
+stage_of_sum s total (true ∷ flags) = stage_of_sum Start total flags
+stage_of_sum s total (false ∷ flags) = stage_of_sum (Flag (Some (Int total))) total flags
+
+-- in each dialect, after so much: along these flags and elements the segments that end have these sums, and what came since adds up to the other
+abbrev pub SumsOfSegments : ℤ → List Bool → List ℤ → List ℤ → ℤ → Type 0
+SumsOfSegments total flags elements sums more = (dialect : Dialect) (s : Stage) → AwaitsFlag Sum s (Some (Int total)) → Reduces (dialect, Sum) s flags elements sums (stage_of_sum s more flags) × AwaitsFlag Sum (stage_of_sum s more flags) (Some (Int more))

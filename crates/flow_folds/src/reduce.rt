@@ -3,7 +3,7 @@
 ghost use Rattle.std.specs.Prelude.{◌≡◌, ◌≤◌, ◌<◌, ℕ, true, false, [], length, take, get_or, int_lt, if◌then◌else◌, Some, IfSome, Ok};
 ghost use Rattle.flow_messages.specs.declared.message.Kind.TheVariants.{Int as IntKind};
 ghost use Rattle.flow_folds.specs.ReduceMachine.{reduced_kind};
-ghost use Rattle.flow_folds.specs.ReduceBlocks.{reduction_of_ints, AwaitsFlag, Reduces};
+ghost use Rattle.flow_folds.specs.ReduceBlocks.{reduction_of_ints, stage_of_sum, AwaitsFlag, Reduces, SumsOfSegments};
 ghost use Rattle.snesl_data.specs.declared.dialect.Dialect.{Dialect};
 ghost use Rattle.snesl_operators.specs.declared.operator.Reduction.TheVariants.{Sum as SumOf, Max as MaxOf};
 ghost use Rattle.snesl_operators.specs.declared.scalar.Scalar.TheVariants.{Int as IntScalar};
@@ -123,23 +123,6 @@ fn elements_ahead(flags: &[bool], most: usize) -> usize
     least
 }
 
-// As `sum_of`, while all fit 64 bits.
-#[inline(always)]
-fn small_sum_of(total: i64, elements: &[i64]) -> (usize, i64)
-    ensures within { result.0 ≤ length elements.now }
-    ensures reduced { (dialect : Dialect) → reduction_of_ints dialect SumOf (Some (IntScalar total))
-        (take result.0 elements.now) ≡ Ok (Some (IntScalar result.1)) }
-{
-    let mut reached = total;
-    for place in 0..elements.len() {
-        let Some(more) = reached.checked_add(elements[place]) else {
-            return (place, reached);
-        };
-        reached = more;
-    }
-    (elements.len(), reached)
-}
-
 // Adds the elements to the sum, until one takes it out of the range. How many, and the sum of all of these.
 #[inline(always)]
 fn sum_of(dialect: Dialect, total: i128, elements: &[i64]) -> (usize, i128)
@@ -147,12 +130,6 @@ fn sum_of(dialect: Dialect, total: i128, elements: &[i64]) -> (usize, i128)
     ensures reduced { reduction_of_ints dialect SumOf (Some (IntScalar total))
         (take result.0 elements.now) ≡ Ok (Some (IntScalar result.1)) }
 {
-    if let Ok(small) = i64::try_from(total) {
-        let (count, reached) = small_sum_of(small, elements);
-        if count > 0 {
-            return (count, reached as i128);
-        }
-    }
     let mut reached = total;
     for place in 0..elements.len() {
         match sum(dialect, reached, elements[place] as i128) {
@@ -190,6 +167,64 @@ fn begins_with_end(flags: &[bool]) -> bool
     ensures { result ≡ true → get_or flags.now 0 false ≡ true }
 {
     flags.len() > 0 && flags[0]
+}
+
+// Goes along flags after a sum, while all sums fit 64 bits: adds the element of each that stands for one, and writes the
+// sum of each segment that ends, at most so many. It stops where no element is shown. How many flags, elements and sums,
+// and the sum of what came since.
+#[inline(always)]
+fn small_sums_along(
+    total: i64,
+    flags: &[bool],
+    elements: &[i64],
+    most: usize,
+    sums: &mut [i64],
+) -> (usize, usize, usize, i64)
+    requires block { most ≤ length sums.old }
+    ensures flags { result.0 ≤ length flags.now }
+    ensures elements { result.1 ≤ length elements.now }
+    ensures most { result.2 ≤ most }
+    ensures along { SumsOfSegments total (take result.0 flags.now)
+        (take result.1 elements.now) (take result.2 sums.new) result.3 }
+{
+    let mut reached = total;
+    let mut read = 0;
+    let mut ended = 0;
+    for place in 0..flags.len() {
+        if flags[place] {
+            if ended == most {
+                return (place, read, ended, reached);
+            }
+            sums[ended] = reached;
+            ended += 1;
+            reached = 0;
+            continue;
+        }
+        if read == elements.len() {
+            return (place, read, ended, reached);
+        }
+        let Some(more) = reached.checked_add(elements[read]) else {
+            return (place, read, ended, reached);
+        };
+        reached = more;
+        read += 1;
+    }
+    (flags.len(), read, ended, reached)
+}
+
+// Where so many flags lead from a stage, where the elements since the last end add up to this.
+#[inline(always)]
+fn stage_of_sum(stage: Stage, flags: &[bool], passed: usize, total: i64) -> Stage
+    requires { passed ≤ length flags.now }
+    ensures { result ≡ stage_of_sum stage total (take passed flags.now) }
+{
+    if passed == 0 {
+        stage
+    } else if flags[passed - 1] {
+        Stage::Start
+    } else {
+        Stage::Flag(Some(Scalar::Int(total as i128)))
+    }
 }
 
 // How far a reduction went: how many flags and elements it read, how many values it wrote, and where these led.
@@ -281,6 +316,25 @@ impl Reduce {
         }
     }
 
+    // The sum so far, where a flag comes and the sum fits 64 bits.
+    #[inline(always)]
+    fn small_sum(&self) -> Option<i64>
+        ensures sum { IfSome result (λ n. self.now.reduction ≡ SumOf) }
+        ensures so_far { IfSome result (λ n.
+            AwaitsFlag self.now.reduction self.now.stage (Some (IntScalar n))) }
+    {
+        if !matches!(self.reduction, Reduction::Sum) {
+            return None;
+        }
+        let Some(total) = self.stage.int(self.reduction) else {
+            return None;
+        };
+        match i64::try_from(total) {
+            Ok(small) => Some(small),
+            Err(_) => None,
+        }
+    }
+
     // Goes along flags: reads the element of each that stands for one, and writes the value of each segment that ends, at most
     // so many values. It stops where no element is shown, an element faults, or a value is left to single steps.
     #[inline(always)]
@@ -321,6 +375,37 @@ impl Reduce {
             ended += 1;
             passed += 1;
             stage = Stage::Start;
+        }
+    }
+
+    // The same, where a sum that fits 64 bits goes another way: it carries one word of all that a stage may be, and looks
+    // once at each flag.
+    #[inline(always)]
+    fn segments_along(
+        &self,
+        flags: &[bool],
+        elements: &[i64],
+        most: usize,
+        values: &mut [i64],
+    ) -> Reached
+        requires block { most ≤ length values.old }
+        ensures flags { result.flags ≤ length flags.now }
+        ensures elements { result.elements ≤ length elements.now }
+        ensures most { result.values ≤ most }
+        ensures kind { 0 < result.values → reduced_kind self.now.reduction ≡ IntKind }
+        ensures along { Reduces (self.now.dialect, self.now.reduction) self.now.stage
+            (take result.flags flags.now) (take result.elements elements.now)
+            (take result.values values.new) result.stage }
+    {
+        let Some(total) = self.small_sum() else {
+            return self.reductions_along(flags, elements, most, values);
+        };
+        let (passed, read, ended, more) = small_sums_along(total, flags, elements, most, values);
+        Reached {
+            flags: passed,
+            elements: read,
+            values: ended,
+            stage: stage_of_sum(self.stage, flags, passed, more),
         }
     }
 }
@@ -417,7 +502,7 @@ impl Worker for Reduce {
         let flags = first.flags();
         let elements = second.ints();
         let ahead = flags.len().min(most / 2);
-        let reached = self.reductions_along(&flags[..ahead], elements, space, &mut block.ints);
+        let reached = self.segments_along(&flags[..ahead], elements, space, &mut block.ints);
         self.stage = reached.stage;
         Moved {
             first: reached.flags,
