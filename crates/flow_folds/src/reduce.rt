@@ -336,8 +336,9 @@ impl Reduce {
     }
 
     // Goes along flags: reads the element of each that stands for one, and writes the value of each segment that ends, at most
-    // so many values. It stops where no element is shown, an element faults, or a value is left to single steps.
-    #[inline(always)]
+    // so many values. It stops where no element is shown, an element faults, or a value is left to single steps. It stands
+    // apart, so that the loop of a small sum keeps the registers.
+    #[inline(never)]
     fn reductions_along(
         &self,
         flags: &[bool],
