@@ -1,5 +1,6 @@
 -- What Reduce makes of blocks: flags and the elements that they stand for, and the ends of segments.
-use Rattle.std.proofs.Common.{◌≡◌, ℕ, zero, suc, ◌+◌, ◌-◌, ◌<◌, ◌≤◌, ◌*◌, ℤ, pos, negsuc, ◌+ℤ◌, ◌≤ℤ◌, Bool, true, false, cond, List, [], ◌∷◌, ◌++◌, length, take, drop, set, get_or, Option, Some, Result, Ok, Err, refl, sym, ◌∙◌, ap, subst, arith, append-nil, length-append}
+use Rattle.std.proofs.Common.{◌≡◌, ℕ, zero, suc, ◌+◌, ◌-◌, ◌<◌, ◌≤◌, ◌*◌, ℤ, pos, negsuc, ◌+ℤ◌, ◌≤ℤ◌, Bool, true, false, cond, List, []}
+use Rattle.std.proofs.Common.{◌∷◌, ◌++◌, length, take, drop, set, get_or, Option, Some, Result, Ok, Err, refl, sym, ◌∙◌, ap, subst, arith, append-nil, length-append}
 use Rattle.std.specs.Prelude.{if◌then◌else◌}
 use Rattle.std.proofs.Math.Seq.{take-add}
 use Rattle.std.proofs.lemmas.Bool.Decides.{nat_tests}
@@ -95,7 +96,8 @@ module _ (p : Dialect × Reduction) where
   one_element s so_far more x awaits is =
       let m = reduce_machine in
       let one = single_first m p s (Element so_far) (flag false) (awaits_wants p s so_far awaits) (awaits_takes p s so_far awaits (flag false)) in
-      let leads : state_after_item (on_kind (reduced_kind p.1) (λ k. at_element p.0 p.1 so_far (scalar_in k))) (int x) ≡ Ok (Flag more) = element_is p.0 p.1 so_far (int x) ∙ ap (λ r. and_then r (λ held. Ok (Flag held))) is in
+      let leads : state_after_item (on_kind (reduced_kind p.1) (λ k. at_element p.0 p.1 so_far (scalar_in k))) (int x) ≡ Ok (Flag more) =
+          element_is p.0 p.1 so_far (int x) ∙ ap (λ r. and_then r (λ held. Ok (Flag held))) is in
       let two = single_second m p (Element so_far) (Flag more) (int x) refl leads in
       single_then m p (flag_signals (false ∷ [])) [] [] [] (int_signals (x ∷ [])) [] one two
 
@@ -113,10 +115,13 @@ module _ (p : Dialect × Reduction) where
       let m = reduce_machine in
       let both = single_then m p (flag_signals bs) (int_signals xs) (int_signals vs) (flag_signals cs) (int_signals ys) (int_signals ws) before after in
       let counts : 2 * length bs + 2 * length cs ≡ 2 * length (bs ++ cs) = omega (arith, length-append bs cs) in
-      ran_as m p both (flag_signals (bs ++ cs)) (int_signals (xs ++ ys)) (only (int_signals (vs ++ ws))) (2 * length (bs ++ cs)) (sym (map-append (λ b. carry (flag b)) bs cs)) (sym (map-append (λ n. carry (int n)) xs ys)) (λ q. ap (λ l. only l q) (sym (map-append (λ n. carry (int n)) vs ws))) counts
+      ran_as m p both (flag_signals (bs ++ cs)) (int_signals (xs ++ ys)) (only (int_signals (vs ++ ws))) (2 * length (bs ++ cs))
+          (sym (map-append (λ b. carry (flag b)) bs cs)) (sym (map-append (λ n. carry (int n)) xs ys))
+          (λ q. ap (λ l. only l q) (sym (map-append (λ n. carry (int n)) vs ws))) counts
 
   -- elements, each after its flag
-  elements_steps : (more : Option Scalar) (s : Stage) (so_far : Option Scalar) (x : ℤ) (xs : List ℤ) → AwaitsFlag p.1 s so_far → reduction_of_ints p.0 p.1 so_far (x ∷ xs) ≡ Ok more → Reduces p s (elements_block (length (x ∷ xs))) (x ∷ xs) [] (Flag more)
+  elements_steps : (more : Option Scalar) (s : Stage) (so_far : Option Scalar) (x : ℤ) (xs : List ℤ) → AwaitsFlag p.1 s so_far →
+      reduction_of_ints p.0 p.1 so_far (x ∷ xs) ≡ Ok more → Reduces p s (elements_block (length (x ∷ xs))) (x ∷ xs) [] (Flag more)
   elements_steps more s so_far x [] awaits is = go (reduced_more p.0 p.1 so_far (Int x)) refl is
     where
       go : (r : Result (Option Scalar) FaultKind) → reduced_more p.0 p.1 so_far (Int x) ≡ r → and_then r (λ held. Ok held) ≡ Ok more → Reduces p s (false ∷ []) (x ∷ []) [] (Flag more)
@@ -124,23 +129,31 @@ module _ (p : Dialect × Reduction) where
       go (Ok held) first is = one_element s so_far more x awaits (first ∙ is)
   elements_steps more s so_far x (y ∷ ys) awaits is = go (reduced_more p.0 p.1 so_far (Int x)) refl (λ held. elements_steps more (Flag held) held y ys refl) is
     where
-      go : (r : Result (Option Scalar) FaultKind) → reduced_more p.0 p.1 so_far (Int x) ≡ r → ((held : Option Scalar) → reduction_of_ints p.0 p.1 held (y ∷ ys) ≡ Ok more → Reduces p (Flag held) (elements_block (length (y ∷ ys))) (y ∷ ys) [] (Flag more)) → and_then r (λ held. reduction_of_ints p.0 p.1 held (y ∷ ys)) ≡ Ok more → Reduces p s (elements_block (length (x ∷ y ∷ ys))) (x ∷ y ∷ ys) [] (Flag more)
+      go : (r : Result (Option Scalar) FaultKind) → reduced_more p.0 p.1 so_far (Int x) ≡ r →
+          ((held : Option Scalar) → reduction_of_ints p.0 p.1 held (y ∷ ys) ≡ Ok more →
+          Reduces p (Flag held) (elements_block (length (y ∷ ys))) (y ∷ ys) [] (Flag more)) →
+          and_then r (λ held. reduction_of_ints p.0 p.1 held (y ∷ ys)) ≡ Ok more →
+          Reduces p s (elements_block (length (x ∷ y ∷ ys))) (x ∷ y ∷ ys) [] (Flag more)
       go (Err kind) first rest is = absurd (cc)
       go (Ok held) first rest is = joined s (Flag held) (Flag more) (false ∷ []) (elements_block (length (y ∷ ys))) (x ∷ []) (y ∷ ys) [] [] (one_element s so_far held x awaits first) (rest held is)
 
-  some_elements : (more : Option Scalar) (s : Stage) (so_far : Option Scalar) (xs : List ℤ) → 0 < length xs → AwaitsFlag p.1 s so_far → reduction_of_ints p.0 p.1 so_far xs ≡ Ok more → Reduces p s (elements_block (length xs)) xs [] (Flag more)
+  some_elements : (more : Option Scalar) (s : Stage) (so_far : Option Scalar) (xs : List ℤ) → 0 < length xs → AwaitsFlag p.1 s so_far →
+      reduction_of_ints p.0 p.1 so_far xs ≡ Ok more → Reduces p s (elements_block (length xs)) xs [] (Flag more)
   some_elements more s so_far [] some awaits is = absurd (omega arith)
   some_elements more s so_far (x ∷ xs) some awaits is = elements_steps more s so_far x xs awaits is
 
   -- the first flags are those of elements
-  pub first_reduced : (more : Option Scalar) (s : Stage) (so_far : Option Scalar) (bs : List Bool) (xs : List ℤ) (n : ℕ) → 0 < n → n ≤ length bs → n ≤ length xs → ((k : ℕ) → k < n → get_or bs k true ≡ false) → AwaitsFlag p.1 s so_far → reduction_of_ints p.0 p.1 so_far (take n xs) ≡ Ok more → Reduces p s (take n bs) (take n xs) [] (Flag more)
+  pub first_reduced : (more : Option Scalar) (s : Stage) (so_far : Option Scalar) (bs : List Bool) (xs : List ℤ) (n : ℕ) → 0 < n → n ≤ length bs →
+      n ≤ length xs → ((k : ℕ) → k < n → get_or bs k true ≡ false) → AwaitsFlag p.1 s so_far → reduction_of_ints p.0 p.1 so_far (take n xs) ≡ Ok more →
+      Reduces p s (take n bs) (take n xs) [] (Flag more)
   first_reduced more s so_far bs xs n some in_bs in_xs ahead awaits is =
       let long : length (take n xs) ≡ n = length-take-le n xs in_xs in
       let flags : elements_block (length (take n xs)) ≡ take n bs = ap elements_block long ∙ sym (first_elements n bs in_bs ahead) in
       subst (λ l. Reduces p s l (take n xs) [] (Flag more)) flags (some_elements more s so_far (take n xs) (omega (arith, long, some)) awaits is)
 
   -- elements more
-  pub elements_more : (s t u : Stage) (bs : List Bool) (xs vs : List ℤ) (i j k n : ℕ) → Reduces p s (take i bs) (take j xs) (take n vs) t → Reduces p t (take k (rest_of bs i)) (take k (rest_of xs j)) [] u → Reduces p s (take (i + k) bs) (take (j + k) xs) (take n vs) u
+  pub elements_more : (s t u : Stage) (bs : List Bool) (xs vs : List ℤ) (i j k n : ℕ) → Reduces p s (take i bs) (take j xs) (take n vs) t →
+      Reduces p t (take k (rest_of bs i)) (take k (rest_of xs j)) [] u → Reduces p s (take (i + k) bs) (take (j + k) xs) (take n vs) u
   elements_more s t u bs xs vs i j k n before after =
       let of_flags = subst (λ l. Reduces p t (take k l) (take k (rest_of xs j)) [] u) (take_rest bs i) after in
       let of_both = subst (λ l. Reduces p t (take k (drop i bs)) (take k l) [] u) (take_rest xs j) of_flags in
@@ -150,7 +163,9 @@ module _ (p : Dialect × Reduction) where
       subst (λ l. Reduces p s (take (i + k) bs) (take (j + k) xs) l u) (append-nil (take n vs)) in_elements
 
   -- and the end of a segment more
-  pub end_more : (s t : Stage) (bs : List Bool) (xs vs : List ℤ) (i j n : ℕ) (v : ℤ) → Reduces p s (take i bs) (take j xs) (take n vs) t → get_or (rest_of bs i) 0 false ≡ true → AwaitsFlag p.1 t (Some (Int v)) → n < length vs → Reduces p s (take (i + 1) bs) (take j xs) (take (n + 1) (set vs n v)) Start
+  pub end_more : (s t : Stage) (bs : List Bool) (xs vs : List ℤ) (i j n : ℕ) (v : ℤ) → Reduces p s (take i bs) (take j xs) (take n vs) t →
+      get_or (rest_of bs i) 0 false ≡ true → AwaitsFlag p.1 t (Some (Int v)) → n < length vs →
+      Reduces p s (take (i + 1) bs) (take j xs) (take (n + 1) (set vs n v)) Start
   end_more s t bs xs vs i j n v before is awaits within =
       let both = joined s t Start (take i bs) (true ∷ []) (take j xs) [] (take n vs) (v ∷ []) before (end_step t v awaits) in
       let flags : take i bs ++ true ∷ [] ≡ take (i + 1) bs = sym (take-add i 1 bs ∙ ap (λ l. take i bs ++ l) (first_flag (drop i bs) (ap (λ l. get_or l 0 false) (sym (take_rest bs i)) ∙ is))) in
@@ -179,7 +194,8 @@ after_flag s total [] false = refl
 after_flag s total (true ∷ bs) b = after_flag Start total bs b
 after_flag s total (false ∷ bs) b = after_flag (Flag (Some (Int total))) total bs b
 
-pub last_flag : (s : Stage) (total : ℤ) (bs : List Bool) (n : ℕ) (b : Bool) → 0 < n → n ≤ length bs → get_or bs (n - 1) false ≡ b → stage_of_sum s total (take n bs) ≡ cond b Start (Flag (Some (Int total)))
+pub last_flag : (s : Stage) (total : ℤ) (bs : List Bool) (n : ℕ) (b : Bool) → 0 < n → n ≤ length bs → get_or bs (n - 1) false ≡ b →
+    stage_of_sum s total (take n bs) ≡ cond b Start (Flag (Some (Int total)))
 last_flag s total bs n b some within is =
     let before : (n - 1) + 1 ≡ n = omega (arith, some) in
     let flags : take n bs ≡ take (n - 1) bs ++ b ∷ [] = ap (λ k. take k bs) (sym before) ∙ take_more bs (n - 1) false (omega (arith, some, within)) ∙ ap (λ c. take (n - 1) bs ++ c ∷ []) is in
@@ -189,7 +205,8 @@ pub sums_none : (total : ℤ) → SumsOfSegments total [] [] [] total
 sums_none total dialect s awaits = (reduces_none (dialect, Sum) s, awaits)
 
 -- an element more
-pub sums_element : (total reached more x : ℤ) (bs : List Bool) (xs vs : List ℤ) → more ≡ reached +ℤ x → negsuc 9223372036854775807 ≤ℤ more → more ≤ℤ pos 9223372036854775807 → SumsOfSegments total bs xs vs reached → SumsOfSegments total (bs ++ false ∷ []) (xs ++ x ∷ []) vs more
+pub sums_element : (total reached more x : ℤ) (bs : List Bool) (xs vs : List ℤ) → more ≡ reached +ℤ x → negsuc 9223372036854775807 ≤ℤ more →
+    more ≤ℤ pos 9223372036854775807 → SumsOfSegments total bs xs vs reached → SumsOfSegments total (bs ++ false ∷ []) (xs ++ x ∷ []) vs more
 sums_element total reached more x bs xs vs is low high along dialect s awaits =
     let p : Dialect × Reduction = (dialect, Sum) in
     let before = along dialect s awaits in
@@ -207,5 +224,6 @@ sums_end total reached bs xs vs along dialect s awaits =
     let before = along dialect s awaits in
     let t = stage_of_sum s reached bs in
     let leads : Start ≡ stage_of_sum s (pos 0) (bs ++ true ∷ []) = sym (after_flag s (pos 0) bs true) in
-    let both = subst (λ l. Reduces p s (bs ++ true ∷ []) l (vs ++ reached ∷ []) Start) (append-nil xs) (joined p s t Start bs (true ∷ []) xs [] vs (reached ∷ []) before.0 (end_step p t reached before.1)) in
+    let both = subst (λ l. Reduces p s (bs ++ true ∷ []) l (vs ++ reached ∷ []) Start) (append-nil xs)
+        (joined p s t Start bs (true ∷ []) xs [] vs (reached ∷ []) before.0 (end_step p t reached before.1)) in
     (subst (Reduces p s (bs ++ true ∷ []) xs (vs ++ reached ∷ [])) leads both, subst (λ u. AwaitsFlag Sum u (Some (Int (pos 0)))) leads refl)

@@ -36,4 +36,5 @@ stage_of_sum s total (false ∷ flags) = stage_of_sum (Flag (Some (Int total))) 
 
 -- in each dialect, after so much: along these flags and elements the segments that end have these sums, and what came since adds up to the other
 abbrev pub SumsOfSegments : ℤ → List Bool → List ℤ → List ℤ → ℤ → Type 0
-SumsOfSegments total flags elements sums more = (dialect : Dialect) (s : Stage) → AwaitsFlag Sum s (Some (Int total)) → Reduces (dialect, Sum) s flags elements sums (stage_of_sum s more flags) × AwaitsFlag Sum (stage_of_sum s more flags) (Some (Int more))
+SumsOfSegments total flags elements sums more = (dialect : Dialect) (s : Stage) → AwaitsFlag Sum s (Some (Int total)) →
+    Reduces (dialect, Sum) s flags elements sums (stage_of_sum s more flags) × AwaitsFlag Sum (stage_of_sum s more flags) (Some (Int more))

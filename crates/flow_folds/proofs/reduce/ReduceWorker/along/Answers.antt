@@ -50,5 +50,6 @@ returns c =
         ints = along.ensures.most;
         steps = omega (arith, fewer, c.min-ahead.ensures);
       };
-      ran = single_ran m p (flag_signals (take n bs)) (int_signals (take k xs)) (int_signals values) is first second block made refl (flags_shown first bs n c.flags-flags.ensures in_flags) (ints_shown second xs k c.ints-elements.ensures along.ensures.elements) told steps;
+      ran = single_ran m p (flag_signals (take n bs)) (int_signals (take k xs)) (int_signals values) is first second block made refl
+          (flags_shown first bs n c.flags-flags.ensures in_flags) (ints_shown second xs k c.ints-elements.ensures along.ensures.elements) told steps;
     }
