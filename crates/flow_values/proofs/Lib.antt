@@ -6,4 +6,5 @@ pub mod Members
 pub mod Printing
 pub mod Segments
 pub mod ShapeTests
+pub mod TabBlocks
 pub mod VectorSteps

@@ -9,6 +9,7 @@ pub mod IndexMachine
 pub mod IndexPairs
 pub mod Parts
 pub mod TabMachine
+pub mod TabBlocks
 pub mod laws
 pub mod ValueNodes
 pub mod Rows

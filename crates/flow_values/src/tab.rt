@@ -1,25 +1,31 @@
 // The elements of sequences, as vectors.
 
-ghost use Rattle.std.specs.Prelude.{◌≡◌, [], map, List, IfOk, OnOk, true, false};
+ghost use Rattle.std.specs.Prelude.{◌≡◌, ◌<◌, ◌≤◌, ◌*◌, ◌++◌, [], length, map, replicate, take, get_or, List, IfOk, OnOk, true, false};
 ghost use Rattle.snesl_data.specs.Types.{Ty as ElementType, ty_of, seq};
-ghost use Rattle.snesl_data.specs.Values.{Value, Values, value_of, values_of, a_pair};
+ghost use Rattle.snesl_data.specs.Values.{Value, Values, value_of, values_of, a_pair, an_int, a_bool};
 ghost use Rattle.flow_values.specs.Shapes.{all_are, are_as_known};
 ghost use Rattle.snesl_data.specs.Builders.{built_in};
 ghost use Rattle.flow_messages.specs.Cells.{cell_of};
+ghost use Rattle.flow_base.specs.Along.{shown_signals};
 ghost use Rattle.flow_base.specs.Workers.{Takes};
 ghost use Rattle.flow_values.specs.Shapes.{kinds_of};
 ghost use Rattle.flow_values.specs.Parts.{built, PartsFit};
 ghost use Rattle.flow_base.specs.Machines.{state_after_item, with_parameters};
 ghost use Rattle.flow_values.specs.TabMachine.{TabState, start, tab_state, staged, flag_taking, grown, item_given, item_port, MakesDatum};
+ghost use Rattle.flow_values.specs.TabBlocks.{AddsScalars, AwaitsFlag};
 
 use crate::shapes::{add_kinds, are_elements, is_typed, kept, kind_at, part_fits};
-use flow_base::{Ask, Stop, Worker};
+use flow_base::{Ask, Moved, Shown, Stop, Worker, Written};
 use flow_messages::{Flat, Item, Kind};
 use snesl_data::{Builder, Datum, FaultKind, Ty};
 use std::alloc::{AllocError, Global};
 use std::collections::VecDeque;
 use std::mem;
 use std::sync::Arc;
+
+// After so many elements the flag that ends a sequence is read with them: the next visit begins by writing the vector. After
+// fewer it is left to a visit by single steps, which makes many short vectors.
+const LEAST_WITH_END: usize = 32;
 
 /// Writes the elements of each sequence as a vector. Each sequence is an instance.
 ///
@@ -123,6 +129,23 @@ impl Tab {
         }
     }
 
+    // Whether a flag comes next. Of a sequence that has not begun, no elements are kept then.
+    #[inline(always)]
+    fn awaits_flag(&mut self) -> bool
+        ensures same { ⟦<Tab as Worker>⟧.state self.new ≡ ⟦<Tab as Worker>⟧.state self.old }
+        ensures awaits { result ≡ true → AwaitsFlag (⟦<Tab as Worker>⟧.state self.new).1
+            (built_in self.new.elements) }
+    {
+        match self.stage {
+            Stage::Start => {
+                self.elements = Builder::Empty;
+                true
+            }
+            Stage::Flag => true,
+            Stage::Item | Stage::End => false,
+        }
+    }
+
     // Where all items of the next element are there, adds the element.
     fn close(&mut self) -> Result<(), Stop>
         requires { self.old.stage ≡ Stage.Item }
@@ -168,6 +191,91 @@ impl Tab {
                 Err(stop)
             }
         }
+    }
+}
+
+// How many of the first flags stand for elements, at most `most`.
+#[inline(always)]
+fn elements_ahead(flags: &[bool], most: usize) -> usize
+    ensures within { result ≤ most }
+    ensures shown { result ≤ length flags.now }
+    ensures elements { take result flags.now ≡ replicate result false }
+{
+    let ahead = most.min(flags.len());
+    for place in 0..ahead {
+        if flags[place] {
+            return place;
+        }
+    }
+    ahead
+}
+
+// Whether the flag behind so many elements is shown and ends them, and should be read as well.
+#[inline(always)]
+fn end_behind(flags: &[bool], elements: usize, most: usize) -> bool
+    ensures within { result ≡ true → 2 * elements < most }
+    ensures shown { result ≡ true → elements < length flags.now }
+    ensures ends { result ≡ true → get_or flags.now elements false ≡ true }
+{
+    elements >= LEAST_WITH_END && elements < most / 2 && elements < flags.len() && flags[elements]
+}
+
+// Adds these integers, as far as there is memory. How many.
+#[inline(always)]
+fn push_ints(elements: &mut Builder, alloc: Global, ints: &[i64]) -> usize
+    ensures within { result ≤ length ints.now }
+    ensures added { built_in elements.new ≡
+        built_in elements.old ++ map an_int (take result ints.now) }
+{
+    for place in 0..ints.len() {
+        let datum = Datum::Int(ints[place] as i128);
+        if elements.push(alloc, datum).is_err() {
+            return place;
+        }
+    }
+    ints.len()
+}
+
+// Adds these truth values, as far as there is memory. How many.
+#[inline(always)]
+fn push_truths(elements: &mut Builder, alloc: Global, truths: &[bool]) -> usize
+    ensures within { result ≤ length truths.now }
+    ensures added { built_in elements.new ≡
+        built_in elements.old ++ map a_bool (take result truths.now) }
+{
+    for place in 0..truths.len() {
+        let datum = Datum::Bool(truths[place]);
+        if elements.push(alloc, datum).is_err() {
+            return place;
+        }
+    }
+    truths.len()
+}
+
+// Adds the first scalars of the type that are shown, at most `most`, as far as there is memory. How many.
+#[inline(always)]
+fn push_shown(
+    elements: &mut Builder,
+    alloc: Global,
+    of: &Ty,
+    shown: Shown<'_>,
+    most: usize,
+) -> usize
+    ensures within { result ≤ most }
+    ensures shown { result ≤ length (shown_signals shown.entry) }
+    ensures added { AddsScalars (ty_of of.now) (take result (shown_signals shown.entry))
+        (built_in elements.old) (built_in elements.new) }
+{
+    match of {
+        Ty::Int => {
+            let ints = shown.ints();
+            push_ints(elements, alloc, &ints[..most.min(ints.len())])
+        }
+        Ty::Bool => {
+            let truths = shown.flags();
+            push_truths(elements, alloc, &truths[..most.min(truths.len())])
+        }
+        Ty::Pair(_, _) | Ty::Vec(_) | Ty::Seq(_) => 0,
     }
 }
 
@@ -323,6 +431,44 @@ impl Worker for Tab {
                 }
             }
             _ => unreachable!(),
+        }
+    }
+
+    // Scalars are read along slices from where a flag comes next.
+    fn is_between(&self) -> bool {
+        !matches!(self.element, Ty::Int | Ty::Bool)
+            || matches!(self.stage, Stage::Start | Stage::Flag)
+    }
+
+    // The flag of each scalar is one step, and the scalar one more.
+    #[inline(always)]
+    fn along(
+        &mut self,
+        first: Shown<'_>,
+        second: Shown<'_>,
+        block: &mut Written,
+        space: usize,
+        most: usize,
+    ) -> Moved {
+        if !self.awaits_flag() {
+            return Moved::nothing();
+        }
+        let flags = first.flags();
+        let ahead = elements_ahead(flags, most / 2);
+        let added = push_shown(&mut self.elements, self.alloc, &self.element, second, ahead);
+        if added == 0 {
+            return Moved::nothing();
+        }
+        let ended = end_behind(flags, added, most);
+        self.stage = if ended { Stage::End } else { Stage::Flag };
+        let end = ended as usize;
+        Moved {
+            first: added + end,
+            second: added,
+            units: 0,
+            flags: 0,
+            ints: 0,
+            steps: 2 * added + end,
         }
     }
 }
