@@ -5,6 +5,7 @@ pub mod Layings
 pub mod Members
 pub mod Printing
 pub mod Segments
+pub mod SeqAlong
 pub mod ShapeTests
 pub mod TabBlocks
 pub mod VectorSteps

@@ -1,17 +1,18 @@
 // The elements of vectors, as sequences.
 
-ghost use Rattle.std.specs.Prelude.{◌≡◌, ◌++◌, List, [], map, IfOk, OnErr, IsOk, IsSome, true, false};
-ghost use Rattle.snesl_data.specs.Types.{Ty as ElementType, ty_of, seq};
+ghost use Rattle.std.specs.Prelude.{◌≡◌, ◌+◌, ◌*◌, ◌^◌, ◌<◌, ◌≤◌, ◌++◌, ℕ, List, [], map, drop, length, replicate, take, IfOk, OnErr, IsOk, IfSome, IsSome, true, false};
+ghost use Rattle.snesl_data.specs.Types.{Ty as ElementType, ty_of, int, seq};
+ghost use Rattle.snesl_data.specs.Values.{an_int};
 ghost use Rattle.flow_messages.specs.Cells.{cell_of};
 ghost use Rattle.flow_base.specs.Machines.{move_of, written_cell, state_after_write};
 ghost use Rattle.flow_values.specs.Shapes.{kinds_of};
-ghost use Rattle.flow_values.specs.Dues.{DueCell, due_cell};
+ghost use Rattle.flow_values.specs.Dues.{DueCell, due_cell, segment_dues};
 ghost use Rattle.flow_values.specs.SeqMachine.{seq_machine, seq_takes_memory, left_dues, writes_such};
 
 use crate::dues::{Due, add_value};
 use crate::shapes::{add_kinds, add_types, kind_at};
 use crate::vectors::vector_in;
-use flow_base::{Ask, Stop, Worker};
+use flow_base::{Ask, Moved, Shown, Stop, Worker, Written};
 use flow_messages::{Flat, Item, Kind};
 use snesl_data::{Elements, Ty};
 use std::alloc::{AllocError, Global};
@@ -45,6 +46,41 @@ pub struct Seq {
     ghost writes: { writes_such (ty_of element) vector ≡ true },
 }
 
+// Puts these integers at the front of the block, and the flag of an element for each.
+#[inline(always)]
+fn put_elements(ints: &[i64], block: &mut Written)
+    requires { length ints.now ≤ 256 }
+    ensures flags { take (length ints.now) block.new.flags ≡ replicate (length ints.now) false }
+    ensures ints { take (length ints.now) block.new.ints ≡ ints.now }
+{
+    let count = ints.len();
+    block.flags[..count].fill(false);
+    block.ints[..count].copy_from_slice(ints);
+}
+
+// So many rounds, each a flag and an integer, and so many flags more.
+#[inline(always)]
+fn wrote(rounds: usize, ends: usize) -> Moved
+    requires { 2 * rounds + ends < 2 ^ 64 }
+    ensures { result ≡ record {
+      first = 0;
+      second = 0;
+      units = 0;
+      flags = rounds + ends;
+      ints = rounds;
+      steps = 2 * rounds + ends;
+    } }
+{
+    Moved {
+        first: 0,
+        second: 0,
+        units: 0,
+        flags: rounds + ends,
+        ints: rounds,
+        steps: 2 * rounds + ends,
+    }
+}
+
 impl Seq {
     /// A worker for vectors of elements of this type, before its first vector. Its only error is that memory was
     /// refused.
@@ -66,6 +102,28 @@ impl Seq {
             vector: None,
             begun: 0,
         })
+    }
+
+    // The integers of the vector that are to be written next, where they lie side by side and nothing is due before them.
+    #[inline(always)]
+    fn ints_left(&self) -> Option<&[i64]>
+        ensures none { IfSome result (λ _. self.now.dues.items ≡ []) }
+        ensures element { IfSome result (λ _. ty_of self.now.element ≡ int) }
+        ensures fits { IfSome result (λ ints. self.now.begun + length ints.now < 2 ^ 64) }
+        ensures left { IfSome result (λ ints. (n : ℕ) →
+            left_dues int self.now.vector (self.now.begun + n) ≡
+            segment_dues int 0 (map an_int (drop n ints.now))) }
+    {
+        let Some(elements) = &self.vector else {
+            return None;
+        };
+        let Elements::Ints(all) = elements else {
+            return None;
+        };
+        if !self.dues.is_empty() || !matches!(self.element, Ty::Int) || self.begun > all.len() {
+            return None;
+        }
+        Some(&all[self.begun..])
     }
 
     // The flag that stands behind the elements begun so far: `false` before the next one, which is laid out, and `true`
@@ -173,5 +231,41 @@ impl Worker for Seq {
             Some(due) => Ok(due.item),
             None => unreachable!(),
         }
+    }
+
+    // A vector of integers is taken by a single step, and then written along slices. Where its elements do not lie so, or are
+    // of another type, all steps are single ones, from anywhere.
+    fn is_between(&self) -> bool {
+        match &self.vector {
+            Some(Elements::Ints(_)) => self.dues.is_empty(),
+            Some(_) => true,
+            None => !matches!(self.element, Ty::Int),
+        }
+    }
+
+    // Each round is the flag of an element, and then the integer; at last comes the flag that ends the sequence. Truth values
+    // are left to single steps, since both outputs would get the same.
+    #[inline(always)]
+    fn along(
+        &mut self,
+        first: Shown<'_>,
+        second: Shown<'_>,
+        block: &mut Written,
+        space: usize,
+        most: usize,
+    ) -> Moved {
+        let Some(ints) = self.ints_left() else {
+            return Moved::nothing();
+        };
+        let left = ints.len();
+        let rounds = left.min(space).min(most / 2);
+        put_elements(&ints[..rounds], block);
+        self.begun += rounds;
+        if rounds < left || rounds == space || 2 * rounds == most {
+            return wrote(rounds, 0);
+        }
+        block.flags[rounds] = true;
+        self.vector = None;
+        wrote(rounds, 1)
     }
 }
