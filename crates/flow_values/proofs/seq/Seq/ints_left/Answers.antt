@@ -1,4 +1,4 @@
-use Rattle.std.proofs.Common.{◌≡◌, ℤ, Some, Vec, Global, sym, ◌∙◌, ap}
+use Rattle.std.proofs.Common.{ℤ, Some, Vec, Global, sym, ◌∙◌, ap}
 use Rattle.flow_values.proofs.SeqAlong.{later_ints}
 use Rattle.flow_values.proofs.seq.Seq.ints_left.Goals as goal
 
