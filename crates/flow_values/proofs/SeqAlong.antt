@@ -9,7 +9,7 @@ use Rattle.std.proofs.lemmas.List.{drop-drop, drop-map, drop_all, length-take, m
 use Rattle.snesl_data.specs.declared.datum.Elements.{Elements}
 use Rattle.snesl_data.specs.declared.datum.Elements.TheVariants.{Ints}
 use Rattle.snesl_data.specs.Types.{Ty, int as int_type, seq}
-use Rattle.snesl_data.specs.Values.{an_int}
+use Rattle.snesl_data.specs.Values.{an_int, entries}
 use Rattle.snesl_data.proofs.Data.{entries-Ints}
 use Rattle.flow_messages.specs.Blocks.{flag_signals, int_signals}
 use Rattle.flow_messages.specs.Cells.{flag, int}
@@ -30,15 +30,21 @@ abbrev pub ints_due : List ℤ → List DueCell
 ints_due ns = segment_dues int_type 0 (map an_int ns)
 
 -- of a vector that is held, from a later place on
-pub later_ints : (held : Option Elements) (v : Arc (Vec ℤ Global) Global) (all : List ℤ) (begun n : ℕ) → held ≡ Some (Ints v) → (arc_value v).items ≡ all → left_dues int_type held (begun + n) ≡ ints_due (drop n (take (length all - begun) (drop begun all)))
+pub later_ints : (held : Option Elements) (v : Arc (Vec ℤ Global) Global) (all : List ℤ) (begun n : ℕ) → held ≡ Some (Ints v) → (arc_value v).items ≡ all →
+    left_dues int_type held (begun + n) ≡ ints_due (drop n (take (length all - begun) (drop begun all)))
 later_ints held v all begun n is items =
-    let later : drop (begun + n) (arc_value v).items ≡ drop n (take (length all - begun) (drop begun all)) = ap (drop (begun + n)) items ∙ sym (drop-drop n begun all) ∙ ap (drop n) (sym (take_rest all begun)) in
-    ap (λ h. left_dues int_type h (begun + n)) is ∙ ap (λ l. segment_dues int_type 0 (drop (begun + n) l)) (entries-Ints v) ∙ ap (segment_dues int_type 0) (drop-map an_int (begun + n) (arc_value v).items) ∙ ap ints_due later
+    let rest = drop n (take (length all - begun) (drop begun all)) in
+    let later : drop (begun + n) (arc_value v).items ≡ rest = ap (drop (begun + n)) items ∙ sym (drop-drop n begun all) ∙ ap (drop n) (sym (take_rest all begun)) in
+    let listed : drop (begun + n) (entries (Ints v)) ≡ map an_int rest = ap (drop (begun + n)) (entries-Ints v) ∙ drop-map an_int (begun + n) (arc_value v).items ∙ ap (map an_int) later in
+    ap (λ h. left_dues int_type h (begun + n)) is ∙ ap (segment_dues int_type 0) listed
 
 -- the state where nothing else is due
-pub ints_held : (item : Ty) (dues : List Due) (held : Option Elements) (begun place n : ℕ) (ns : List ℤ) → dues ≡ [] → item ≡ int_type → ((n : ℕ) → left_dues int_type held (begun + n) ≡ ints_due (drop n ns)) → place ≡ begun + n → paired item (map due_cell dues ++ left_dues item held place) ≡ paired int_type (ints_due (drop n ns))
+pub ints_held : (item : Ty) (dues : List Due) (held : Option Elements) (begun place n : ℕ) (ns : List ℤ) → dues ≡ [] → item ≡ int_type →
+    ((n : ℕ) → left_dues int_type held (begun + n) ≡ ints_due (drop n ns)) → place ≡ begun + n →
+    paired item (map due_cell dues ++ left_dues item held place) ≡ paired int_type (ints_due (drop n ns))
 ints_held item dues held begun place n ns none is left at =
-    ap (λ ds. paired item (map due_cell ds ++ left_dues item held place)) none ∙ ap (λ t. paired t (left_dues t held place)) is ∙ ap (λ k. paired int_type (left_dues int_type held k)) at ∙ ap (paired int_type) (left n)
+    ap (λ ds. paired item (map due_cell ds ++ left_dues item held place)) none
+    ∙ ap (λ t. paired t (left_dues t held place)) is ∙ ap (λ k. paired int_type (left_dues int_type held k)) at ∙ ap (paired int_type) (left n)
 
 pub none_held : (item : Ty) (dues : List Due) → dues ≡ [] → item ≡ int_type → paired item (map due_cell dues ++ []) ≡ paired int_type []
 none_held item dues none is = ap (λ ds. paired item (map due_cell ds ++ [])) none ∙ ap (λ t. paired t []) is
@@ -74,7 +80,8 @@ wrote_none : (s : List DueCell) → Wrote s s [] [] 0
 wrote_none s = ran_as seq_machine int_type (ran_none seq_machine int_type s) [] [] (written [] []) 0 refl refl (λ q. both_none (eqb q 0) (eqb q 1)) refl
 
 wrote_then : {s t u : List DueCell} {n k : ℕ} (fs ns fs' ns' : List Signal) → Wrote s t fs ns n → Wrote t u fs' ns' k → Wrote s u (fs ++ fs') (ns ++ ns') (n + k)
-wrote_then {n = n} {k = k} fs ns fs' ns' before after = ran_as seq_machine int_type (ran_then seq_machine int_type before after) [] [] (written (fs ++ fs') (ns ++ ns')) (n + k) refl refl (λ q. both_then (eqb q 0) (eqb q 1) fs ns fs' ns') refl
+wrote_then {n = n} {k = k} fs ns fs' ns' before after =
+    ran_as seq_machine int_type (ran_then seq_machine int_type before after) [] [] (written (fs ++ fs') (ns ++ ns')) (n + k) refl refl (λ q. both_then (eqb q 0) (eqb q 1) fs ns fs' ns') refl
 
 a_flag : (b : Bool) (rest : List DueCell) → Wrote (due 0 (flag b) ∷ rest) rest (carry (flag b) ∷ []) [] 1
 a_flag b rest =
@@ -88,6 +95,12 @@ an_integer n rest =
 
 one_element : (n : ℤ) (ns : List ℤ) → Wrote (ints_due (n ∷ ns)) (ints_due ns) (carry (flag false) ∷ []) (carry (int n) ∷ []) 2
 one_element n ns = wrote_then (carry (flag false) ∷ []) [] [] (carry (int n) ∷ []) (a_flag false (due 1 (int n) ∷ ints_due ns)) (an_integer n (ints_due ns))
+
+-- the same messages, told otherwise
+wrote_as : {s t : List DueCell} {fs ns fs' ns' : List Signal} {n k : ℕ} → Wrote s t fs ns n → fs ≡ fs' → ns ≡ ns' → n ≡ k → Wrote s t fs' ns' k
+wrote_as {s} {t} {fs} {ns} {fs'} {ns'} {n} {k} wrote same_flags same_ints count =
+    let counted = subst (Wrote s t fs ns) count wrote in
+    subst (λ l. Wrote s t fs' l k) same_ints (subst (λ l. Wrote s t l ns k) same_flags counted)
 
 -- the first so many elements
 elements : (ns : List ℤ) (n : ℕ) → n ≤ length ns → Wrote (ints_due ns) (ints_due (drop n ns)) (flag_signals (replicate n false)) (int_signals (take n ns)) (2 * n)
@@ -116,13 +129,15 @@ written_to block made (suc (suc q)) =
     let ns = int_signals (take made.ints block.ints) in
     let not_flags = ne_eqb (suc (suc q)) 0 (λ e. omega (arith, e)) in
     let not_ints = ne_eqb (suc (suc q)) 1 (λ e. omega (arith, e)) in
-    ap (λ b. cond b fs (cond (eqb (suc (suc q)) 1) ns [])) not_flags ∙ ap (λ b. cond b ns no_messages) not_ints ∙ ap (λ b. cond b (written_signals block made (kind_at (kinds_of (seq int_type)) (suc (suc q)))) no_messages) (sym over)
+    ap (λ b. cond b fs (cond (eqb (suc (suc q)) 1) ns [])) not_flags ∙ ap (λ b. cond b ns no_messages) not_ints
+    ∙ ap (λ b. cond b (written_signals block made (kind_at (kinds_of (seq int_type)) (suc (suc q)))) no_messages) (sym over)
 
 -- so many rounds, and so many flags more
 abbrev pub rounds_made : ℕ → ℕ → Moved
 rounds_made n ends = record { first = 0; second = 0; units = 0; flags = n + ends; ints = n; steps = 2 * n + ends }
 
-moves : (s t : List DueCell) (first second : Shown) (space most : ℕ) (block : Written) (n ends : ℕ) → n + ends ≤ space → 2 * n + ends ≤ most → Wrote s t (flag_signals (take (n + ends) block.flags)) (int_signals (take n block.ints)) (2 * n + ends) →
+moves : (s t : List DueCell) (first second : Shown) (space most : ℕ) (block : Written) (n ends : ℕ) → n + ends ≤ space → 2 * n + ends ≤ most →
+    Wrote s t (flag_signals (take (n + ends) block.flags)) (int_signals (take n block.ints)) (2 * n + ends) →
     MovesAlong seq_machine (int_type, s) (int_type, t) first second space most block (rounds_made n ends)
 moves s t first second space most block n ends room may wrote = record {
   within = record {
@@ -136,31 +151,50 @@ moves s t first second space most block n ends room may wrote = record {
   ran = ran_as seq_machine int_type wrote [] [] (written_at seq_machine int_type block (rounds_made n ends)) (2 * n + ends) refl refl (written_to block (rounds_made n ends)) refl;
 }
 
--- what lies at the front of the block is told by how many they are
-module _ (ns : List ℤ) (n : ℕ) (within : n ≤ length ns) (flags : List Bool) (ints : List ℤ) (put_flags : take (length (take n ns)) flags ≡ replicate (length (take n ns)) false) (put_ints : take (length (take n ns)) ints ≡ take n ns) where
-  size : length (take n ns) ≡ n
-  size = omega (arith, within, length-take n ns)
+-- of the states and of how far it went, told otherwise
+pub moves_as : {old old' new new' : Ty × List DueCell} {made made' : Moved} (first second : Shown) (space most : ℕ) (block : Written) → old ≡ old' → new ≡ new' → made ≡ made' →
+    MovesAlong seq_machine old' new' first second space most block made' → MovesAlong seq_machine old new first second space most block made
+moves_as {old} {old'} {new} {new'} {made} {made'} first second space most block same_old same_new same_made went =
+    let told : Ty × List DueCell → Ty × List DueCell → Moved → Type 0 = λ a b m. MovesAlong seq_machine a b first second space most block m in
+    subst (told old new) (sym same_made) (subst (λ b. told old b made') (sym same_new) (subst (λ a. told a new' made') (sym same_old) went))
 
-  flags_are : take n flags ≡ replicate n false
-  flags_are = subst (λ k. take k flags ≡ replicate k false) size put_flags
+-- so many integers lie at the front of the block, and a flag for each
+pub record Fronts (ns : List ℤ) (n : ℕ) (flags : List Bool) (ints : List ℤ) : Type 0 where
+  pub within : n ≤ length ns
+  pub flags_are : take n flags ≡ replicate n false
+  pub ints_are : take n ints ≡ take n ns
 
-  ints_are : take n ints ≡ take n ns
-  ints_are = ap (λ k. take k ints) (sym size) ∙ put_ints
+-- told by how many they are
+pub fronts : (ns : List ℤ) (n : ℕ) (flags : List Bool) (ints : List ℤ) → n ≤ length ns → take (length (take n ns)) flags ≡ replicate (length (take n ns)) false → take (length (take n ns)) ints ≡ take n ns →
+    Fronts ns n flags ints
+fronts ns n flags ints within put_flags put_ints =
+    let size : length (take n ns) ≡ n = omega (arith, within, length-take n ns) in
+    record {
+      within = within;
+      flags_are = subst (λ k. take k flags ≡ replicate k false) size put_flags;
+      ints_are = ap (λ k. take k ints) (sym size) ∙ put_ints;
+    }
 
+module _ (ns : List ℤ) (n : ℕ) (flags : List Bool) (ints : List ℤ) (put : Fronts ns n flags ints) (first second : Shown) (space most : ℕ) where
   -- it wrote the first so many elements
-  pub wrote_some : (first second : Shown) (space most : ℕ) → n ≤ space → 2 * n ≤ most → MovesAlong seq_machine (int_type, ints_due ns) (int_type, ints_due (drop n ns)) first second space most (record { flags = flags; ints = ints }) (rounds_made n 0)
-  wrote_some first second space most room may =
-      let no_more : n ≡ n + 0 = omega arith in
-      let same_flags : flag_signals (replicate n false) ≡ flag_signals (take (n + 0) flags) = ap flag_signals (sym flags_are ∙ ap (λ k. take k flags) no_more) in
-      let same_ints : int_signals (take n ns) ≡ int_signals (take n ints) = ap int_signals (sym ints_are) in
+  pub wrote_some : n ≤ space → 2 * n ≤ most →
+      MovesAlong seq_machine (int_type, ints_due ns) (int_type, ints_due (drop n ns)) first second space most (record { flags = flags; ints = ints }) (rounds_made n 0)
+  wrote_some room may =
+      let none_more : n ≡ n + 0 = omega arith in
+      let same_flags : flag_signals (replicate n false) ≡ flag_signals (take (n + 0) flags) = ap flag_signals (sym put.flags_are ∙ ap (λ k. take k flags) none_more) in
+      let same_ints : int_signals (take n ns) ≡ int_signals (take n ints) = ap int_signals (sym put.ints_are) in
       let count : 2 * n ≡ 2 * n + 0 = omega arith in
-      let wrote : Wrote (ints_due ns) (ints_due (drop n ns)) (flag_signals (take (n + 0) flags)) (int_signals (take n ints)) (2 * n + 0) = subst (λ fs. Wrote (ints_due ns) (ints_due (drop n ns)) fs (int_signals (take n ints)) (2 * n + 0)) same_flags (subst (λ is. Wrote (ints_due ns) (ints_due (drop n ns)) (flag_signals (replicate n false)) is (2 * n + 0)) same_ints (subst (Wrote (ints_due ns) (ints_due (drop n ns)) (flag_signals (replicate n false)) (int_signals (take n ns))) count (elements ns n within))) in
+      let wrote = wrote_as (elements ns n put.within) same_flags same_ints count in
       moves (ints_due ns) (ints_due (drop n ns)) first second space most (record { flags = flags; ints = ints }) n 0 (omega (arith, room)) (omega (arith, may)) wrote
 
   -- it wrote all elements, and the last flag
-  pub wrote_all : (first second : Shown) (space most : ℕ) → length ns ≤ n → n < length flags → n < space → 2 * n < most → MovesAlong seq_machine (int_type, ints_due ns) (int_type, []) first second space most (record { flags = set flags n true; ints = ints }) (rounds_made n 1)
-  wrote_all first second space most past there room may =
-      let same_flags : flag_signals (replicate n false) ++ carry (flag true) ∷ [] ≡ flag_signals (take (n + 1) (set flags n true)) = sym (ap flag_signals (take_more_set flags n true there ∙ ap (λ l. l ++ true ∷ []) flags_are) ∙ map-append (λ b. carry (flag b)) (replicate n false) (true ∷ [])) in
-      let same_ints : int_signals (take n ns) ++ [] ≡ int_signals (take n ints) = append-nil (int_signals (take n ns)) ∙ ap int_signals (sym ints_are) in
-      let wrote : Wrote (ints_due ns) [] (flag_signals (take (n + 1) (set flags n true))) (int_signals (take n ints)) (2 * n + 1) = subst (λ fs. Wrote (ints_due ns) [] fs (int_signals (take n ints)) (2 * n + 1)) same_flags (subst (λ is. Wrote (ints_due ns) [] (flag_signals (replicate n false) ++ carry (flag true) ∷ []) is (2 * n + 1)) same_ints (all_elements ns n within past)) in
-      moves (ints_due ns) [] first second space most (record { flags = set flags n true; ints = ints }) n 1 (omega (arith, room)) (omega (arith, may)) wrote
+  pub wrote_all : length ns ≤ n → n < length flags → n < space → 2 * n < most →
+      MovesAlong seq_machine (int_type, ints_due ns) (int_type, []) first second space most (record { flags = set flags n true; ints = ints }) (rounds_made n 1)
+  wrote_all past there room may =
+      let block : Written = record { flags = set flags n true; ints = ints } in
+      let one_more : take (n + 1) block.flags ≡ replicate n false ++ true ∷ [] = take_more_set flags n true there ∙ ap (λ l. l ++ true ∷ []) put.flags_are in
+      let split = map-append (λ b. carry (flag b)) (replicate n false) (true ∷ []) in
+      let same_flags : flag_signals (replicate n false) ++ carry (flag true) ∷ [] ≡ flag_signals (take (n + 1) block.flags) = sym (ap flag_signals one_more ∙ split) in
+      let same_ints : int_signals (take n ns) ++ [] ≡ int_signals (take n ints) = append-nil (int_signals (take n ns)) ∙ ap int_signals (sym put.ints_are) in
+      let wrote = wrote_as (all_elements ns n put.within past) same_flags same_ints refl in
+      moves (ints_due ns) [] first second space most block n 1 (omega (arith, room)) (omega (arith, may)) wrote

@@ -1,13 +1,11 @@
-use Rattle.std.proofs.Common.{◌≡◌, ◌+◌, ◌*◌, ◌<◌, ◌≤◌, ◌++◌, true, List, [], length, drop, map, set, sym, ◌∙◌, ap, subst, arith}
+use Rattle.std.proofs.Common.{◌≡◌, ◌+◌, ◌*◌, ◌<◌, ◌≤◌, ◌++◌, ℕ, true, List, length, drop, map, set, ◌∙◌, ap, arith, refl}
 use Rattle.snesl_data.specs.Types.{Ty, ty_of, int as int_type}
-use Rattle.flow_base.specs.Along.{MovesAlong}
-use Rattle.flow_base.specs.declared.slices.Moved.{Moved}
 use Rattle.flow_base.specs.declared.slices.Written.{Written}
 use Rattle.flow_values.specs.Dues.{DueCell, due_cell}
-use Rattle.flow_values.specs.SeqMachine.{seq_machine, left_dues}
+use Rattle.flow_values.specs.SeqMachine.{left_dues}
 use Rattle.flow_values.specs.declared.seq.Seq.{Seq}
 use Rattle.flow_values.proofs.Layings.{paired}
-use Rattle.flow_values.proofs.SeqAlong.{ints_due, ints_held, none_held, rounds_made, wrote_all, wrote_some}
+use Rattle.flow_values.proofs.SeqAlong.{fronts, ints_due, ints_held, moves_as, none_held, wrote_all, wrote_some}
 use Rattle.flow_values.proofs.seq.SeqWorker.along.Goals.{then-rounds-left-via-then-rounds-left, then-rounds-left-via-else-rounds-left+then-rounds-space, then-rounds-left-via-else-rounds-left+else-rounds-space+then-rounds-most}
 use Rattle.flow_values.proofs.seq.SeqWorker.along.Goals as goal
 
@@ -18,21 +16,23 @@ returns-then-rounds-left c =
     let ints = c.in-Some.ints.now in
     let rounds = c.min-rounds.result in
     let holds = c.in-Some.ensures in
-    let put = c.put_elements in
-    let view = λ (s : Seq). paired (ty_of s.element) (map due_cell s.dues.items ++ left_dues (ty_of s.element) s.vector s.begun) in
+    let block = c.put_elements.new.block in
+    let put = c.put_elements.ensures in
+    let view : Seq → Ty × List DueCell = λ s. paired (ty_of s.element) (map due_cell s.dues.items ++ left_dues (ty_of s.element) s.vector s.begun) in
     let within : rounds ≤ length ints = omega (arith, c.min.ensures, c.min-rounds.ensures) in
     let room : rounds ≤ c.args.space = omega (arith, c.min.ensures, c.min-rounds.ensures) in
     let may : 2 * rounds ≤ c.args.most = omega (arith, c.min-rounds.ensures) in
-    let told : Ty × List DueCell → Ty × List DueCell → Moved → Type 0 = λ old new made. MovesAlong seq_machine old new c.args.first c.args.second c.args.space c.args.most put.new.block made in
-    let before : view self ≡ paired int_type (ints_due ints) = ints_held (ty_of self.element) self.dues.items self.vector self.begun self.begun 0 ints holds.none holds.element holds.left (omega arith) in
-    let after : paired (ty_of self.element) (map due_cell self.dues.items ++ left_dues (ty_of self.element) self.vector (self.begun + rounds)) ≡ paired int_type (ints_due (drop rounds ints)) = ints_held (ty_of self.element) self.dues.items self.vector self.begun (self.begun + rounds) rounds ints holds.none holds.element holds.left (omega arith) in
-    let moved = wrote_some ints rounds within put.new.block.flags put.new.block.ints put.ensures.flags put.ensures.ints c.args.first c.args.second c.args.space c.args.most room may in
-    let new : view c.then-rounds-left.self ≡ paired int_type (ints_due (drop rounds ints)) = elim c.then-rounds-left.branch [
-      | then-rounds-left-via-then-rounds-left w ↦ ap view w.self-is ∙ after
-      | then-rounds-left-via-else-rounds-left+then-rounds-space w ↦ ap view w.self-is ∙ after
-      | then-rounds-left-via-else-rounds-left+else-rounds-space+then-rounds-most w ↦ ap view w.self-is ∙ after
+    let held = λ (place n : ℕ) (at : place ≡ self.begun + n).
+        ints_held (ty_of self.element) self.dues.items self.vector self.begun place n ints holds.none holds.element holds.left at in
+    let before : view self ≡ paired int_type (ints_due ints) = held self.begun 0 (omega arith) in
+    let after : view c.then-rounds-left.self ≡ paired int_type (ints_due (drop rounds ints)) = elim c.then-rounds-left.branch [
+      | then-rounds-left-via-then-rounds-left w ↦ ap view w.self-is ∙ held (self.begun + rounds) rounds refl
+      | then-rounds-left-via-else-rounds-left+then-rounds-space w ↦ ap view w.self-is ∙ held (self.begun + rounds) rounds refl
+      | then-rounds-left-via-else-rounds-left+else-rounds-space+then-rounds-most w ↦ ap view w.self-is ∙ held (self.begun + rounds) rounds refl
     ] in
-    subst (told (view self) (view c.then-rounds-left.self)) (sym c.wrote.ensures) (subst (λ old. told old (view c.then-rounds-left.self) (rounds_made rounds 0)) (sym before) (subst (λ new. told (paired int_type (ints_due ints)) new (rounds_made rounds 0)) (sym new) moved))
+    let front = fronts ints rounds block.flags block.ints within put.flags put.ints in
+    let moved = wrote_some ints rounds block.flags block.ints front c.args.first c.args.second c.args.space c.args.most room may in
+    moves_as c.args.first c.args.second c.args.space c.args.most block before after c.wrote.ensures moved
 
 -- rounds, and the last flag
 pub returns : goal.returns
@@ -41,17 +41,16 @@ returns c =
     let ints = c.in-Some.ints.now in
     let rounds = c.min-rounds.result in
     let holds = c.in-Some.ensures in
-    let put = c.put_elements in
+    let block = c.put_elements.new.block in
+    let put = c.put_elements.ensures in
     let within : rounds ≤ length ints = omega (arith, c.min.ensures, c.min-rounds.ensures) in
     let past : length ints ≤ rounds = omega (arith, c.if-rounds-left.false) in
     let room : rounds < c.args.space = omega (arith, c.min.ensures, c.min-rounds.ensures, c.if-rounds-space.false) in
     let may : 2 * rounds < c.args.most = omega (arith, c.min-rounds.ensures, c.if-rounds-most.false) in
-    let there : rounds < length put.new.block.flags = omega (arith, room, c.requires) in
-    let block : Written = record { flags = set put.new.block.flags rounds true; ints = put.new.block.ints } in
-    let told : Ty × List DueCell → Ty × List DueCell → Moved → Type 0 = λ old new made. MovesAlong seq_machine old new c.args.first c.args.second c.args.space c.args.most block made in
-    let old = paired (ty_of self.element) (map due_cell self.dues.items ++ left_dues (ty_of self.element) self.vector self.begun) in
-    let new = paired (ty_of self.element) (map due_cell self.dues.items ++ []) in
-    let before : old ≡ paired int_type (ints_due ints) = ints_held (ty_of self.element) self.dues.items self.vector self.begun self.begun 0 ints holds.none holds.element holds.left (omega arith) in
-    let after : new ≡ paired int_type [] = none_held (ty_of self.element) self.dues.items holds.none holds.element in
-    let moved = wrote_all ints rounds within put.new.block.flags put.new.block.ints put.ensures.flags put.ensures.ints c.args.first c.args.second c.args.space c.args.most past there room may in
-    subst (told old new) (sym c.wrote-2.ensures) (subst (λ s. told s new (rounds_made rounds 1)) (sym before) (subst (λ s. told (paired int_type (ints_due ints)) s (rounds_made rounds 1)) (sym after) moved))
+    let there : rounds < length block.flags = omega (arith, room, c.requires) in
+    let full : Written = record { flags = set block.flags rounds true; ints = block.ints } in
+    let before = ints_held (ty_of self.element) self.dues.items self.vector self.begun self.begun 0 ints holds.none holds.element holds.left (omega arith) in
+    let after = none_held (ty_of self.element) self.dues.items holds.none holds.element in
+    let front = fronts ints rounds block.flags block.ints within put.flags put.ints in
+    let moved = wrote_all ints rounds block.flags block.ints front c.args.first c.args.second c.args.space c.args.most past there room may in
+    moves_as c.args.first c.args.second c.args.space c.args.most full before after c.wrote-2.ensures moved
