@@ -97,7 +97,7 @@ module _ (p : Dialect × Reduction) where
       let m = reduce_machine in
       let one = single_first m p s (Element so_far) (flag false) (awaits_wants p s so_far awaits) (awaits_takes p s so_far awaits (flag false)) in
       let leads : state_after_item (on_kind (reduced_kind p.1) (λ k. at_element p.0 p.1 so_far (scalar_in k))) (int x) ≡ Ok (Flag more) =
-          element_is p.0 p.1 so_far (int x) ∙ ap (λ r. and_then r (λ held. Ok (Flag held))) is in
+      element_is p.0 p.1 so_far (int x) ∙ ap (λ r. and_then r (λ held. Ok (Flag held))) is in
       let two = single_second m p (Element so_far) (Flag more) (int x) refl leads in
       single_then m p (flag_signals (false ∷ [])) [] [] [] (int_signals (x ∷ [])) [] one two
 
@@ -116,8 +116,8 @@ module _ (p : Dialect × Reduction) where
       let both = single_then m p (flag_signals bs) (int_signals xs) (int_signals vs) (flag_signals cs) (int_signals ys) (int_signals ws) before after in
       let counts : 2 * length bs + 2 * length cs ≡ 2 * length (bs ++ cs) = omega (arith, length-append bs cs) in
       ran_as m p both (flag_signals (bs ++ cs)) (int_signals (xs ++ ys)) (only (int_signals (vs ++ ws))) (2 * length (bs ++ cs))
-          (sym (map-append (λ b. carry (flag b)) bs cs)) (sym (map-append (λ n. carry (int n)) xs ys))
-          (λ q. ap (λ l. only l q) (sym (map-append (λ n. carry (int n)) vs ws))) counts
+      (sym (map-append (λ b. carry (flag b)) bs cs)) (sym (map-append (λ n. carry (int n)) xs ys))
+      (λ q. ap (λ l. only l q) (sym (map-append (λ n. carry (int n)) vs ws))) counts
 
   -- elements, each after its flag
   elements_steps : (more : Option Scalar) (s : Stage) (so_far : Option Scalar) (x : ℤ) (xs : List ℤ) → AwaitsFlag p.1 s so_far →
@@ -225,5 +225,5 @@ sums_end total reached bs xs vs along dialect s awaits =
     let t = stage_of_sum s reached bs in
     let leads : Start ≡ stage_of_sum s (pos 0) (bs ++ true ∷ []) = sym (after_flag s (pos 0) bs true) in
     let both = subst (λ l. Reduces p s (bs ++ true ∷ []) l (vs ++ reached ∷ []) Start) (append-nil xs)
-        (joined p s t Start bs (true ∷ []) xs [] vs (reached ∷ []) before.0 (end_step p t reached before.1)) in
+    (joined p s t Start bs (true ∷ []) xs [] vs (reached ∷ []) before.0 (end_step p t reached before.1)) in
     (subst (Reduces p s (bs ++ true ∷ []) xs (vs ++ reached ∷ [])) leads both, subst (λ u. AwaitsFlag Sum u (Some (Int (pos 0)))) leads refl)

@@ -92,5 +92,5 @@ returns-clause-along c =
     let back : to_z w64 (of_z w64 c.args.total) ≡ c.args.total = search rules in
     let all : loop.place ≡ length bs = omega arith in
     let at_all = subst (λ n. SumsOfSegments (to_z w64 (of_z w64 c.args.total)) (take n bs) (take loop.read c.args.elements.now)
-        (take loop.ended loop.sums) (to_z w64 loop.reached-bits)) all loop.invariant.along in
+    (take loop.ended loop.sums) (to_z w64 loop.reached-bits)) all loop.invariant.along in
     subst (λ k. SumsOfSegments k (take (length bs) bs) (take loop.read c.args.elements.now) (take loop.ended loop.sums) (to_z w64 loop.reached-bits)) back at_all

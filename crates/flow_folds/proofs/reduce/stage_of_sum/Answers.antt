@@ -14,5 +14,5 @@ pub returns-else-flags-passed : goal.returns-else-flags-passed
 returns-else-flags-passed c =
     let fits : SFits w64 c.args.total = search rules in
     ap (λ k. Flag (Some (Int k))) (widened c.args.total fits)
-        ∙ sym (last_flag c.args.stage c.args.total c.args.flags.now c.args.passed false
-        (omega (arith, c.if-passed-eq0.false)) c.requires c.if-flags-passed.false)
+    ∙ sym (last_flag c.args.stage c.args.total c.args.flags.now c.args.passed false
+    (omega (arith, c.if-passed-eq0.false)) c.requires c.if-flags-passed.false)

@@ -26,4 +26,4 @@ returns-clause-along c =
     let block : take n (take ahead.result xs) ≡ take n xs = take-take n ahead.result xs fewer in
     let reduced : reduction_of_ints p.0 p.1 c.in-Some.so_far (take n xs) ≡ Ok more = ap (reduction_of_ints p.0 p.1 c.in-Some.so_far) (sym block) ∙ c.more_of-count.ensures.reduced in
     first_reduced p more c.args.stage c.in-Some.so_far bs xs n (omega (arith, c.if-count-eq0.false)) (omega (arith, fewer, ahead.ensures.shown))
-        (omega (arith, fewer, ahead.ensures.within)) (λ k h. ahead.ensures.ahead k (omega (arith, h, fewer))) c.in-Some.ensures reduced
+    (omega (arith, fewer, ahead.ensures.within)) (λ k h. ahead.ensures.ahead k (omega (arith, h, fewer))) c.in-Some.ensures reduced

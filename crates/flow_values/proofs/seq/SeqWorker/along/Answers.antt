@@ -23,7 +23,7 @@ returns-then-rounds-left c =
     let room : rounds ≤ c.args.space = omega (arith, c.min.ensures, c.min-rounds.ensures) in
     let may : 2 * rounds ≤ c.args.most = omega (arith, c.min-rounds.ensures) in
     let held = λ (place n : ℕ) (at : place ≡ self.begun + n).
-        ints_held (ty_of self.element) self.dues.items self.vector self.begun place n ints holds.none holds.element holds.left at in
+    ints_held (ty_of self.element) self.dues.items self.vector self.begun place n ints holds.none holds.element holds.left at in
     let before : view self ≡ paired int_type (ints_due ints) = held self.begun 0 (omega arith) in
     let after : view c.then-rounds-left.self ≡ paired int_type (ints_due (drop rounds ints)) = elim c.then-rounds-left.branch [
       | then-rounds-left-via-then-rounds-left w ↦ ap view w.self-is ∙ held (self.begun + rounds) rounds refl
