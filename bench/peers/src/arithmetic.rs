@@ -1,4 +1,5 @@
-//! Sums and products as the language has them: one that 64 bits do not hold is a fault.
+//! Sums, products and remainders as the language has them: one that 64 bits do not hold is a fault, and so is a
+//! remainder of a division by 0.
 
 /// Integers as the product holds them: of 128 bits, since its second dialect uses them all.
 pub type Wide = i128;
@@ -8,6 +9,7 @@ pub type Wide = i128;
 pub enum Operator {
     Add,
     Multiply,
+    Remainder,
 }
 
 impl Operator {
@@ -17,6 +19,7 @@ impl Operator {
         match self {
             Operator::Add => held(left + right),
             Operator::Multiply => held(left * right),
+            Operator::Remainder => left.checked_rem(right),
         }
     }
 }
@@ -38,5 +41,12 @@ mod tests {
         assert_eq!(Operator::Add.apply(most, 1), None);
         assert_eq!(Operator::Multiply.apply(most, -1), Some(-most));
         assert_eq!(Operator::Multiply.apply(most, 2), None);
+    }
+
+    #[test]
+    fn remainders_have_the_sign_of_the_left() {
+        assert_eq!(Operator::Remainder.apply(-7, 4), Some(-3));
+        assert_eq!(Operator::Remainder.apply(7, -4), Some(3));
+        assert_eq!(Operator::Remainder.apply(7, 0), None);
     }
 }

@@ -1,5 +1,5 @@
-//! Runs one of six programs by one of four peers of the product, none of which is proved, and prints the answer. The last
-//! two, which have vectors, run by the peers `vectors` and `plain` alone.
+//! Runs one of eight programs by one of four peers of the product, none of which is proved, and prints the answer. The
+//! last two, which have vectors, run by the peers `vectors` and `plain` alone.
 //!
 //!     peers PEER PROGRAM ELEMENTS CHUNK CAPACITY
 //!
@@ -24,8 +24,9 @@ use std::env;
 use std::process::ExitCode;
 use std::str::FromStr;
 
-const USAGE: &str =
-    "peers twin|vectors|plain|threads squares|wide|nest|deep|indices|sparse ELEMENTS CHUNK CAPACITY";
+const USAGE: &str = "\
+peers twin|vectors|plain|threads squares|wide|nest|deep|heavy|row ELEMENTS CHUNK CAPACITY
+peers vectors|plain sparse|indices ELEMENTS CHUNK CAPACITY";
 
 fn main() -> ExitCode {
     let words: Vec<String> = env::args().skip(1).collect();

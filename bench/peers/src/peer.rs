@@ -35,7 +35,7 @@ pub struct Settings {
 #[derive(Clone, Copy, Debug, PartialEq, Eq)]
 pub enum Answer {
     Value(Wide),
-    /// A number was beyond 64 bits.
+    /// A number was beyond 64 bits, or divided by 0.
     Fault,
     /// Nodes wait for one another, since an edge is full.
     Stalled,
@@ -110,11 +110,18 @@ mod tests {
             let rows = n / 8;
             let squares = |to: i128| (0..to).map(|x| x * x).sum::<i128>();
             let entry = |i: i128, j: i128| (j + i) * (j * 3 + 1);
+            let powers = |x: i128| (0..10).fold(x % 47, |x, _| x.pow(11) % 47);
+            let row = |x: i128| (0..10).fold(x, |x, _| (x + 1) * 3);
             let values = [
                 (Program::Squares, squares(n)),
                 (Program::Wide, 8 * squares(rows) + 28 * rows),
                 (Program::Nest, (0..n).map(|k| entry(k / 8, k % 8)).sum()),
                 (Program::Deep, (0..n).map(|x| x + 20).sum()),
+                (
+                    Program::Heavy,
+                    (0..n).map(|k| powers(k % rows + k / rows)).sum(),
+                ),
+                (Program::Row, (0..n).map(row).sum()),
             ];
             for (program, value) in values {
                 for answer in answers(program, elements) {
@@ -132,10 +139,11 @@ mod tests {
             capacity: 256,
         };
         for n in [0, 1, 9, 200] {
-            let entry = |i: i128, j: i128| (j + 1) * ((i * 7 + j * 13) % i128::from(n));
-            let entries = (0..i128::from(4 * n)).map(|k| entry(k / 4, k % 4));
+            let (elements, rows) = (i128::from(n), i128::from(n / 4));
+            let entry = |i: i128, j: i128| (j + 1) * ((i * 7 + j * 13) % rows);
+            let entries = (0..rows * 4).map(|k| entry(k / 4, k % 4));
             let values = [
-                (Program::Indices, (0..i128::from(n)).sum()),
+                (Program::Indices, (0..elements).sum()),
                 (Program::Sparse, entries.sum()),
             ];
             for (program, value) in values {

@@ -1,6 +1,9 @@
 //! Plain loops, which make no sequence. A vector is a slice, and its elements are read by their index.
 
-use crate::program::{Program, COLUMN_STEP, DEPTH, ENTRIES, ROW_STEP, SPARSE_ENTRIES, SUMS};
+use crate::program::{
+    Program, COLUMN_STEP, DEPTH, ENTRIES, FACTORS, MODULUS, PAIRS, POWERS, ROW_FACTOR, ROW_STEP,
+    ROW_TERM, SPARSE_ENTRIES, SUMS,
+};
 use std::hint::black_box;
 
 /// The value of the program, or none where a number is beyond 64 bits.
@@ -11,8 +14,10 @@ pub fn run(program: Program, elements: u32) -> Option<i64> {
         Program::Wide => wide(count / i64::from(SUMS)),
         Program::Nest => nest(count / i64::from(ENTRIES)),
         Program::Deep => deep(count),
+        Program::Heavy => heavy(count / i64::from(SUMS)),
+        Program::Row => row(count),
+        Program::Sparse => sparse(count / i64::from(SPARSE_ENTRIES)),
         Program::Indices => indices(count),
-        Program::Sparse => sparse(count),
     }
 }
 
@@ -53,6 +58,44 @@ fn deep(count: i64) -> Option<i64> {
         let mut element = x;
         for _ in 0..DEPTH {
             element = element.checked_add(1)?;
+        }
+        sum = sum.checked_add(element)?;
+    }
+    Some(sum)
+}
+
+fn heavy(count: i64) -> Option<i64> {
+    let mut sum = 0_i64;
+    for more in 0..i64::from(SUMS) {
+        sum = sum.checked_add(powers(count, more)?)?;
+    }
+    Some(sum)
+}
+
+fn powers(count: i64, more: i64) -> Option<i64> {
+    // The compiler is not to know how small the factors are, and make fewer multiplications of the hundred.
+    let modulus = black_box(MODULUS);
+    let mut sum = 0_i64;
+    for x in 0..count {
+        let mut element = x.checked_add(more)?.checked_rem(modulus)?;
+        for _ in 0..POWERS {
+            let mut power = element;
+            for _ in 1..FACTORS {
+                power = power.checked_mul(element)?;
+            }
+            element = power.checked_rem(modulus)?;
+        }
+        sum = sum.checked_add(element)?;
+    }
+    Some(sum)
+}
+
+fn row(count: i64) -> Option<i64> {
+    let mut sum = 0_i64;
+    for x in 0..count {
+        let mut element = x;
+        for _ in 0..PAIRS {
+            element = element.checked_add(ROW_TERM)?.checked_mul(ROW_FACTOR)?;
         }
         sum = sum.checked_add(element)?;
     }

@@ -1,15 +1,23 @@
-//! The programs, and the networks that the product makes of four of them.
+//! The programs, and the networks that the product makes of six of them.
 
 use crate::arithmetic::{Operator, Wide};
 use crate::network::{Network, Segments, Wire};
 use std::str::FromStr;
 
-/// How many sums `wide` has.
+/// How many sums `wide` and `heavy` have.
 pub const SUMS: u32 = 8;
 /// How many entries a row of `nest` has.
 pub const ENTRIES: u32 = 8;
 /// How many comprehensions `deep` has, one after another.
 pub const DEPTH: u32 = 20;
+/// How many powers `heavy` makes of an element, one of another, of how many factors, and modulo which prime.
+pub const POWERS: u32 = 10;
+pub const FACTORS: u32 = 11;
+pub const MODULUS: i64 = 47;
+/// How many times `row` adds a term to an element and then multiplies it by a factor.
+pub const PAIRS: u32 = 10;
+pub const ROW_TERM: i64 = 1;
+pub const ROW_FACTOR: i64 = 3;
 /// How many entries a row of `sparse` has.
 pub const SPARSE_ENTRIES: u32 = 4;
 /// How far the columns of a row of `sparse` lie apart, and those of a row and of the next.
@@ -28,12 +36,18 @@ pub enum Program {
     Nest,
     /// `reduce_add({x + 1 : x in .. {x + 1 : x in iota(n)} ..})`, with 20 comprehensions
     Deep,
+    /// `reduce_add({powers(x + 0) : x in iota(n / 8)}) + .. + reduce_add({powers(x + 7) : x in iota(n / 8)})`, where
+    /// `powers(x)` is `power(.. power(x % 47) ..)`, ten times, and `power(x)` is `x * .. * x % 47`, with eleven factors: a
+    /// hundred multiplications one after another.
+    Heavy,
+    /// `reduce_add({((.. (x + 1) * 3 ..) + 1) * 3 : x in iota(n)})`, with 20 operators
+    Row,
+    /// `let x = tab(iota(n / 4)) in
+    /// reduce_add({reduce_add({(j + 1) * (x ! ((i * 7 + j * 13) % (n / 4))) : j in iota(4)}) : i in iota(n / 4)})`: a sparse
+    /// matrix of rows with 4 entries times a vector as long as there are rows. Without a row it is 0.
+    Sparse,
     /// `let v = tab(iota(n)) in reduce_add({v ! i : i in iota(n)})`
     Indices,
-    /// `let x = tab(iota(n)) in
-    /// reduce_add({reduce_add({(j + 1) * (x ! ((i * 7 + j * 13) % n)) : j in iota(4)}) : i in iota(n)})`: a sparse matrix of n
-    /// rows with 4 entries times a vector of n. For no elements it is 0.
-    Sparse,
 }
 
 impl FromStr for Program {
@@ -45,8 +59,10 @@ impl FromStr for Program {
             "wide" => Ok(Program::Wide),
             "nest" => Ok(Program::Nest),
             "deep" => Ok(Program::Deep),
-            "indices" => Ok(Program::Indices),
+            "heavy" => Ok(Program::Heavy),
+            "row" => Ok(Program::Row),
             "sparse" => Ok(Program::Sparse),
+            "indices" => Ok(Program::Indices),
             _ => Err(()),
         }
     }
@@ -62,8 +78,10 @@ impl Program {
             Program::Wide => wide(&mut network, start, elements / SUMS),
             Program::Nest => nest(&mut network, start, elements / ENTRIES),
             Program::Deep => deep(&mut network, start, elements),
+            Program::Heavy => heavy(&mut network, start, elements / SUMS),
+            Program::Row => row(&mut network, start, elements),
             // No peer has a node for a vector.
-            Program::Indices | Program::Sparse => return None,
+            Program::Sparse | Program::Indices => return None,
         };
         network.print(sum);
         Some(network)
@@ -87,10 +105,21 @@ fn squares(network: &mut Network, start: Wire, count: u32) -> Wire {
 }
 
 fn wide(network: &mut Network, start: Wire, count: u32) -> Wire {
+    added_up(network, start, |network, start, more| {
+        squares_and_more(network, start, count, more)
+    })
+}
+
+/// Eight sums, to the elements of which 0 to 7 are added.
+fn added_up(
+    network: &mut Network,
+    start: Wire,
+    sum: impl Fn(&mut Network, Wire, Wide) -> Wire,
+) -> Wire {
     let starts: [Wire; SUMS as usize] = network.copies(start);
     let mut so_far = None;
     for (start, more) in starts.into_iter().zip(0..) {
-        let sum = squares_and_more(network, start, count, more);
+        let sum = sum(network, start, more);
         so_far = Some(match so_far {
             None => sum,
             Some(left) => network.binary(Operator::Add, left, sum),
@@ -146,6 +175,51 @@ fn deep(network: &mut Network, start: Wire, count: u32) -> Wire {
     network.sums(Segments { flags, elements })
 }
 
+fn heavy(network: &mut Network, start: Wire, count: u32) -> Wire {
+    added_up(network, start, |network, start, more| {
+        powers(network, start, count, more)
+    })
+}
+
+/// The sum of powers, where a number is added to each element before.
+fn powers(network: &mut Network, start: Wire, count: u32, more: Wide) -> Wire {
+    let Segments { flags, elements } = numbers(network, start, count);
+    let [for_units, flags] = network.copies(flags);
+    let units = network.units_of(for_units);
+    let [for_more, for_modulus, for_powers @ ..]: [Wire; POWERS as usize + 2] =
+        network.copies(units);
+    let more = network.constant(for_more, more);
+    let elements = network.binary(Operator::Add, elements, more);
+    let mut elements = remainders(network, elements, for_modulus);
+    for units in for_powers {
+        let [mut power, factors @ ..]: [Wire; FACTORS as usize] = network.copies(elements);
+        for factor in factors {
+            power = network.binary(Operator::Multiply, power, factor);
+        }
+        elements = remainders(network, power, units);
+    }
+    network.sums(Segments { flags, elements })
+}
+
+fn remainders(network: &mut Network, elements: Wire, units: Wire) -> Wire {
+    let modulus = network.constant(units, Wide::from(MODULUS));
+    network.binary(Operator::Remainder, elements, modulus)
+}
+
+fn row(network: &mut Network, start: Wire, count: u32) -> Wire {
+    let Segments { flags, elements } = numbers(network, start, count);
+    let [for_units, flags] = network.copies(flags);
+    let units = network.units_of(for_units);
+    let for_operators: [Wire; 2 * PAIRS as usize] = network.copies(units);
+    let operators = [(Operator::Add, ROW_TERM), (Operator::Multiply, ROW_FACTOR)];
+    let mut elements = elements;
+    for (units, (operator, number)) in for_operators.into_iter().zip(operators.iter().cycle()) {
+        let number = network.constant(units, Wide::from(*number));
+        elements = network.binary(*operator, elements, number);
+    }
+    network.sums(Segments { flags, elements })
+}
+
 #[cfg(test)]
 mod tests {
     use super::Program;
@@ -158,6 +232,8 @@ mod tests {
             (Program::Wide, 82, 112),
             (Program::Nest, 21, 27),
             (Program::Deep, 66, 86),
+            (Program::Heavy, 1_130, 2_040),
+            (Program::Row, 48, 68),
         ];
         for (program, nodes, edges) in sizes {
             let size = |it: Network| (it.places.len(), it.edges);
@@ -176,6 +252,8 @@ mod tests {
             Program::Wide,
             Program::Nest,
             Program::Deep,
+            Program::Heavy,
+            Program::Row,
         ] {
             let network = program.network(8).expect("each of these has one");
             let mut writers = vec![None; network.edges];

@@ -1,7 +1,10 @@
 //! Whole vectors: each operation reads vectors and makes one, as a plain implementation of a data-parallel language
 //! does. Constants are spread over vectors too.
 
-use crate::program::{Program, COLUMN_STEP, DEPTH, ENTRIES, ROW_STEP, SPARSE_ENTRIES, SUMS};
+use crate::program::{
+    Program, COLUMN_STEP, DEPTH, ENTRIES, FACTORS, MODULUS, PAIRS, POWERS, ROW_FACTOR, ROW_STEP,
+    ROW_TERM, SPARSE_ENTRIES, SUMS,
+};
 
 /// The value of the program, or none where a number is beyond 64 bits.
 pub fn run(program: Program, elements: u32) -> Option<i64> {
@@ -10,8 +13,10 @@ pub fn run(program: Program, elements: u32) -> Option<i64> {
         Program::Wide => wide(elements / SUMS),
         Program::Nest => nest(elements / ENTRIES),
         Program::Deep => deep(elements),
+        Program::Heavy => heavy(elements / SUMS),
+        Program::Row => row(elements),
+        Program::Sparse => sparse(elements / SPARSE_ENTRIES),
         Program::Indices => sum(&gathered(&iota(elements), &iota(elements))?),
-        Program::Sparse => sparse(elements),
     }
 }
 
@@ -52,6 +57,38 @@ fn deep(count: u32) -> Option<i64> {
     sum(&numbers)
 }
 
+fn heavy(count: u32) -> Option<i64> {
+    let mut so_far = 0_i64;
+    for more in 0..i64::from(SUMS) {
+        let numbers = iota(count);
+        let more = spread(more, numbers.len());
+        let elements = powers(&sums(&numbers, &more)?)?;
+        so_far = so_far.checked_add(sum(&elements)?)?;
+    }
+    Some(so_far)
+}
+
+fn powers(numbers: &[i64]) -> Option<Vec<i64>> {
+    let mut elements = remainders(numbers, &spread(MODULUS, numbers.len()))?;
+    for _ in 0..POWERS {
+        let mut power = products(&elements, &elements)?;
+        for _ in 2..FACTORS {
+            power = products(&power, &elements)?;
+        }
+        elements = remainders(&power, &spread(MODULUS, power.len()))?;
+    }
+    Some(elements)
+}
+
+fn row(count: u32) -> Option<i64> {
+    let mut numbers = iota(count);
+    for _ in 0..PAIRS {
+        numbers = sums(&numbers, &spread(ROW_TERM, numbers.len()))?;
+        numbers = products(&numbers, &spread(ROW_FACTOR, numbers.len()))?;
+    }
+    sum(&numbers)
+}
+
 fn sparse(rows: u32) -> Option<i64> {
     let vector = iota(rows);
     let lengths = vec![SPARSE_ENTRIES; rows as usize];
@@ -63,7 +100,7 @@ fn sparse(rows: u32) -> Option<i64> {
         &products(&entries, &spread(COLUMN_STEP, count))?,
     )?;
     let width = spread(i64::try_from(vector.len()).ok()?, count);
-    let columns = paired(&columns, &width, i64::checked_rem)?;
+    let columns = remainders(&columns, &width)?;
     let values = sums(&entries, &spread(1, count))?;
     let terms = products(&values, &gathered(&vector, &columns)?)?;
     sum(&segment_sums(&terms, &lengths)?)
@@ -112,6 +149,10 @@ fn total(lengths: &[u32]) -> usize {
 
 fn products(left: &[i64], right: &[i64]) -> Option<Vec<i64>> {
     paired(left, right, i64::checked_mul)
+}
+
+fn remainders(left: &[i64], right: &[i64]) -> Option<Vec<i64>> {
+    paired(left, right, i64::checked_rem)
 }
 
 fn sums(left: &[i64], right: &[i64]) -> Option<Vec<i64>> {

@@ -1,4 +1,4 @@
-//! What the nodes of the four networks do, each as a machine of its own.
+//! What the nodes of the networks do, each as a machine of its own.
 
 use crate::arithmetic::{Operator, Wide};
 use crate::message::Item;
