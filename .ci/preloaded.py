@@ -65,15 +65,15 @@ def may_answer(ran, right, in_threads):
     return ran.answer() in allowed[ran.refused] and right[0].startswith(ran.printed)
 
 
-def compiled(folder):
-    """The path of the preloaded library, which the kit's C compiler makes of hostile.c."""
-    path = os.path.join(folder, "hostile.so")
+def compiled(folder, name="hostile"):
+    """The path of a preloaded library, which the kit's C compiler makes of the file of this name."""
+    path = os.path.join(folder, f"{name}.so")
     kit = os.path.dirname(subprocess.check_output(["rt", "doc"], text=True).strip())
     compiler = os.path.join(kit, "toolchain", "bin", "clang")
     if not os.access(compiler, os.X_OK):
         sys.exit(f"the kit has no C compiler {compiler}, so nothing was tried")
     words = ["-O1", "-w", "-fno-builtin", "-shared", "-fPIC", "-nostdlib", "-fuse-ld=lld", "-o", path]
-    subprocess.run([compiler, *words, os.path.join(HERE, "hostile.c")], check=True)
+    subprocess.run([compiler, *words, os.path.join(HERE, f"{name}.c")], check=True)
     return path
 
 
