@@ -1,11 +1,15 @@
 -- What a dealing of nodes to shares loads on each share.
-use Rattle.std.specs.Prelude.{ℕ, zero, suc, ◌+◌, ◌<◌, ◌%◌, ◌++◌, ◌∷◌, [], List, cond, length, max, nat_eq, slice_index}
+use Rattle.std.specs.Prelude.{◌≡◌, ℕ, zero, suc, ◌+◌, ◌<◌, ◌%◌, ◌++◌, ◌∷◌, [], List, cond, length, max, nat_eq, slice_index}
 use Rattle.std.specs.List.{All, sum_by}
 use Rattle.flow_cut.specs.declared.link.Link.{Link}
 
 -- links between so many nodes
 abbrev pub AreBetween : ℕ → List Link → Type 0
 AreBetween nodes links = All (λ link. (link.writer < nodes) × (link.reader < nodes)) links
+
+-- each of so many nodes has one of so many shares
+abbrev pub IsDealing : (nodes threads : ℕ) → List ℕ → Type 0
+IsDealing nodes threads share = (length share ≡ nodes) × All (λ s. s < threads) share
 
 -- node k goes to share k, modulo how many there are
 abbrev pub by_turns : (threads nodes : ℕ) → List ℕ

@@ -1,9 +1,13 @@
 //! Dealing the nodes of a network to threads, so that the greatest load is small.
 #![tactic(auto)]
 
+mod cut;
 mod link;
 mod loads;
-pub mod starts;
+mod near;
+mod search;
+mod starts;
 
+pub use cut::deal_by_cut;
 pub use link::Link;
-pub use loads::{greatest_load, load};
+pub use loads::greatest_load;

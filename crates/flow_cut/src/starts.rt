@@ -1,7 +1,6 @@
 // Dealings from which a search begins.
 ghost use Rattle.std.specs.Prelude.{◌≡◌, ◌<◌, ◌≤◌, IfOk, length};
-ghost use Rattle.std.specs.List.{All};
-ghost use Rattle.flow_cut.specs.Loads.{by_turns};
+ghost use Rattle.flow_cut.specs.Loads.{IsDealing, by_turns};
 
 use std::alloc::{AllocError, Global};
 
@@ -10,8 +9,7 @@ pub fn by_turns(alloc: Global, nodes: usize, threads: usize) -> Result<Vec<u8>, 
     requires some { 0 < threads }
     requires limit { threads ≤ 256 }
     ensures is { IfOk result (λ share. share.items ≡ by_turns threads nodes) }
-    ensures each { IfOk result (λ share. length share.items ≡ nodes) }
-    ensures below { IfOk result (λ share. All (λ s. s < threads) share.items) }
+    ensures dealing { IfOk result (λ share. IsDealing nodes threads share.items) }
 {
     let mut share = Vec::with_capacity(alloc, nodes)?;
     for node in 0..nodes {
@@ -24,14 +22,13 @@ pub fn by_turns(alloc: Global, nodes: usize, threads: usize) -> Result<Vec<u8>, 
 pub fn in_runs(alloc: Global, work: &[u64], threads: usize) -> Result<Vec<u8>, AllocError>
     requires some { 0 < threads }
     requires limit { threads ≤ 256 }
-    ensures each { IfOk result (λ share. length share.items ≡ length work.now) }
-    ensures below { IfOk result (λ share. All (λ s. s < threads) share.items) }
+    ensures { IfOk result (λ share. IsDealing (length work.now) threads share.items) }
 {
     let mut all: u64 = 0;
     for &own in work {
         all = all.saturating_add(own);
     }
-    let part = all / threads as u64 + 1;
+    let part = (all / threads as u64).max(1);
     let mut share = Vec::with_capacity(alloc, work.len())?;
     let mut before: u64 = 0;
     for &own in work {
