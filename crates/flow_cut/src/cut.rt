@@ -63,13 +63,7 @@ fn improved(
 }
 
 // The second dealing where its greatest load is less, and else the first. Both are weighed anew, so nothing rests on the search.
-fn lighter(
-    work: &[u64],
-    links: &[Link],
-    threads: usize,
-    first: Vec<u8>,
-    second: Vec<u8>,
-) -> Vec<u8>
+fn lighter(work: &[u64], links: &[Link], threads: usize, first: Vec<u8>, second: Vec<u8>) -> Vec<u8>
     requires links { AreBetween (length work.now) links.now }
     requires first { IsDealing (length work.now) threads first.items }
     requires second { IsDealing (length work.now) threads second.items }
@@ -78,5 +72,9 @@ fn lighter(
         ≤ greatest_load work.now links.now first.items threads }
 {
     let most = greatest_load(work, links, &first, threads);
-    if greatest_load(work, links, &second, threads) < most { second } else { first }
+    if greatest_load(work, links, &second, threads) < most {
+        second
+    } else {
+        first
+    }
 }

@@ -7,7 +7,9 @@ mod loads;
 mod near;
 mod search;
 mod starts;
+#[cfg(test)]
+mod tests;
 
 pub use cut::deal_by_cut;
 pub use link::Link;
-pub use loads::greatest_load;
+pub use loads::{are_between, greatest_load};

@@ -1,10 +1,19 @@
 // The loads of a dealing.
-ghost use Rattle.std.specs.Prelude.{◌≡◌, length};
+ghost use Rattle.std.specs.Prelude.{◌≡◌, ◌↔◌, IsTrue, length};
 ghost use Rattle.std.specs.List.{sum_by};
 ghost use Rattle.std.specs.Io.Iter.{u64_saturate};
 ghost use Rattle.flow_cut.specs.Loads.{AreBetween, cost_to, greatest_load, load, work_of};
 
 use crate::link::Link;
+
+/// Whether each link is between two of so many nodes.
+pub fn are_between(nodes: usize, links: &[Link]) -> bool
+    ensures { IsTrue result ↔ AreBetween nodes links.now }
+{
+    links
+        .iter()
+        .all(|link| link.writer < nodes && link.reader < nodes)
+}
 
 /// The greatest load of so many shares. A load is the work of the share's nodes, and the cost of each link that joins one of
 /// them to a node of another share. It stays at `u64::MAX`.

@@ -14,11 +14,7 @@ pub struct Near {
 }
 
 /// The neighbours of each node.
-pub fn neighbours(
-    alloc: Global,
-    nodes: usize,
-    links: &[Link],
-) -> Result<Vec<Vec<Near>>, AllocError>
+pub fn neighbours(alloc: Global, nodes: usize, links: &[Link]) -> Result<Vec<Vec<Near>>, AllocError>
     requires { AreBetween nodes links.now }
     ensures { IfOk result (λ near. AreNear nodes near.items) }
 {
@@ -27,8 +23,7 @@ pub fn neighbours(
         writer,
         reader,
         cost,
-    } in links
-    {
+    } in links {
         if writer != reader {
             near[writer].push(Near { node: reader, cost })?;
             near[reader].push(Near { node: writer, cost })?;

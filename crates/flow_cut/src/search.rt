@@ -107,8 +107,14 @@ fn try_nodes(
 {
     let before = (loads[from], loads[to]);
     for &node in nodes {
-        (loads[from], loads[to]) =
-            after(work[node], &near[node], share, (loads[from], loads[to]), from, to);
+        (loads[from], loads[to]) = after(
+            work[node],
+            &near[node],
+            share,
+            (loads[from], loads[to]),
+            from,
+            to,
+        );
         share[node] = to as u8;
     }
     if is_less((loads[from], loads[to]), before) {
@@ -136,8 +142,16 @@ fn after(
     let mut right = loads.1.saturating_add(work);
     for &Near { node, cost } in near {
         let beside = share[node] as usize;
-        left = if beside == from { left.saturating_add(cost) } else { left.saturating_sub(cost) };
-        right = if beside == to { right.saturating_sub(cost) } else { right.saturating_add(cost) };
+        left = if beside == from {
+            left.saturating_add(cost)
+        } else {
+            left.saturating_sub(cost)
+        };
+        right = if beside == to {
+            right.saturating_sub(cost)
+        } else {
+            right.saturating_add(cost)
+        };
     }
     (left, right)
 }
@@ -146,6 +160,5 @@ fn after(
 fn is_less(these: (u64, u64), those: (u64, u64)) -> bool {
     let most = these.0.max(these.1);
     let most_of_those = those.0.max(those.1);
-    most < most_of_those
-        || most == most_of_those && these.0.min(these.1) < those.0.min(those.1)
+    most < most_of_those || most == most_of_those && these.0.min(these.1) < those.0.min(those.1)
 }
