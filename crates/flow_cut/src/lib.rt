@@ -13,3 +13,4 @@ mod tests;
 pub use cut::deal_by_cut;
 pub use link::Link;
 pub use loads::{are_between, greatest_load};
+pub use starts::by_turns;
