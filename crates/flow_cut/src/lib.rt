@@ -7,8 +7,6 @@ mod loads;
 mod near;
 mod search;
 mod starts;
-#[cfg(test)]
-mod tests;
 
 pub use cut::deal_by_cut;
 pub use link::Link;

@@ -5,6 +5,8 @@
 mod bench;
 pub mod building;
 #[cfg(test)]
+mod cuts;
+#[cfg(test)]
 mod driving;
 #[cfg(test)]
 mod graphs;

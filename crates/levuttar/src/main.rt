@@ -4,6 +4,7 @@
 mod checking;
 mod choosing;
 mod command_line;
+mod dealing;
 mod drawing;
 mod formatting;
 mod piping;

@@ -2,6 +2,7 @@
 
 use crate::choosing::{GREATER, explain, gives_capacity};
 use crate::command_line::config_of;
+use crate::dealing::deal_out;
 use crate::reading::{Job, read_job};
 use crate::saying::{say_fault, say_plainly, say_refused};
 use crate::stalling::{say_again, say_stall};
@@ -24,7 +25,7 @@ pub(crate) fn run_file<
     W: Write,
     E: Write,
 >(rt: &H, matches: &ArgMatches<'_>, stdin: R, out: &mut Counted<W>, err: &mut Voice<'_, E>) -> u8 {
-    let config = match config_of(rt.alloc(), matches) {
+    let mut config = match config_of(rt.alloc(), matches) {
         Ok(config) => config,
         Err(refusal) => return say_refused(rt.alloc(), refusal, &Job::none(rt.alloc()), err),
     };
@@ -32,7 +33,9 @@ pub(crate) fn run_file<
         Ok(job) => job,
         Err(status) => return status,
     };
-    if explain(rt.alloc(), matches, err).is_err() {
+    if explain(rt.alloc(), matches, err).is_err()
+        || deal_out(rt.alloc(), matches, &job, &mut config, err).is_err()
+    {
         return say_plainly(Refusal::NoMemory, err);
     }
     let (ended, chunk) = ended_by_growth(rt, matches, &job, config, out, err);
