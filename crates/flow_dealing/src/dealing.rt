@@ -1,8 +1,13 @@
 // Dealing by a trial.
-ghost use Rattle.std.specs.Prelude.{◌<◌, ◌≤◌, IfOk, length};
+ghost use Rattle.std.specs.Prelude.{◌≡◌, ◌<◌, ◌≤◌, IfOk, length};
+ghost use Rattle.std.specs.Io.Iter.{u64_saturate};
+ghost use Rattle.std.specs.List.{sum};
 ghost use Rattle.flow_messages.specs.Limits.{greatest_capacity};
-ghost use Rattle.flow_networks.specs.Graphs.{states_of};
+ghost use Rattle.flow_networks.specs.Graphs.{edges_of, states_of};
+ghost use Rattle.flow_networks.specs.Networks.{AreOpened};
+ghost use Rattle.flow_nodes.specs.StreamNodes.{node_behaviour};
 ghost use Rattle.flow_cut.specs.Loads.{IsDealing};
+ghost use Rattle.flow_dealing.specs.Weights.{IsWeighed};
 
 use crate::trial::run_trial;
 use crate::weights::weights;
@@ -34,12 +39,16 @@ pub fn deal_by_trial(
     capacity: usize,
     threads: usize,
 ) -> Result<Dealing, AllocError>
+    requires opened { AreOpened node_behaviour (states_of graph) }
     requires some { 0 < capacity }
     requires limit { capacity ≤ greatest_capacity }
     requires threads { 0 < threads }
     requires few { threads ≤ 256 }
-    ensures { IfOk result
+    ensures dealing { IfOk result
         (λ dealing. IsDealing (length (states_of graph)) threads dealing.share.items) }
+    ensures weighed { IfOk result
+        (IsWeighed node_behaviour capacity threads (states_of graph) (edges_of graph)) }
+    ensures load { IfOk result (λ dealing. dealing.load ≤ dealing.by_turns) }
 {
     let mut graph = graph;
     let counts = run_trial(alloc, &mut graph, capacity)?;
@@ -55,7 +64,9 @@ pub fn deal_by_trial(
 }
 
 // The sum, which stays at `u64::MAX`.
-fn sum(work: &[u64]) -> u64 {
+fn sum(work: &[u64]) -> u64
+    ensures { result ≡ u64_saturate (sum work.now) }
+{
     let mut sum: u64 = 0;
     for own in work {
         sum = sum.saturating_add(*own);

@@ -1,7 +1,9 @@
 // The work of nodes, and what edges cost.
-ghost use Rattle.std.specs.Prelude.{◌≡◌, ◌<◌, IfOk, length};
+ghost use Rattle.std.specs.Prelude.{◌≡◌, ◌<◌, ◌≤◌, ℕ, IfOk, length, slice_index};
+ghost use Rattle.flow_networks.specs.Edges.{edge_at};
 ghost use Rattle.flow_networks.specs.Graphs.{edges_of, states_of};
 ghost use Rattle.flow_cut.specs.Loads.{AreBetween};
+ghost use Rattle.flow_dealing.specs.Weights.{CostFor, HaveWork, JoinAs};
 
 use crate::prices::{crossing_price, price};
 use flow_base::Transducer;
@@ -11,30 +13,40 @@ use flow_networks::{Edge, Graph, graph_is_a_network};
 use flow_nodes::StreamNode;
 use std::alloc::{AllocError, Global};
 
-/// The work of each node of a graph, over whose edges so many messages go, and its edges as links. Of an edge without a count
-/// none goes, and one more of each than is counted, since a run may have been left before the first.
+/// The work of each node of a graph, over whose edges so many messages go, and its edges as links.
 pub fn weights(
     alloc: Global,
     graph: &Graph<StreamNode>,
     counts: &[u64],
 ) -> Result<(Vec<u64>, Vec<Link>), AllocError>
+    requires each { length counts.now ≡ length (edges_of graph.now) }
     ensures work { IfOk result (λ r. length r.0.items ≡ length (states_of graph.now)) }
-    ensures links { IfOk result (λ r. AreBetween (length (states_of graph.now)) r.1.items) }
+    ensures busy { IfOk result (λ r. (e : ℕ) → e < length (edges_of graph.now) →
+        HaveWork counts.now (edges_of graph.now) r.0.items e) }
+    ensures between { IfOk result (λ r. AreBetween (length (states_of graph.now)) r.1.items) }
+    ensures joins { IfOk result (λ r. JoinAs (edges_of graph.now) r.1.items) }
+    ensures costs { IfOk result (λ r. CostFor counts.now r.1.items) }
 {
     let mut work = no_work(alloc, graph.nodes())?;
     let mut links = Vec::with_capacity(alloc, graph.edges())?;
     for number in 0..graph.edges() {
         let (edge, kind) = edge_with_kind(graph, number);
         let Edge { writer, reader, .. } = edge;
-        let messages = counts.get(number).copied().unwrap_or(0).saturating_add(1);
-        let written = messages.saturating_mul(price(graph.node(writer), kind));
-        let read = messages.saturating_mul(price(graph.node(reader), kind));
-        work[writer] = work[writer].saturating_add(written);
-        work[reader] = work[reader].saturating_add(read);
+        let count = counts[number];
+        add_work(
+            &mut work,
+            writer,
+            cost(count, price(graph.node(writer), kind)),
+        );
+        add_work(
+            &mut work,
+            reader,
+            cost(count, price(graph.node(reader), kind)),
+        );
         links.push(Link {
             writer,
             reader,
-            cost: messages.saturating_mul(crossing_price(kind)),
+            cost: cost(count, crossing_price(kind)),
         })?;
     }
     Ok((work, links))
@@ -43,6 +55,7 @@ pub fn weights(
 // The edge of this number, and the kind of its items.
 fn edge_with_kind(graph: &Graph<StreamNode>, number: usize) -> (Edge, Kind)
     requires { number < length (edges_of graph.now) }
+    ensures edge { result.0 ≡ edge_at (edges_of graph.now) number }
     ensures writer { result.0.writer < length (states_of graph.now) }
     ensures reader { result.0.reader < length (states_of graph.now) }
 {
@@ -50,6 +63,26 @@ fn edge_with_kind(graph: &Graph<StreamNode>, number: usize) -> (Edge, Kind)
     let edge = graph.edge(number);
     let kind = graph.node(edge.writer).kind_out(edge.writer_port);
     (edge, kind)
+}
+
+// What so many messages cost at this price, and one more, since the run may have been left before the first. It stays at
+// `u64::MAX`.
+fn cost(count: u64, price: u64) -> u64
+    requires { 0 < price }
+    ensures some { 0 < result }
+    ensures enough { count ≤ result }
+{
+    count.saturating_add(1).saturating_mul(price)
+}
+
+// Adds to the work of a node. It stays at `u64::MAX`.
+fn add_work(work: &mut [u64], node: usize, more: u64)
+    requires { node < length work.old }
+    ensures nodes { length work.new ≡ length work.old }
+    ensures own { more ≤ slice_index work.new node }
+    ensures all { (k : ℕ) → slice_index work.old k ≤ slice_index work.new k }
+{
+    work[node] = work[node].saturating_add(more);
 }
 
 // No work of so many nodes.

@@ -1,0 +1,44 @@
+use Rattle.std.proofs.Common.{◌≡◌, length, ◌∙◌, ap, subst, arith}
+use Rattle.flow_messages.specs.Tables.{ends_of}
+use Rattle.flow_networks.specs.Graphs.{edges_of, states_of}
+use Rattle.flow_networks.proofs.Passes.{reached_first}
+use Rattle.flow_networks.proofs.VisitedGraphs.{fresh_all_ends}
+use Rattle.flow_dealing.specs.Counts.{AreCounts}
+use Rattle.flow_dealing.proofs.Runs.{counted, same_at_first, same_run}
+use Rattle.flow_dealing.proofs.trial.run_trial.Goals as goal
+use Rattle.flow_dealing.proofs.trial.run_trial.Goals.{else-loop-test, then-loop-test+in_ok-made+then-made-eq0}
+
+pub loop-init : goal.loop-init
+loop-init g c =
+    let graph = c.args.graph.now in
+    let table = c.in_ok-ends.ends in
+    let fresh = rw c.edges.ensures at c.in_ok-ends.ensures.fresh in
+    record {
+      network = same_at_first g.T.Transducer.behaviour (states_of graph) (edges_of graph);
+      capacity = c.in_ok-ends.ensures.capacity;
+      there = fresh_all_ends (length (edges_of graph)) (ends_of table) fresh;
+      reached = reached_first g.T.Transducer.behaviour c.args.capacity (states_of graph) (edges_of graph) (ends_of table) c.requires.opened fresh;
+    }
+
+pub returns-clause-counts : goal.returns-clause-counts
+returns-clause-counts g c =
+    let b = g.T.Transducer.behaviour in
+    let graph = c.args.graph.now in
+    let now = c.loop-test in
+    let inv = c.loop.invariant in
+    let n = c.loop-edge.edge in
+    let counts = c.loop-edge.counts.items in
+    let all : n ≡ length (edges_of now.graph) = omega (arith, c.loop-edge-test.false, c.loop-edge.auto.edge-end, c.edges-edge-end.ensures) in
+    elim now.branch [
+      | else-loop-test w ↦ counted b c.args.capacity (states_of graph) (edges_of graph) n (edges_of c.loop.graph) (states_of c.loop.graph) (ends_of c.loop.ends) counts
+          (all ∙ ap (λ of. length (edges_of of)) w.graph-is) inv.network.same_edges inv.reached
+          (subst (λ t. AreCounts n (ends_of t) counts) w.ends-is c.loop-edge.invariant)
+      | then-loop-test+in_ok-made+then-made-eq0 w ↦
+          let later = w.pass.new.graph in
+          let shape = w.pass.ensures.shape in
+          counted b c.args.capacity (states_of graph) (edges_of graph) n (edges_of later) (states_of later) (ends_of w.pass.new.ends) counts
+          (all ∙ ap (λ of. length (edges_of of)) w.graph-is) (shape.network.same_edges ∙ inv.network.same_edges)
+          (same_run b c.args.capacity (states_of graph) (edges_of graph) c.loop.ends.capacity (states_of c.loop.graph) (edges_of c.loop.graph) (states_of later) (ends_of w.pass.new.ends)
+          inv.network inv.capacity w.in_ok-made.ensures.reached)
+          (subst (λ t. AreCounts n (ends_of t) counts) w.ends-is c.loop-edge.invariant)
+    ]
