@@ -1,4 +1,4 @@
-// The name that may be meant by one that is not bound: those in reach first, then the others.
+// The name that may be meant by one that is not bound: those that may stand there first, then the others.
 
 ghost use Rattle.std.specs.Prelude.{◌<◌, ◌≤◌, length};
 
@@ -6,18 +6,18 @@ use crate::tokens::{BUILT_INS, begins_word, is_among, stands_in};
 use snesl_data::word_len;
 use snesl_grammar::Program;
 use snesl_look::{near_name as near_anywhere, nearest_of};
-use snesl_reach::{Reach, names_in_reach};
+use snesl_reach::{Candidates, candidates_at};
 use snesl_tree::Span;
 use std::alloc::{AllocError, Global};
 
-// The name in reach that is meant by a name at a place, or else another one of the program, if one is.
+// The candidate that is meant by a name at a place, or else another one of the program, if one is.
 pub(crate) fn near_name(
     alloc: Global,
     program: &Program,
     at: usize,
     name: &[u8],
 ) -> Result<Option<Vec<u8>>, AllocError> {
-    let names = spelled_in_reach(alloc, program, at)?;
+    let names = spelled_candidates(alloc, program, at)?;
     if let Some(near) = near_among(alloc, &names, name)? {
         return Ok(Some(near));
     }
@@ -36,17 +36,17 @@ fn is_of_one_letter(name: &[u8]) -> bool {
     name.len() < 2
 }
 
-// The names in reach, as the program spells them. Where a function is called the built-in ones are in reach too.
-fn spelled_in_reach(
+// The candidates, as the program spells them. Where a function is called the built-in ones may stand too.
+fn spelled_candidates(
     alloc: Global,
     program: &Program,
     at: usize,
 ) -> Result<Vec<Vec<u8>>, AllocError> {
     let text = program.text.as_slice();
     let mut names = Vec::new(alloc);
-    match names_in_reach(alloc, program, at)? {
-        Some(Reach::Values(places)) => append_spelled(alloc, &mut names, text, &places)?,
-        Some(Reach::Functions(places)) => {
+    match candidates_at(alloc, program, at)? {
+        Some(Candidates::Values(places)) => append_spelled(alloc, &mut names, text, &places)?,
+        Some(Candidates::Functions(places)) => {
             append_spelled(alloc, &mut names, text, &places)?;
             append_built_ins(alloc, &mut names)?;
         }

@@ -9,27 +9,27 @@ use Rattle.snesl_tree.specs.declared.expr.Expr.{Expr, Each}
 use Rattle.snesl_tree.specs.Tree.{each, always, only_where}
 use Rattle.snesl_tree.specs.View.{tree_of, binders_of, declaration_of}
 use Rattle.snesl_tree.proofs.Arguments.{binders_row}
-use Rattle.snesl_reach.specs.Reach.{Names, around, bound_by, reach_bound, reach_declared, reach_in, reach_in_bodies}
+use Rattle.snesl_reach.specs.Candidates.{CandidateNames, around, bound_by, candidates_in, candidates_in_bodies, candidates_in_declaration, candidates_in_sources}
 use Rattle.snesl_reach.specs.View.{names_of}
-use Rattle.snesl_reach.specs.declared.names.Reach.{Reach}
+use Rattle.snesl_reach.specs.declared.names.Candidates.{Candidates}
 
 -- the first of two that is found is the one
-pub either_seen : (a b whole : Option Reach) (p q : Option Names) → whole ≡ option_or a b → option_map names_of a ≡ p → option_map names_of b ≡ q
+pub either_seen : (a b whole : Option Candidates) (p q : Option CandidateNames) → whole ≡ option_or a b → option_map names_of a ≡ p → option_map names_of b ≡ q
     → option_map names_of whole ≡ option_or p q
 either_seen None b whole p q is e f = ap (option_map names_of) is ∙ f ∙ ap (λ o. option_or o q) e
 either_seen (Some x) b whole p q is e f = ap (option_map names_of) is ∙ ap (λ o. option_or o q) e
 
 -- of a comprehension
-pub reach_in-Each : (at start : ℕ) (body : Box Expr Global) (binders : Vec Binder Global) (cond : _)
-    → reach_in at (tree_of (Each start body binders cond))
-    ≡ option_or (option_map (around (bound_by (binders_of binders.items))) (option_or (reach_in at (tree_of body.value))
-    (option_and_then (λ one. reach_in at (tree_of one.value)) cond))) (reach_bound at (binders_of binders.items))
-reach_in-Each at start body binders None = ap (λ b. reach_in at (each start (tree_of body.value) b always)) (binders_row binders)
-reach_in-Each at start body binders (Some cond) = ap (λ b. reach_in at (each start (tree_of body.value) b (only_where (tree_of cond.value)))) (binders_row binders)
+pub candidates_in-Each : (at start : ℕ) (body : Box Expr Global) (binders : Vec Binder Global) (cond : _)
+    → candidates_in at (tree_of (Each start body binders cond))
+    ≡ option_or (option_map (around (bound_by (binders_of binders.items))) (option_or (candidates_in at (tree_of body.value))
+    (option_and_then (λ one. candidates_in at (tree_of one.value)) cond))) (candidates_in_sources at (binders_of binders.items))
+candidates_in-Each at start body binders None = ap (λ b. candidates_in at (each start (tree_of body.value) b always)) (binders_row binders)
+candidates_in-Each at start body binders (Some cond) = ap (λ b. candidates_in at (each start (tree_of body.value) b (only_where (tree_of cond.value)))) (binders_row binders)
 
 -- in the functions from one on, which sees those before it
-abbrev pub bodies_from : ℕ → List Declaration → ℕ → Option Names
-bodies_from at all i = reach_in_bodies at (map declaration_of (take i all)) (map declaration_of (drop i all))
+abbrev pub bodies_from : ℕ → List Declaration → ℕ → Option CandidateNames
+bodies_from at all i = candidates_in_bodies at (map declaration_of (take i all)) (map declaration_of (drop i all))
 
 one_earlier : (all : List Declaration) (i : ℕ) (one : Declaration) → i < length all → one ≡ get_or all i one
     → map declaration_of (take i all) ++ declaration_of one ∷ [] ≡ map declaration_of (take (i + 1) all)
@@ -39,11 +39,11 @@ one_earlier all i one l is =
 
 -- in this function or in those after it
 pub bodies_at : (at : ℕ) (all : List Declaration) (i : ℕ) (one : Declaration) → i < length all → one ≡ get_or all i one
-    → bodies_from at all i ≡ option_or (reach_declared at (map declaration_of (take i all)) (declaration_of one)) (bodies_from at all (i + 1))
+    → bodies_from at all i ≡ option_or (candidates_in_declaration at (map declaration_of (take i all)) (declaration_of one)) (bodies_from at all (i + 1))
 bodies_at at all i one l is =
     let earlier = map declaration_of (take i all) in
     let others = drop (i + 1) all in
     let rest : drop i all ≡ one ∷ others = drop-cons all i one l ∙ ap (λ x. x ∷ drop (suc i) all) (sym is) ∙ ap (λ k. one ∷ drop k all) (sym (add-one i)) in
-    ap (λ l. reach_in_bodies at earlier (map declaration_of l)) rest
-    ∙ ap (λ before. option_or (reach_declared at earlier (declaration_of one)) (reach_in_bodies at before (map declaration_of others)))
+    ap (λ l. candidates_in_bodies at earlier (map declaration_of l)) rest
+    ∙ ap (λ before. option_or (candidates_in_declaration at earlier (declaration_of one)) (candidates_in_bodies at before (map declaration_of others)))
     (one_earlier all i one l is)

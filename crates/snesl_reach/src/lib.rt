@@ -5,5 +5,5 @@
 pub mod names;
 pub mod search;
 
-pub use names::Reach;
-pub use search::names_in_reach;
+pub use names::Candidates;
+pub use search::candidates_at;

@@ -2,7 +2,7 @@
 
 ghost use Rattle.std.specs.Prelude.{◌≡◌, ◌++◌, ◌==◌, [], ◌∷◌, Some, None, IfOk, OnOk, if◌then◌else◌, map, option_map};
 ghost use Rattle.snesl_tree.specs.View.{binders_of, declaration_of, typed_of};
-ghost use Rattle.snesl_reach.specs.Reach.{around, bound_by, enclosed, functions, functions_among, inputs_among, places_of, values};
+ghost use Rattle.snesl_reach.specs.Candidates.{around, bound_by, enclosed, functions, functions_among, inputs_among, places_of, values};
 ghost use Rattle.snesl_reach.specs.View.{names_of};
 
 use snesl_tree::{Binder, Declaration, Span, Typing};
@@ -10,42 +10,45 @@ use std::alloc::{AllocError, Global};
 
 /// The names that may stand at a place, each as it stands in the text of the program where it is bound or declared.
 #[derive(Debug, Drop)]
-pub enum Reach {
+pub enum Candidates {
     /// Of values, innermost first: binders and names of `let`, then parameters, or inputs.
     Values(Vec<Span>),
-    /// Of functions: those declared before, in order. The built-in ones are in reach too.
+    /// Of functions: those declared before, in order. The built-in ones may stand there too.
     Functions(Vec<Span>),
 }
 
 // Around a variable that stands at the offset nothing is bound yet.
-pub(crate) fn variable_here(alloc: Global, name: Span, at: usize) -> Option<Reach>
+pub(crate) fn variable_here(alloc: Global, name: Span, at: usize) -> Option<Candidates>
     ensures { option_map names_of result ≡ (if name.at == at then Some (values []) else None) }
 {
     if name.at == at {
-        return Some(Reach::Values(Vec::new(alloc)));
+        return Some(Candidates::Values(Vec::new(alloc)));
     }
     None
 }
 
 // And the same before a function that is called there.
-pub(crate) fn function_here(alloc: Global, name: Span, at: usize) -> Option<Reach>
+pub(crate) fn function_here(alloc: Global, name: Span, at: usize) -> Option<Candidates>
     ensures { option_map names_of result ≡ (if name.at == at then Some (functions []) else None) }
 {
     if name.at == at {
-        return Some(Reach::Functions(Vec::new(alloc)));
+        return Some(Candidates::Functions(Vec::new(alloc)));
     }
     None
 }
 
 // With a name that is bound around these.
-pub(crate) fn with_name(found: Option<Reach>, name: Span) -> Result<Option<Reach>, AllocError>
+pub(crate) fn with_name(
+    found: Option<Candidates>,
+    name: Span,
+) -> Result<Option<Candidates>, AllocError>
     ensures { IfOk result (λ made. option_map names_of made
         ≡ option_map (around (name ∷ [])) (option_map names_of found)) }
 {
     match found {
-        Some(Reach::Values(mut names)) => {
+        Some(Candidates::Values(mut names)) => {
             names.push(name)?;
-            Ok(Some(Reach::Values(names)))
+            Ok(Some(Candidates::Values(names)))
         }
         other => Ok(other),
     }
@@ -53,16 +56,16 @@ pub(crate) fn with_name(found: Option<Reach>, name: Span) -> Result<Option<Reach
 
 // With the names of binders.
 pub(crate) fn with_binders(
-    found: Option<Reach>,
+    found: Option<Candidates>,
     binders: &[Binder],
-) -> Result<Option<Reach>, AllocError>
+) -> Result<Option<Candidates>, AllocError>
     ensures { IfOk result (λ made. option_map names_of made
         ≡ option_map (around (bound_by (binders_of binders.now))) (option_map names_of found)) }
 {
     match found {
-        Some(Reach::Values(mut names)) => {
+        Some(Candidates::Values(mut names)) => {
             append_binders(&mut names, binders)?;
-            Ok(Some(Reach::Values(names)))
+            Ok(Some(Candidates::Values(names)))
         }
         other => Ok(other),
     }
@@ -70,22 +73,22 @@ pub(crate) fn with_binders(
 
 // With the parameters of the function around these, or the functions before it.
 pub(crate) fn with_parameters(
-    found: Option<Reach>,
+    found: Option<Candidates>,
     parameters: &[Typing],
     earlier: &[Declaration],
-) -> Result<Option<Reach>, AllocError>
+) -> Result<Option<Candidates>, AllocError>
     ensures { IfOk result (λ made. option_map names_of made
         ≡ option_map (enclosed (places_of (map typed_of parameters.now))
         (functions_among (map declaration_of earlier.now))) (option_map names_of found)) }
 {
     match found {
-        Some(Reach::Values(mut names)) => {
+        Some(Candidates::Values(mut names)) => {
             append_parameters(&mut names, parameters)?;
-            Ok(Some(Reach::Values(names)))
+            Ok(Some(Candidates::Values(names)))
         }
-        Some(Reach::Functions(mut names)) => {
+        Some(Candidates::Functions(mut names)) => {
             append_functions(&mut names, earlier)?;
-            Ok(Some(Reach::Functions(names)))
+            Ok(Some(Candidates::Functions(names)))
         }
         None => Ok(None),
     }
@@ -93,21 +96,21 @@ pub(crate) fn with_parameters(
 
 // With the inputs, or all functions.
 pub(crate) fn with_inputs(
-    found: Option<Reach>,
+    found: Option<Candidates>,
     declarations: &[Declaration],
-) -> Result<Option<Reach>, AllocError>
+) -> Result<Option<Candidates>, AllocError>
     ensures { IfOk result (λ made. option_map names_of made
         ≡ option_map (enclosed (inputs_among (map declaration_of declarations.now))
         (functions_among (map declaration_of declarations.now))) (option_map names_of found)) }
 {
     match found {
-        Some(Reach::Values(mut names)) => {
+        Some(Candidates::Values(mut names)) => {
             append_inputs(&mut names, declarations)?;
-            Ok(Some(Reach::Values(names)))
+            Ok(Some(Candidates::Values(names)))
         }
-        Some(Reach::Functions(mut names)) => {
+        Some(Candidates::Functions(mut names)) => {
             append_functions(&mut names, declarations)?;
-            Ok(Some(Reach::Functions(names)))
+            Ok(Some(Candidates::Functions(names)))
         }
         None => Ok(None),
     }

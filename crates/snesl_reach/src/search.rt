@@ -4,11 +4,11 @@ ghost use Rattle.std.specs.Prelude.{◌≡◌, [], IfOk, map, option_map};
 ghost use Rattle.std.specs.Option.{option_and_then, option_or};
 ghost use Rattle.snesl_grammar.specs.View.{program_of};
 ghost use Rattle.snesl_tree.specs.View.{binders_of, declaration_of, tree_of, trees_of};
-ghost use Rattle.snesl_reach.specs.Reach.{around, bound_by, in_reach, reach_among, reach_bound, reach_declared, reach_in, reach_in_bodies};
+ghost use Rattle.snesl_reach.specs.Candidates.{around, bound_by, candidates_among, candidates_at, candidates_in, candidates_in_bodies, candidates_in_declaration, candidates_in_sources};
 ghost use Rattle.snesl_reach.specs.View.{names_of};
 
 use crate::names::{
-    Reach, function_here, variable_here, with_binders, with_inputs, with_name, with_parameters,
+    Candidates, function_here, variable_here, with_binders, with_inputs, with_name, with_parameters,
 };
 use snesl_grammar::Program;
 use snesl_tree::{Binder, Declaration, Expr};
@@ -17,32 +17,32 @@ use std::alloc::{AllocError, Global};
 /// The names that may stand where a variable or a called function stands in a program: of values those that are bound around it,
 /// of functions those that are declared before it. `None` where neither stands at the offset. The error is that memory was
 /// refused.
-pub fn names_in_reach(
+pub fn candidates_at(
     alloc: Global,
     program: &Program,
     at: usize,
-) -> Result<Option<Reach>, AllocError>
+) -> Result<Option<Candidates>, AllocError>
     ensures { IfOk result (λ found. option_map names_of found
-        ≡ in_reach (program_of program.now) at) }
+        ≡ candidates_at (program_of program.now) at) }
 {
     let declarations = program.declarations.as_slice();
-    let declared = reach_in_bodies(alloc, declarations, at)?;
-    let last = with_inputs(reach_in(alloc, &program.expr, at)?, declarations)?;
+    let declared = candidates_in_bodies(alloc, declarations, at)?;
+    let last = with_inputs(candidates_in(alloc, &program.expr, at)?, declarations)?;
     Ok(declared.or(last))
 }
 
 // In the functions of a program, each of which sees those before it.
-fn reach_in_bodies(
+fn candidates_in_bodies(
     alloc: Global,
     declarations: &[Declaration],
     at: usize,
-) -> Result<Option<Reach>, AllocError>
+) -> Result<Option<Candidates>, AllocError>
     ensures { IfOk result (λ found. option_map names_of found
-        ≡ reach_in_bodies at [] (map declaration_of declarations.now)) }
+        ≡ candidates_in_bodies at [] (map declaration_of declarations.now)) }
 {
     for number in 0..declarations.len() {
         let earlier = &declarations[..number];
-        let found = reach_declared(alloc, earlier, &declarations[number], at)?;
+        let found = candidates_in_declaration(alloc, earlier, &declarations[number], at)?;
         if found.is_some() {
             return Ok(found);
         }
@@ -51,19 +51,19 @@ fn reach_in_bodies(
 }
 
 // In a declaration, with those before it.
-fn reach_declared(
+fn candidates_in_declaration(
     alloc: Global,
     earlier: &[Declaration],
     declaration: &Declaration,
     at: usize,
-) -> Result<Option<Reach>, AllocError>
+) -> Result<Option<Candidates>, AllocError>
     ensures { IfOk result (λ found. option_map names_of found
-        ≡ reach_declared at (map declaration_of earlier.now) (declaration_of declaration.now)) }
+        ≡ candidates_in_declaration at (map declaration_of earlier.now) (declaration_of declaration.now)) }
 {
     match declaration {
         Declaration::Input(_) => Ok(None),
         Declaration::Function(function) => {
-            let found = reach_in(alloc, &function.body, at)?;
+            let found = candidates_in(alloc, &function.body, at)?;
             with_parameters(found, &function.parameters, earlier)
         }
     }
@@ -71,47 +71,47 @@ fn reach_declared(
 
 // In an expression.
 #[cycle(walking)]
-fn reach_in(alloc: Global, expr: &Expr, at: usize) -> Result<Option<Reach>, AllocError>
-    ensures { IfOk result (λ found. option_map names_of found ≡ reach_in at (tree_of expr.now)) }
+fn candidates_in(alloc: Global, expr: &Expr, at: usize) -> Result<Option<Candidates>, AllocError>
+    ensures { IfOk result (λ found. option_map names_of found ≡ candidates_in at (tree_of expr.now)) }
 {
     match expr {
         Expr::Integer { .. } | Expr::Truth { .. } => Ok(None),
         Expr::Name(name) => Ok(variable_here(alloc, *name, at)),
-        Expr::Prefix { operand, .. } => reach_in(alloc, operand, at),
-        Expr::Group { inner, .. } => reach_in(alloc, inner, at),
-        Expr::Binary { left, right, .. } => reach_in_two(alloc, left, right, at),
-        Expr::Pair { first, second, .. } => reach_in_two(alloc, first, second, at),
+        Expr::Prefix { operand, .. } => candidates_in(alloc, operand, at),
+        Expr::Group { inner, .. } => candidates_in(alloc, inner, at),
+        Expr::Binary { left, right, .. } => candidates_in_two(alloc, left, right, at),
+        Expr::Pair { first, second, .. } => candidates_in_two(alloc, first, second, at),
         Expr::Filter {
             item,
             condition,
             ..
-        } => reach_in_two(alloc, item, condition, at),
+        } => candidates_in_two(alloc, item, condition, at),
         Expr::If {
             condition,
             positive,
             negative,
             ..
         } => {
-            let found = reach_in(alloc, condition, at)?;
-            Ok(found.or(reach_in_two(alloc, positive, negative, at)?))
+            let found = candidates_in(alloc, condition, at)?;
+            Ok(found.or(candidates_in_two(alloc, positive, negative, at)?))
         }
-        Expr::Call { arguments, .. } => reach_among(alloc, arguments, at),
+        Expr::Call { arguments, .. } => candidates_among(alloc, arguments, at),
         Expr::Apply {
             function,
             arguments,
         } => {
-            let found = reach_among(alloc, arguments, at)?;
+            let found = candidates_among(alloc, arguments, at)?;
             Ok(function_here(alloc, *function, at).or(found))
         }
-        Expr::Literal { items, .. } => reach_among(alloc, items, at),
+        Expr::Literal { items, .. } => candidates_among(alloc, items, at),
         Expr::Let {
             name,
             value,
             body,
             ..
         } => {
-            let found = reach_in(alloc, value, at)?;
-            let within = with_name(reach_in(alloc, body, at)?, *name)?;
+            let found = candidates_in(alloc, value, at)?;
+            let within = with_name(candidates_in(alloc, body, at)?, *name)?;
             Ok(found.or(within))
         }
         Expr::Each {
@@ -120,36 +120,40 @@ fn reach_in(alloc: Global, expr: &Expr, at: usize) -> Result<Option<Reach>, Allo
             condition,
             ..
         } => {
-            let found = reach_in(alloc, body, at)?;
-            let within = found.or(reach_where(alloc, condition, at)?);
-            reach_in_row(alloc, within, binders, at)
+            let found = candidates_in(alloc, body, at)?;
+            let within = found.or(candidates_in_condition(alloc, condition, at)?);
+            candidates_in_row(alloc, within, binders, at)
         }
     }
 }
 
 // In one of two.
 #[cycle(walking)]
-fn reach_in_two(
+fn candidates_in_two(
     alloc: Global,
     first: &Expr,
     second: &Expr,
     at: usize,
-) -> Result<Option<Reach>, AllocError>
+) -> Result<Option<Candidates>, AllocError>
     ensures { IfOk result (λ found. option_map names_of found
-        ≡ option_or (reach_in at (tree_of first.now)) (reach_in at (tree_of second.now))) }
+        ≡ option_or (candidates_in at (tree_of first.now)) (candidates_in at (tree_of second.now))) }
 {
-    let found = reach_in(alloc, first, at)?;
-    Ok(found.or(reach_in(alloc, second, at)?))
+    let found = candidates_in(alloc, first, at)?;
+    Ok(found.or(candidates_in(alloc, second, at)?))
 }
 
 // In one of these.
 #[cycle(walking)]
-fn reach_among(alloc: Global, all: &[Expr], at: usize) -> Result<Option<Reach>, AllocError>
+fn candidates_among(
+    alloc: Global,
+    all: &[Expr],
+    at: usize,
+) -> Result<Option<Candidates>, AllocError>
     ensures { IfOk result (λ found. option_map names_of found
-        ≡ reach_among at (trees_of all.now)) }
+        ≡ candidates_among at (trees_of all.now)) }
 {
     for one in all {
-        let found = reach_in(alloc, one, at)?;
+        let found = candidates_in(alloc, one, at)?;
         if found.is_some() {
             return Ok(found);
         }
@@ -159,51 +163,51 @@ fn reach_among(alloc: Global, all: &[Expr], at: usize) -> Result<Option<Reach>, 
 
 // In a condition, where there is one.
 #[cycle(walking)]
-fn reach_where(
+fn candidates_in_condition(
     alloc: Global,
     condition: &Option<Box<Expr>>,
     at: usize,
-) -> Result<Option<Reach>, AllocError>
+) -> Result<Option<Candidates>, AllocError>
     ensures { IfOk result (λ found. option_map names_of found
-        ≡ option_and_then (λ one. reach_in at (tree_of one.value)) condition.now) }
+        ≡ option_and_then (λ one. candidates_in at (tree_of one.value)) condition.now) }
 {
     match condition {
-        Some(condition) => reach_in(alloc, condition, at),
+        Some(condition) => candidates_in(alloc, condition, at),
         None => Ok(None),
     }
 }
 
 // In what these binders go over, where it is not found within their comprehension.
 #[cycle(walking)]
-fn reach_in_row(
+fn candidates_in_row(
     alloc: Global,
-    within: Option<Reach>,
+    within: Option<Candidates>,
     binders: &[Binder],
     at: usize,
-) -> Result<Option<Reach>, AllocError>
+) -> Result<Option<Candidates>, AllocError>
     ensures { IfOk result (λ found. option_map names_of found
         ≡ option_or (option_map (around (bound_by (binders_of binders.now)))
-        (option_map names_of within)) (reach_bound at (binders_of binders.now))) }
+        (option_map names_of within)) (candidates_in_sources at (binders_of binders.now))) }
 {
     let found = with_binders(within, binders)?;
     if found.is_some() {
         return Ok(found);
     }
-    reach_in_sources(alloc, binders, at)
+    candidates_in_sources(alloc, binders, at)
 }
 
 // In what binders go over.
 #[cycle(walking)]
-fn reach_in_sources(
+fn candidates_in_sources(
     alloc: Global,
     binders: &[Binder],
     at: usize,
-) -> Result<Option<Reach>, AllocError>
+) -> Result<Option<Candidates>, AllocError>
     ensures { IfOk result (λ found. option_map names_of found
-        ≡ reach_bound at (binders_of binders.now)) }
+        ≡ candidates_in_sources at (binders_of binders.now)) }
 {
     for binder in binders {
-        let found = reach_in(alloc, &binder.source, at)?;
+        let found = candidates_in(alloc, &binder.source, at)?;
         if found.is_some() {
             return Ok(found);
         }

@@ -9,6 +9,8 @@ mod calling;
 #[cfg(test)]
 mod calls;
 #[cfg(test)]
+mod candidates;
+#[cfg(test)]
 mod command_lines;
 #[cfg(test)]
 mod declared_inputs;
@@ -32,8 +34,6 @@ mod limping;
 mod looks;
 #[cfg(test)]
 mod plans;
-#[cfg(test)]
-mod reaches;
 #[cfg(test)]
 mod running;
 #[cfg(test)]

@@ -1,6 +1,6 @@
 use Rattle.std.proofs.Common.{◌≡◌, ◌++◌, drop}
 use Rattle.snesl_tree.specs.View.{binders_of}
-use Rattle.snesl_reach.specs.Reach.{bound_by}
+use Rattle.snesl_reach.specs.Candidates.{bound_by}
 use Rattle.snesl_reach.proofs.names.append_binders.Given as goal
 
 -- the names of the other binders are still to come

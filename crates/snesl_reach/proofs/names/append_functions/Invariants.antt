@@ -1,6 +1,6 @@
 use Rattle.std.proofs.Common.{◌≡◌, ◌++◌, drop, map}
 use Rattle.snesl_tree.specs.View.{declaration_of}
-use Rattle.snesl_reach.specs.Reach.{functions_among}
+use Rattle.snesl_reach.specs.Candidates.{functions_among}
 use Rattle.snesl_reach.proofs.names.append_functions.Given as goal
 
 -- the names of the other functions are still to come

@@ -1,6 +1,6 @@
 use Rattle.std.proofs.Common.{◌≡◌, ◌++◌, drop, map}
 use Rattle.snesl_tree.specs.View.{declaration_of}
-use Rattle.snesl_reach.specs.Reach.{inputs_among}
+use Rattle.snesl_reach.specs.Candidates.{inputs_among}
 use Rattle.snesl_reach.proofs.names.append_inputs.Given as goal
 
 -- the names of the other inputs are still to come

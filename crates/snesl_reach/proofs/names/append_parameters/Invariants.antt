@@ -1,6 +1,6 @@
 use Rattle.std.proofs.Common.{◌≡◌, ◌++◌, drop, map}
 use Rattle.snesl_tree.specs.View.{typed_of}
-use Rattle.snesl_reach.specs.Reach.{places_of}
+use Rattle.snesl_reach.specs.Candidates.{places_of}
 use Rattle.snesl_reach.proofs.names.append_parameters.Given as goal
 
 -- the names of the other parameters are still to come

@@ -1,7 +1,7 @@
-// Which names are in reach, and which of some names is nearest, by hand.
+// Which names may stand at a place, and which of some names is nearest, by hand.
 
 use snesl_look::nearest_of;
-use snesl_reach::{Reach, names_in_reach};
+use snesl_reach::{Candidates, candidates_at};
 use snesl_syntax::{Program, parse};
 use std::alloc::{AllocError, Global};
 use std::test::Fail;
@@ -10,8 +10,8 @@ const PROGRAM: &[u8] =
     b"input n : int; function f(x : int) : int = a; function g(y : int) : int = b(y); \
 let m = c in {d + e(r) : r in h; s in {1} | i} ++ {m}";
 
-// Offsets, and what is in reach there: of values, of functions, and nothing where no name stands.
-const REACHED: [(usize, &[u8]); 10] = [
+// Offsets, and what may stand there: of values, of functions, and nothing where no name stands.
+const CANDIDATES: [(usize, &[u8]); 10] = [
     (43, b"values x "),
     (74, b"functions f "),
     (88, b"values n "),
@@ -24,15 +24,15 @@ const REACHED: [(usize, &[u8]); 10] = [
     (80, b""),
 ];
 
-// What is in reach, in words.
+// What may stand there, in words.
 fn told_of(alloc: Global, program: &Program, at: usize) -> Result<Vec<u8>, AllocError> {
     let mut told = Vec::new(alloc);
-    let names = match names_in_reach(alloc, program, at)? {
-        Some(Reach::Values(names)) => {
+    let names = match candidates_at(alloc, program, at)? {
+        Some(Candidates::Values(names)) => {
             told.extend_from_slice(b"values ")?;
             names
         }
-        Some(Reach::Functions(names)) => {
+        Some(Candidates::Functions(names)) => {
             told.extend_from_slice(b"functions ")?;
             names
         }
@@ -46,9 +46,9 @@ fn told_of(alloc: Global, program: &Program, at: usize) -> Result<Vec<u8>, Alloc
 }
 
 #[test]
-fn names_are_in_reach(rt: HostRuntime) -> Result<(), Fail> {
+fn names_are_candidates(rt: HostRuntime) -> Result<(), Fail> {
     let program = parse(rt.alloc(), PROGRAM)?;
-    for (at, want) in REACHED {
+    for (at, want) in CANDIDATES {
         let told = told_of(rt.alloc(), &program, at)?;
         assert_eq!(rt; told.as_slice(), want, "at {at}");
     }

@@ -1,6 +1,6 @@
 use Rattle.std.proofs.Common.{◌≡◌}
 use Rattle.snesl_reach.proofs.Found.{bodies_from}
-use Rattle.snesl_reach.proofs.search.reach_in_bodies.Given as goal
+use Rattle.snesl_reach.proofs.search.candidates_in_bodies.Given as goal
 
 -- it is in no earlier function
 abbrev pub invariant-loop-number : goal.invariant-loop-number
