@@ -1,3 +1,3 @@
 mod Pieces
-mod Reaches
+mod Extents
 mod Strings

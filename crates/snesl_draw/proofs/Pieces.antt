@@ -1,7 +1,7 @@
 -- Texts that are made piece by piece.
 use Rattle.std.proofs.Common.{◌≡◌, ◌∙◌, ℕ, ◌+◌, ◌-◌, ◌<◌, List, [], ◌∷◌, ◌++◌, Bool, true, ap, append-nil, append_assoc, flat_map, drop, get_or, if◌then◌else◌, length, refl, sym, take}
 use Rattle.std.proofs.lemmas.List.{take_more}
-use Rattle.snesl_draw.specs.Forms.{closed_len, is_closed, open_after}
+use Rattle.snesl_draw.specs.Forms.{closed_len, depth_after, is_closed}
 
 module _ {X : Type 0} (h : X → List ℕ) where
   flat_map-push : (xs : List X) (x : X) → flat_map h (xs ++ x ∷ []) ≡ flat_map h xs ++ h x
@@ -21,7 +21,7 @@ module _ {X : Type 0} (h : X → List ℕ) where
 -- nothing is left of a text whose brackets are closed, and which is long enough
 closed_before : (text : List ℕ) (depth left : ℕ) → is_closed depth left ≡ true → closed_len depth left text ≡ 0
 closed_before [] depth left e = refl
-closed_before (b ∷ text) depth left e = ap (λ (t : Bool). if t then 0 else 1 + closed_len (open_after depth b) (left - 1) text) e
+closed_before (b ∷ text) depth left e = ap (λ (t : Bool). if t then 0 else 1 + closed_len (depth_after depth b) (left - 1) text) e
 
 pub closed_here : (text : List ℕ) (i depth left : ℕ) → is_closed depth left ≡ true → closed_len depth left (drop i text) ≡ 0
 closed_here text i depth left e = closed_before (drop i text) depth left e

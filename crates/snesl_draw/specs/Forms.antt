@@ -10,7 +10,7 @@ use Rattle.snesl_grammar.specs.declared.program.Program.{Program}
 use Rattle.snesl_culprits.specs.Offsets.{first_offset}
 use Rattle.snesl_draw.specs.declared.drawing.DrawnForm.{DrawnForm}
 use Rattle.snesl_draw.specs.declared.drawing.DrawnNode.{DrawnNode}
-use Rattle.snesl_draw.specs.declared.reach.Reach.{Reach}
+use Rattle.snesl_draw.specs.declared.extent.Extent.{Extent}
 
 abbrev mutual
   -- where the last word of a form stands: nothing of the form is behind it but brackets that close
@@ -44,72 +44,74 @@ abbrev mutual
   last_tested before (only_where condition) = last_offset condition
 
 -- where the first and the last word of a form stand
-abbrev pub reach_of : Tree → Reach
-reach_of tree = record { first = first_offset tree; last = last_offset tree }
+abbrev pub extent_of : Tree → Extent
+extent_of tree = record { first = first_offset tree; last = last_offset tree }
 
 -- that of a form that keeps the offset
-abbrev pub own : ℕ → Tree → Option Reach
-own at tree = if offset tree == at then Some (reach_of tree) else None
+abbrev pub own_extent : ℕ → Tree → Option Extent
+own_extent at tree = if offset tree == at then Some (extent_of tree) else None
 
 abbrev mutual
   -- that of the first form within another that keeps the offset
-  pub inside : ℕ → Tree → Option Reach
-  inside at (integer place value) = None
-  inside at (truth place value) = None
-  inside at (name place) = None
-  inside at (binary place operator left right) =
-      option_or (option_or (own at left) (inside at left)) (option_or (own at right) (inside at right))
-  inside at (prefix place operator operand) = option_or (own at operand) (inside at operand)
-  inside at (call place function arguments) = among at arguments
-  inside at (apply function arguments) = among at arguments
-  inside at (group place inner) = option_or (own at inner) (inside at inner)
-  inside at (pair place first second) =
-      option_or (option_or (own at first) (inside at first)) (option_or (own at second) (inside at second))
-  inside at (binding place named value body) =
-      option_or (option_or (own at value) (inside at value)) (option_or (own at body) (inside at body))
-  inside at (choice place condition positive negative) =
-      option_or (option_or (own at condition) (inside at condition))
-      (option_or (option_or (own at positive) (inside at positive)) (option_or (own at negative) (inside at negative)))
-  inside at (literal place items) = among at items
-  inside at (filter place item condition) =
-      option_or (option_or (own at item) (inside at item)) (option_or (own at condition) (inside at condition))
-  inside at (each place body binders condition) =
-      option_or (option_or (own at body) (inside at body)) (option_or (bound at binders) (tested at condition))
+  pub extent_inside : ℕ → Tree → Option Extent
+  extent_inside at (integer place value) = None
+  extent_inside at (truth place value) = None
+  extent_inside at (name place) = None
+  extent_inside at (binary place operator left right) =
+      option_or (option_or (own_extent at left) (extent_inside at left)) (option_or (own_extent at right) (extent_inside at right))
+  extent_inside at (prefix place operator operand) = option_or (own_extent at operand) (extent_inside at operand)
+  extent_inside at (call place function arguments) = extent_among at arguments
+  extent_inside at (apply function arguments) = extent_among at arguments
+  extent_inside at (group place inner) = option_or (own_extent at inner) (extent_inside at inner)
+  extent_inside at (pair place first second) =
+      option_or (option_or (own_extent at first) (extent_inside at first)) (option_or (own_extent at second) (extent_inside at second))
+  extent_inside at (binding place named value body) =
+      option_or (option_or (own_extent at value) (extent_inside at value)) (option_or (own_extent at body) (extent_inside at body))
+  extent_inside at (choice place condition positive negative) =
+      option_or (option_or (own_extent at condition) (extent_inside at condition))
+      (option_or (option_or (own_extent at positive) (extent_inside at positive)) (option_or (own_extent at negative) (extent_inside at negative)))
+  extent_inside at (literal place items) = extent_among at items
+  extent_inside at (filter place item condition) =
+      option_or (option_or (own_extent at item) (extent_inside at item)) (option_or (own_extent at condition) (extent_inside at condition))
+  extent_inside at (each place body binders condition) =
+      option_or (option_or (own_extent at body) (extent_inside at body))
+      (option_or (extent_in_sources at binders) (extent_in_condition at condition))
 
   -- that of the first among these, or within them
-  pub among : ℕ → Trees → Option Reach
-  among at none = None
-  among at (both first others) = option_or (option_or (own at first) (inside at first)) (among at others)
+  pub extent_among : ℕ → Trees → Option Extent
+  extent_among at none = None
+  extent_among at (both first others) = option_or (option_or (own_extent at first) (extent_inside at first)) (extent_among at others)
 
-  pub bound : ℕ → Binders → Option Reach
-  bound at none_bound = None
-  bound at (binder place source others) = option_or (option_or (own at source) (inside at source)) (bound at others)
+  pub extent_in_sources : ℕ → Binders → Option Extent
+  extent_in_sources at none_bound = None
+  extent_in_sources at (binder place source others) =
+      option_or (option_or (own_extent at source) (extent_inside at source)) (extent_in_sources at others)
 
-  pub tested : ℕ → Condition → Option Reach
-  tested at always = None
-  tested at (only_where condition) = option_or (own at condition) (inside at condition)
+  pub extent_in_condition : ℕ → Condition → Option Extent
+  extent_in_condition at always = None
+  extent_in_condition at (only_where condition) = option_or (own_extent at condition) (extent_inside at condition)
 
 -- that of an expression, or of the first form within it
-abbrev pub found : ℕ → Tree → Option Reach
-found at tree = option_or (own at tree) (inside at tree)
+abbrev pub extent_in : ℕ → Tree → Option Extent
+extent_in at tree = option_or (own_extent at tree) (extent_inside at tree)
 
 -- that of the first in the body of a function
-abbrev pub declared_in : ℕ → DeclarationTree → Option Reach
-declared_in at (declares_input typed) = None
-declared_in at (declares_function place parameters result body) = found at body
+abbrev pub extent_in_declaration : ℕ → DeclarationTree → Option Extent
+extent_in_declaration at (declares_input typed) = None
+extent_in_declaration at (declares_function place parameters result body) = extent_in at body
 
-abbrev pub declared : ℕ → List DeclarationTree → Option Reach
-declared at [] = None
-declared at (first ∷ others) = option_or (declared_in at first) (declared at others)
+abbrev pub extent_in_declarations : ℕ → List DeclarationTree → Option Extent
+extent_in_declarations at [] = None
+extent_in_declarations at (first ∷ others) = option_or (extent_in_declaration at first) (extent_in_declarations at others)
 
 -- where no form keeps the offset, it is that of the word there
-abbrev pub or_word : ℕ → Option Reach → Reach
+abbrev pub or_word : ℕ → Option Extent → Extent
 or_word at None = record { first = at; last = at }
-or_word at (Some reach) = reach
+or_word at (Some extent) = extent
 
-abbrev pub reach_at : Program → ℕ → Reach
-reach_at program at =
-    or_word at (option_or (found at (tree_of program.expr)) (declared at (map declaration_of program.declarations.items)))
+abbrev pub extent_at : Program → ℕ → Extent
+extent_at program at =
+    or_word at (option_or (extent_in at (tree_of program.expr)) (extent_in_declarations at (map declaration_of program.declarations.items)))
 
 -- how many brackets are open after a byte, where so many were before it
 abbrev pub opens : ℕ → Bool
@@ -118,8 +120,8 @@ opens byte = byte == 40 || byte == 91 || byte == 123
 abbrev pub closes : ℕ → Bool
 closes byte = byte == 41 || byte == 93 || byte == 125
 
-abbrev pub open_after : ℕ → ℕ → ℕ
-open_after depth byte = if opens byte then depth + 1 else if closes byte then depth - 1 else depth
+abbrev pub depth_after : ℕ → ℕ → ℕ
+depth_after depth byte = if opens byte then depth + 1 else if closes byte then depth - 1 else depth
 
 -- the length of the shortest beginning of a text that has so many bytes and leaves no bracket open
 abbrev pub is_closed : (depth least : ℕ) → Bool
@@ -128,21 +130,21 @@ is_closed depth least = depth == 0 && least == 0
 abbrev pub closed_len : (depth least : ℕ) → List ℕ → ℕ
 closed_len depth least [] = 0
 closed_len depth least (byte ∷ bytes) =
-    if is_closed depth least then 0 else 1 + closed_len (open_after depth byte) (least - 1) bytes
+    if is_closed depth least then 0 else 1 + closed_len (depth_after depth byte) (least - 1) bytes
 
 -- where the word at an offset ends
 abbrev pub word_end : List ℕ → ℕ → ℕ
 word_end text at = at + prefix_len is_word (drop at text)
 
 -- from the first word to the end of the last, and on until no bracket of it is open
-abbrev pub piece_of : List ℕ → Reach → Span
-piece_of text reach =
-    record { at = reach.first; len = closed_len 0 (word_end text reach.last - reach.first) (drop reach.first text) }
+abbrev pub piece_of : List ℕ → Extent → Span
+piece_of text extent =
+    record { at = extent.first; len = closed_len 0 (word_end text extent.last - extent.first) (drop extent.first text) }
 
 -- the form that a node comes from, as the first of its nodes
 abbrev pub drawn_form : Program → DrawnNode → DrawnForm
 drawn_form program node =
-    record { at = node.at; first = node.number; piece = piece_of program.text.items (reach_at program node.at) }
+    record { at = node.at; first = node.number; piece = piece_of program.text.items (extent_at program node.at) }
 
 -- whether the outermost form keeps the offset, or begins there
 abbrev pub is_outermost : Tree → ℕ → Bool

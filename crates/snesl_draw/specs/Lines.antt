@@ -23,13 +23,13 @@ in_one_line after [] = []
 in_one_line after (byte ∷ bytes) = one_blank after byte ++ in_one_line (is_blank byte) bytes
 
 -- a text, or its first 40 bytes and `…`
-abbrev pub cut : List ℕ → List ℕ
-cut text = if nat_lt 40 (length text) then quoted (take 40 text) ++ 226 ∷ 128 ∷ 166 ∷ [] else quoted text
+abbrev pub shortened : List ℕ → List ℕ
+shortened text = if nat_lt 40 (length text) then quoted (take 40 text) ++ 226 ∷ 128 ∷ 166 ∷ [] else quoted text
 
 -- what a form is called: where it begins, and its text, each in a line that begins at the left
 abbrev pub form_title : List ℕ → DrawnForm → List ℕ
 form_title program form =
-    line_and_column program form.piece.at ++ codes "\\l" ++ cut (in_one_line false (spelling program form.piece)) ++ codes "\\l"
+    line_and_column program form.piece.at ++ codes "\\l" ++ shortened (in_one_line false (spelling program form.piece)) ++ codes "\\l"
 
 -- ` rows: lengths`: the name of an input, and which of its streams
 abbrev pub part_of_input : List ℕ → List ℕ

@@ -2,10 +2,10 @@
 
 ghost use Rattle.std.specs.Prelude.{◌≡◌, ◌<◌, IfOk, OnOk, drop};
 ghost use Rattle.snesl_tree.specs.View.{tree_of};
-ghost use Rattle.snesl_draw.specs.Forms.{closed_len, closes, drawn_form, forms_of, has_form, is_closed, is_outermost, one_more_form, open_after, opens, piece_of, word_end};
+ghost use Rattle.snesl_draw.specs.Forms.{closed_len, closes, depth_after, drawn_form, forms_of, has_form, is_closed, is_outermost, one_more_form, opens, piece_of, word_end};
 
 use crate::drawing::{DrawnForm, DrawnNode};
-use crate::reach::{Reach, reach_at};
+use crate::extent::{Extent, extent_at};
 use snesl_culprits::first_offset;
 use snesl_data::word_len;
 use snesl_grammar::Program;
@@ -64,18 +64,18 @@ pub fn drawn_form(program: &Program, node: DrawnNode) -> DrawnForm
     DrawnForm {
         at: node.at,
         first: node.number,
-        piece: piece_of(&program.text, reach_at(program, node.at)),
+        piece: piece_of(&program.text, extent_at(program, node.at)),
     }
 }
 
 // From the first word to the end of the last, and on until no bracket of it is open.
-fn piece_of(text: &[u8], reach: Reach) -> Span
-    ensures { result ≡ piece_of text.now reach }
+fn piece_of(text: &[u8], extent: Extent) -> Span
+    ensures { result ≡ piece_of text.now extent }
 {
-    let least = word_end(text, reach.last).saturating_sub(reach.first);
+    let least = word_end(text, extent.last).saturating_sub(extent.first);
     Span {
-        at: reach.first,
-        len: closed_len(from(text, reach.first), least),
+        at: extent.first,
+        len: closed_len(from(text, extent.first), least),
     }
 }
 
@@ -104,7 +104,7 @@ fn closed_len(text: &[u8], least: usize) -> usize
         if is_closed(depth, left) {
             return len;
         }
-        depth = open_after(depth, *byte);
+        depth = depth_after(depth, *byte);
         left = left.saturating_sub(1);
         len += 1;
     }
@@ -119,9 +119,9 @@ fn is_closed(depth: usize, left: usize) -> bool
 }
 
 // How many brackets are open after a byte, where so many were before it.
-fn open_after(depth: usize, byte: u8) -> usize
+fn depth_after(depth: usize, byte: u8) -> usize
     requires { depth < usize.MAX }
-    ensures { result ≡ open_after depth byte }
+    ensures { result ≡ depth_after depth byte }
 {
     match byte {
         b'(' | b'[' | b'{' => depth + 1,

@@ -3,12 +3,12 @@
 
 mod dot;
 mod drawing;
+mod extent;
 mod forms;
 mod inputs;
 mod lines;
 mod network;
 mod quoting;
-mod reach;
 mod steps;
 mod text;
 mod words;

@@ -2,7 +2,7 @@
 
 ghost use Rattle.std.specs.Prelude.{◌≡◌, ◌++◌, IfOk, OnOk, decimal, false, take};
 ghost use Rattle.snesl_draw.specs.Quoting.{quoted};
-ghost use Rattle.snesl_draw.specs.Lines.{cut, edge_label, form_title, in_one_line, input_part, line_and_column, node_title, one_blank, part_of_input, width_of};
+ghost use Rattle.snesl_draw.specs.Lines.{edge_label, form_title, in_one_line, input_part, line_and_column, node_title, one_blank, part_of_input, shortened, width_of};
 
 use crate::drawing::{DrawnEdge, DrawnForm, DrawnNode, InputStream};
 use crate::quoting::quoted;
@@ -87,7 +87,7 @@ fn append_one_blank(line: &mut Vec<u8>, after_blank: bool, byte: u8) -> Result<(
 
 // A text, or its beginning and `…`.
 fn append_cut(text: &mut Vec<u8>, alloc: Global, line: &[u8]) -> Result<(), AllocError>
-    ensures { OnOk result (text.new.items ≡ text.old.items ++ cut line.now) }
+    ensures { OnOk result (text.new.items ≡ text.old.items ++ shortened line.now) }
 {
     if MOST_SHOWN < line.len() {
         append_quoted(text, alloc, beginning(line))?;

@@ -4,7 +4,7 @@ use Rattle.snesl_tree.proofs.Arguments.{tree_of-Call, tree_of-Apply, tree_of-Lit
 use Rattle.snesl_types.specs.Names.{condition_in}
 use Rattle.snesl_types.proofs.Scopes.{tree_of-Each}
 use Rattle.snesl_draw.specs.Forms.{last_among, last_bound, last_offset, last_tested}
-use Rattle.snesl_draw.proofs.reach.+ending.Goals as goal
+use Rattle.snesl_draw.proofs.extent.+ending.Goals as goal
 
 pub last_offset-returns-in-Call : goal.last_offset-returns-in-Call
 last_offset-returns-in-Call t c =

@@ -2,7 +2,7 @@ use Rattle.std.proofs.Common.{◌≡◌, ℕ, ◌+◌, ◌*◌, drop}
 use Rattle.snesl_tree.specs.declared.expr.Expr.{size-Expr}
 use Rattle.snesl_tree.specs.View.{binders_of, trees_of}
 use Rattle.snesl_draw.specs.Forms.{last_among, last_bound}
-use Rattle.snesl_draw.proofs.reach.+ending.Given as goal
+use Rattle.snesl_draw.proofs.extent.+ending.Given as goal
 
 -- an expression comes after its helpers
 abbrev rank : ℕ → ℕ → ℕ

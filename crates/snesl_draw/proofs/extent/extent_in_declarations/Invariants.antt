@@ -1,6 +1,6 @@
 use Rattle.std.proofs.Common.{◌≡◌, drop}
-use Rattle.snesl_draw.proofs.Reaches.{declared_all}
-use Rattle.snesl_draw.proofs.reach.declared.Given as goal
+use Rattle.snesl_draw.proofs.Extents.{declared_all}
+use Rattle.snesl_draw.proofs.extent.extent_in_declarations.Given as goal
 
 -- what is first from here on is first in all
 abbrev pub invariant-loop-declaration : goal.invariant-loop-declaration

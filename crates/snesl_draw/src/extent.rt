@@ -4,7 +4,7 @@ ghost use Rattle.std.specs.Prelude.{◌≡◌, map};
 ghost use Rattle.snesl_tree.specs.Tree.{offset};
 ghost use Rattle.snesl_tree.specs.View.{binders_of, declaration_of, tree_of, trees_of};
 ghost use Rattle.snesl_types.specs.Names.{condition_in};
-ghost use Rattle.snesl_draw.specs.Forms.{among, bound, declared, declared_in, found, inside, last_among, last_bound, last_offset, last_tested, own, reach_at, reach_of, tested};
+ghost use Rattle.snesl_draw.specs.Forms.{extent_among, extent_at, extent_in, extent_in_condition, extent_in_declaration, extent_in_declarations, extent_in_sources, extent_inside, extent_of, last_among, last_bound, last_offset, last_tested, own_extent};
 
 use snesl_culprits::first_offset;
 use snesl_grammar::Program;
@@ -12,18 +12,18 @@ use snesl_tree::{Binder, Declaration, Expr};
 
 // Where the first and the last word of a form stand.
 #[derive(Clone, Copy)]
-pub(crate) struct Reach {
+pub(crate) struct Extent {
     pub first: usize,
     pub last: usize,
 }
 
-// The reach of the form of a program that keeps the offset, and else that of the word there.
-pub(crate) fn reach_at(program: &Program, at: usize) -> Reach
-    ensures { result ≡ reach_at program.now at }
+// The extent of the form of a program that keeps the offset, and else that of the word there.
+pub(crate) fn extent_at(program: &Program, at: usize) -> Extent
+    ensures { result ≡ extent_at program.now at }
 {
-    match found(&program.expr, at).or(declared(&program.declarations, at)) {
-        Some(reach) => reach,
-        None => Reach {
+    match extent_in(&program.expr, at).or(extent_in_declarations(&program.declarations, at)) {
+        Some(extent) => extent,
+        None => Extent {
             first: at,
             last: at,
         },
@@ -31,11 +31,11 @@ pub(crate) fn reach_at(program: &Program, at: usize) -> Reach
 }
 
 // That of the first in the bodies of functions.
-fn declared(declarations: &[Declaration], at: usize) -> Option<Reach>
-    ensures { result ≡ declared at (map declaration_of declarations.now) }
+fn extent_in_declarations(declarations: &[Declaration], at: usize) -> Option<Extent>
+    ensures { result ≡ extent_in_declarations at (map declaration_of declarations.now) }
 {
     for declaration in declarations {
-        let seen = declared_in(declaration, at);
+        let seen = extent_in_declaration(declaration, at);
         if seen.is_some() {
             return seen;
         }
@@ -43,29 +43,29 @@ fn declared(declarations: &[Declaration], at: usize) -> Option<Reach>
     None
 }
 
-fn declared_in(declaration: &Declaration, at: usize) -> Option<Reach>
-    ensures { result ≡ declared_in at (declaration_of declaration.now) }
+fn extent_in_declaration(declaration: &Declaration, at: usize) -> Option<Extent>
+    ensures { result ≡ extent_in_declaration at (declaration_of declaration.now) }
 {
     match declaration {
         Declaration::Input(_) => None,
-        Declaration::Function(function) => found(&function.body, at),
+        Declaration::Function(function) => extent_in(&function.body, at),
     }
 }
 
 // That of a form that keeps the offset.
-fn own(expr: &Expr, at: usize) -> Option<Reach>
-    ensures { result ≡ own at (tree_of expr.now) }
+fn own_extent(expr: &Expr, at: usize) -> Option<Extent>
+    ensures { result ≡ own_extent at (tree_of expr.now) }
 {
     if expr.at() == at {
-        return Some(reach_of(expr));
+        return Some(extent_of(expr));
     }
     None
 }
 
-fn reach_of(expr: &Expr) -> Reach
-    ensures { result ≡ reach_of (tree_of expr.now) }
+fn extent_of(expr: &Expr) -> Extent
+    ensures { result ≡ extent_of (tree_of expr.now) }
 {
-    Reach {
+    Extent {
         first: first_offset(expr),
         last: last_offset(expr),
     }
@@ -73,54 +73,56 @@ fn reach_of(expr: &Expr) -> Reach
 
 // That of an expression, or of the first form within it.
 #[cycle(walking)]
-fn found(expr: &Expr, at: usize) -> Option<Reach>
-    ensures { result ≡ found at (tree_of expr.now) }
+fn extent_in(expr: &Expr, at: usize) -> Option<Extent>
+    ensures { result ≡ extent_in at (tree_of expr.now) }
 {
-    own(expr, at).or(inside(expr, at))
+    own_extent(expr, at).or(extent_inside(expr, at))
 }
 
 // That of the first form within an expression.
 #[cycle(walking)]
-fn inside(expr: &Expr, at: usize) -> Option<Reach>
-    ensures { result ≡ inside at (tree_of expr.now) }
+fn extent_inside(expr: &Expr, at: usize) -> Option<Extent>
+    ensures { result ≡ extent_inside at (tree_of expr.now) }
 {
     match expr {
         Expr::Integer { .. } | Expr::Truth { .. } | Expr::Name(_) => None,
-        Expr::Prefix { operand, .. } => found(operand, at),
-        Expr::Group { inner, .. } => found(inner, at),
-        Expr::Binary { left, right, .. } => found(left, at).or(found(right, at)),
-        Expr::Pair { first, second, .. } => found(first, at).or(found(second, at)),
-        Expr::Let { value, body, .. } => found(value, at).or(found(body, at)),
+        Expr::Prefix { operand, .. } => extent_in(operand, at),
+        Expr::Group { inner, .. } => extent_in(inner, at),
+        Expr::Binary { left, right, .. } => extent_in(left, at).or(extent_in(right, at)),
+        Expr::Pair { first, second, .. } => extent_in(first, at).or(extent_in(second, at)),
+        Expr::Let { value, body, .. } => extent_in(value, at).or(extent_in(body, at)),
         Expr::Filter {
             item,
             condition,
             ..
-        } => found(item, at).or(found(condition, at)),
+        } => extent_in(item, at).or(extent_in(condition, at)),
         Expr::If {
             condition,
             positive,
             negative,
             ..
-        } => found(condition, at).or(found(positive, at).or(found(negative, at))),
-        Expr::Call { arguments, .. } => among(arguments, at),
-        Expr::Apply { arguments, .. } => among(arguments, at),
-        Expr::Literal { items, .. } => among(items, at),
+        } => extent_in(condition, at).or(extent_in(positive, at).or(extent_in(negative, at))),
+        Expr::Call { arguments, .. } => extent_among(arguments, at),
+        Expr::Apply { arguments, .. } => extent_among(arguments, at),
+        Expr::Literal { items, .. } => extent_among(items, at),
         Expr::Each {
             body,
             binders,
             condition,
             ..
-        } => found(body, at).or(bound(binders, at).or(tested(condition, at))),
+        } => extent_in(body, at).or(extent_in_sources(binders, at).or(extent_in_condition(
+            condition, at,
+        ))),
     }
 }
 
 // That of the first among these.
 #[cycle(walking)]
-fn among(all: &[Expr], at: usize) -> Option<Reach>
-    ensures { result ≡ among at (trees_of all.now) }
+fn extent_among(all: &[Expr], at: usize) -> Option<Extent>
+    ensures { result ≡ extent_among at (trees_of all.now) }
 {
     for one in all {
-        let seen = found(one, at);
+        let seen = extent_in(one, at);
         if seen.is_some() {
             return seen;
         }
@@ -130,11 +132,11 @@ fn among(all: &[Expr], at: usize) -> Option<Reach>
 
 // That of the first in what binders go over.
 #[cycle(walking)]
-fn bound(binders: &[Binder], at: usize) -> Option<Reach>
-    ensures { result ≡ bound at (binders_of binders.now) }
+fn extent_in_sources(binders: &[Binder], at: usize) -> Option<Extent>
+    ensures { result ≡ extent_in_sources at (binders_of binders.now) }
 {
     for binder in binders {
-        let seen = found(&binder.source, at);
+        let seen = extent_in(&binder.source, at);
         if seen.is_some() {
             return seen;
         }
@@ -144,11 +146,11 @@ fn bound(binders: &[Binder], at: usize) -> Option<Reach>
 
 // That of the first in a condition, where there is one.
 #[cycle(walking)]
-fn tested(condition: &Option<Box<Expr>>, at: usize) -> Option<Reach>
-    ensures { result ≡ tested at (condition_in condition.now) }
+fn extent_in_condition(condition: &Option<Box<Expr>>, at: usize) -> Option<Extent>
+    ensures { result ≡ extent_in_condition at (condition_in condition.now) }
 {
     match condition {
-        Some(condition) => found(condition, at),
+        Some(condition) => extent_in(condition, at),
         None => None,
     }
 }

@@ -1,27 +1,27 @@
--- Reaches in lists, item by item.
+-- Extents in lists, item by item.
 use Rattle.std.proofs.Common.{◌≡◌, ◌∙◌, ℕ, Bool, true, false, suc, ◌+◌, ◌<◌, ◌≤◌, List, [], ◌∷◌, map, drop, length, get_or, drop-cons, drop_of_length-le, Option, Some, None, refl, sym, ap, add-one}
 use Rattle.std.specs.Option.{is_some, option_or}
 use Rattle.snesl_tree.specs.declared.declaration.Declaration.{Declaration}
 use Rattle.snesl_tree.specs.declared.expr.Binder.{Binder}
 use Rattle.snesl_tree.specs.declared.expr.Expr.{Expr}
 use Rattle.snesl_tree.specs.View.{tree_of, trees_of, binders_of, declaration_of}
-use Rattle.snesl_draw.specs.Forms.{among, bound, declared, declared_in, found}
-use Rattle.snesl_draw.specs.declared.reach.Reach.{Reach}
+use Rattle.snesl_draw.specs.Forms.{extent_among, extent_in, extent_in_declaration, extent_in_declarations, extent_in_sources}
+use Rattle.snesl_draw.specs.declared.extent.Extent.{Extent}
 
 -- what is left of a list from an item on
 pub unrolled : {A : Type 0} (xs : List A) (i : ℕ) (one : A) → i < length xs → one ≡ get_or xs i one → drop i xs ≡ one ∷ drop (i + 1) xs
 unrolled xs i one l is = drop-cons xs i one l ∙ ap (λ x. x ∷ drop (suc i) xs) (sym is) ∙ ap (λ k. one ∷ drop k xs) (sym (add-one i))
 
-or_none : (a b : Option Reach) → is_some a ≡ false → option_or a b ≡ b
+or_none : (a b : Option Extent) → is_some a ≡ false → option_or a b ≡ b
 or_none None b e = refl
-or_none (Some reach) b e = cc
+or_none (Some extent) b e = cc
 
-or_some : (a b : Option Reach) → is_some a ≡ true → option_or a b ≡ a
-or_some (Some reach) b e = refl
+or_some : (a b : Option Extent) → is_some a ≡ true → option_or a b ≡ a
+or_some (Some extent) b e = refl
 or_some None b e = cc
 
 -- a function of lists that takes its first value from the items in order
-module _ {A : Type 0} (first : A → Option Reach) (whole : List A → Option Reach) (xs : List A) (i : ℕ) (one : A) (a : Option Reach)
+module _ {A : Type 0} (first : A → Option Extent) (whole : List A → Option Extent) (xs : List A) (i : ℕ) (one : A) (a : Option Extent)
     (by_items : (x : A) (others : List A) → whole (x ∷ others) ≡ option_or (first x) (whole others))
     (l : i < length xs) (is : one ≡ get_or xs i one) (h : a ≡ first one) where
   at_item : whole (drop i xs) ≡ option_or a (whole (drop (i + 1) xs))
@@ -34,23 +34,23 @@ module _ {A : Type 0} (first : A → Option Reach) (whole : List A → Option Re
   at_this e = sym (at_item ∙ or_some a (whole (drop (i + 1) xs)) e)
 
 module _ (at : ℕ) where
-  abbrev pub among_all : List Expr → Option Reach
-  among_all all = among at (trees_of all)
+  abbrev pub among_all : List Expr → Option Extent
+  among_all all = extent_among at (trees_of all)
 
-  abbrev pub bound_all : List Binder → Option Reach
-  bound_all binders = bound at (binders_of binders)
+  abbrev pub bound_all : List Binder → Option Extent
+  bound_all binders = extent_in_sources at (binders_of binders)
 
-  abbrev pub declared_all : List Declaration → Option Reach
-  declared_all declarations = declared at (map declaration_of declarations)
+  abbrev pub declared_all : List Declaration → Option Extent
+  declared_all declarations = extent_in_declarations at (map declaration_of declarations)
 
-  pub among_items : (x : Expr) (others : List Expr) → among_all (x ∷ others) ≡ option_or (found at (tree_of x)) (among_all others)
+  pub among_items : (x : Expr) (others : List Expr) → among_all (x ∷ others) ≡ option_or (extent_in at (tree_of x)) (among_all others)
   among_items x others = refl
 
-  pub bound_items : (x : Binder) (others : List Binder) → bound_all (x ∷ others) ≡ option_or (found at (tree_of x.source)) (bound_all others)
+  pub bound_items : (x : Binder) (others : List Binder) → bound_all (x ∷ others) ≡ option_or (extent_in at (tree_of x.source)) (bound_all others)
   bound_items x others = refl
 
   pub declared_items : (x : Declaration) (others : List Declaration)
-      → declared_all (x ∷ others) ≡ option_or (declared_in at (declaration_of x)) (declared_all others)
+      → declared_all (x ∷ others) ≡ option_or (extent_in_declaration at (declaration_of x)) (declared_all others)
   declared_items x others = refl
 
   pub among_end : (all : List Expr) (i : ℕ) → length all ≤ i → None ≡ among_all (drop i all)
