@@ -17,8 +17,8 @@ use Rattle.snesl_grammar.specs.Limits.{greatest_length, greatest_depth}
 use Rattle.snesl_grammar.specs.Programs.{WholeProgram, program_depth}
 use Rattle.snesl_grammar.specs.Spelled.{IsSpelled}
 use Rattle.snesl_syntax.specs.Parse.{AnswersTokens, accepted, wrong, too_deep, ended, HaveOneAnswer, Parses, too_long, bad_byte, read}
-use Rattle.snesl_layout.specs.Spacing.{spelled}
-use Rattle.snesl_layout.specs.Laid.{words, IsKept, IsParsed}
+use Rattle.snesl_layout.specs.Spacing.{token_bytes}
+use Rattle.snesl_layout.specs.Laid.{words, IsParsed, KeepsWords}
 use Rattle.snesl_layout.specs.Same.{IsSameProgram, AreOneProgram}
 use Rattle.snesl_layout.proofs.Moved.{token_moved, program_moved, program_whole_moved, program_depth_moved}
 use Rattle.snesl_layout.proofs.Names.{IsNameKept, AreNamesKept, program_same}
@@ -53,9 +53,9 @@ alike one other dialect its_dialect [] [] have its_have same = alike_none
 alike one other dialect its_dialect [] (u ∷ us) have its_have same = absurd cc
 alike one other dialect its_dialect (t ∷ ts) [] have its_have same = absurd cc
 alike one other dialect its_dialect (t ∷ ts) (u ∷ us) have its_have same =
-    let here : spelled one t ts ≡ spelled other u us = cc in
+    let here : token_bytes one t ts ≡ token_bytes other u us = cc in
     let rest : words one ts ≡ words other us = cc in
-    let word = same_word one other dialect its_dialect t u (spelled one t ts) (spelled other u us) here have.0 its_have.0 in
+    let word = same_word one other dialect its_dialect t u (token_bytes one t ts) (token_bytes other u us) here have.0 its_have.0 in
     alike_more word.0 word.1 (alike one other dialect its_dialect ts us have.1 its_have.1 rest)
 
 -- tokens stand one behind another, from an offset on
@@ -169,7 +169,7 @@ one_program one_answer one other ts us program its_program tokens its_tokens sam
     whole told.is_shallow its_told.is_short its_tokens its_parsed
 
 -- a program and a text that keeps its words are one program
-pub are_one : HaveOneAnswer → (text out : List ℕ) (tokens : List Token) → IsParsed text → IsParsed out → Tokens (dialect_of text) 0 text tokens → IsKept text tokens out
+pub are_one : HaveOneAnswer → (text out : List ℕ) (tokens : List Token) → IsParsed text → IsParsed out → Tokens (dialect_of text) 0 text tokens → KeepsWords text tokens out
     → AreOneProgram text out
 are_one one_answer text out tokens parsed its_parsed of_text kept = (
   parsed.0,

@@ -24,7 +24,7 @@ use Rattle.snesl_lexer.specs.Lexical.{number, head_or, first, Tokens, none_left,
 use Rattle.snesl_lexer.specs.Lexemes.{token, LexemeMeaning, Lexeme, a_word, an_integer, an_excess, a_sign, a_long_sign, StandsFirst, IsLongest}
 use Rattle.snesl_lexer.proofs.Longest.{stands_first, first_is_longest}
 use Rattle.snesl_lexer.proofs.Tables.{kind_in_passes}
-use Rattle.snesl_layout.specs.Spacing.{is_printed, next_at, spelled}
+use Rattle.snesl_layout.specs.Spacing.{is_printed, next_at, token_bytes}
 
 -- what stands first in bytes is all that stands in its own bytes
 longest_at : (dialect : Dialect) (bytes : List ℕ) (kind : Kind) (len : ℕ) → first dialect bytes ≡ Found kind len
@@ -212,7 +212,7 @@ pub record IsWordOf (dialect : Dialect) (text : List ℕ) (it : Token) (word : L
 
 word_of : (dialect : Dialect) (text : List ℕ) {ts : List Token} (at len : ℕ) (kind : Kind) → at ≤ length text
     → first dialect (drop at text) ≡ Found kind len → Tokens dialect (at + len) (drop len (drop at text)) ts
-    → IsWordOf dialect text (record { kind = kind; at = at }) (spelled text (record { kind = kind; at = at }) ts)
+    → IsWordOf dialect text (record { kind = kind; at = at }) (token_bytes text (record { kind = kind; at = at }) ts)
 word_of dialect text {ts = ts} at len kind within e h =
     let bs : List ℕ = drop at text in
     let longest = longest_at dialect bs kind len e in
@@ -223,7 +223,7 @@ word_of dialect text {ts = ts} at len kind within e h =
     let cut : drop at (take (next_at text ts) text) ≡ take (next_at text ts - at) (drop at text) =
     ap (λ n. drop at (take n text)) (sym span) ∙ drop-take at (next_at text ts - at) text in
     let printed = lexeme_printed dialect (take len bs) (token kind) longest.reads in
-    let same : spelled text (record { kind = kind; at = at }) ts ≡ take len (drop at text) =
+    let same : token_bytes text (record { kind = kind; at = at }) ts ≡ take len (drop at text) =
     ap (take_while is_printed) cut ∙ run_taken is_printed bs len (next_at text ts - at) printed fits (omega arith) (ends (next_stops dialect text h)) in
     let long : len ≡ length (take len (drop at text)) = sym (length-take-le len (drop at text) fits) in
     subst (IsWordOf dialect text (record { kind = kind; at = at })) (sym same)
@@ -240,7 +240,7 @@ word_of dialect text {ts = ts} at len kind within e h =
 -- the words of tokens are words of them
 abbrev pub HaveWords : Dialect → List ℕ → List Token → Type 0
 HaveWords dialect text [] = Unit {0}
-HaveWords dialect text (it ∷ after) = IsWordOf dialect text it (spelled text it after) × HaveWords dialect text after
+HaveWords dialect text (it ∷ after) = IsWordOf dialect text it (token_bytes text it after) × HaveWords dialect text after
 
 pub have_words : (dialect : Dialect) (text : List ℕ) {at : ℕ} {bs : List ℕ} {ts : List Token} → Tokens dialect at bs ts → bs ≡ drop at text → at ≤ length text
     → HaveWords dialect text ts

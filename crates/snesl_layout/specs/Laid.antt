@@ -8,16 +8,16 @@ use Rattle.snesl_layout.specs.declared.laid.LayoutError.{LayoutError}
 use Rattle.snesl_layout.specs.declared.laid.LayoutError.TheVariants.{Refused, TooLong, Differs}
 use Rattle.snesl_lexer.specs.declared.token.Token.{Token}
 use Rattle.snesl_lexer.specs.Lexical.{dialect_of, Tokens}
-use Rattle.snesl_layout.specs.Spacing.{spelled}
+use Rattle.snesl_layout.specs.Spacing.{token_bytes}
 use Rattle.snesl_layout.specs.Layout.{layout}
 
 -- the words of tokens: the bytes of each, in order
 abbrev pub words : List ℕ → List Token → List (List ℕ)
 words text [] = []
-words text (token ∷ after) = spelled text token after ∷ words text after
+words text (token ∷ after) = token_bytes text token after ∷ words text after
 
 -- a text keeps the words of these tokens of another, and is laid out as it stands
-pub record IsKept (text : List ℕ) (tokens : List Token) (out : List ℕ) : Type 0 where
+pub record KeepsWords (text : List ℕ) (tokens : List Token) (out : List ℕ) : Type 0 where
   pub others : List Token
   pub are_tokens : Tokens (dialect_of out) 0 out others
   pub same : words text tokens ≡ words out others
@@ -28,7 +28,7 @@ pub record IsLaidOut (text out : List ℕ) : Type 0 where
   pub tokens : List Token
   pub are_tokens : Tokens (dialect_of text) 0 text tokens
   pub laid : out ≡ layout text tokens
-  pub kept : IsKept text tokens out
+  pub kept : KeepsWords text tokens out
 
 -- the bytes are a program
 abbrev pub IsParsed : List ℕ → Type 0

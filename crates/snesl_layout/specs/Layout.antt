@@ -4,8 +4,8 @@ use Rattle.snesl_lexer.specs.declared.token.Token.{Token}
 use Rattle.snesl_layout.specs.declared.lines.Gap.{Gap}
 use Rattle.snesl_layout.specs.declared.lines.Gap.TheVariants.{Nothing, Blank, Line, EmptyLine}
 use Rattle.snesl_layout.specs.declared.lines.State.{State}
-use Rattle.snesl_layout.specs.Spacing.{spelled}
-use Rattle.snesl_layout.specs.Lines.{gap_before, next, start}
+use Rattle.snesl_layout.specs.Spacing.{token_bytes}
+use Rattle.snesl_layout.specs.Lines.{gap_before, start, state_after}
 
 -- the blanks before a line: four for each level
 abbrev pub indent : ℕ → List ℕ
@@ -23,7 +23,7 @@ gap_bytes EmptyLine = 10 ∷ 10 ∷ []
 abbrev pub layout_from : List ℕ → State → List Token → List ℕ
 layout_from text state [] = []
 layout_from text state (token ∷ after) =
-    gap_bytes (gap_before text state token after) ++ (spelled text token after ++ layout_from text (next text state token after) after)
+    gap_bytes (gap_before text state token after) ++ (token_bytes text token after ++ layout_from text (state_after text state token after) after)
 
 -- the tokens of a text, laid out, with a line feed at the end
 abbrev pub layout : List ℕ → List Token → List ℕ

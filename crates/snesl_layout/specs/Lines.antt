@@ -10,15 +10,15 @@ use Rattle.snesl_layout.specs.declared.lines.Part.TheVariants.{Start, Input, Hea
 use Rattle.snesl_layout.specs.declared.lines.State.{State}
 use Rattle.snesl_layout.specs.declared.lines.Stop.{Stop}
 use Rattle.snesl_layout.specs.declared.lines.Stop.TheVariants as stops
-use Rattle.snesl_layout.specs.Spacing.{closes, deeper, depth_after, is_glued, opens, spelled}
+use Rattle.snesl_layout.specs.Spacing.{closes, deeper, depth_after, is_glued, opens, token_bytes}
 
 -- how many bytes a line has, and one more for what closes it
-abbrev pub width : ℕ
-width = 99
+abbrev pub line_width : ℕ
+line_width = 99
 
 -- before all tokens
 abbrev pub start : State
-start = record { part = Start; in_line = false; levels = 0; flat = 0; room = width; after_let = false; then_begins = false; before = Semicolon; last = Semicolon }
+start = record { part = Start; in_line = false; levels = 0; flat = 0; room = line_width; after_let = false; then_begins = false; before = Semicolon; last = Semicolon }
 
 -- a line that is broken ends beside the token
 abbrev pub ends_line : Kind → Bool
@@ -66,17 +66,17 @@ abbrev pub gap_len : (before last next : Kind) → ℕ
 gap_len before last next = if is_glued before last next then 0 else 1
 
 -- the tokens fit into so many bytes of a line, up to where it is looked; so many brackets are open in what is looked at
-abbrev pub fits : List ℕ → Stop → (room depth : ℕ) → (before last : Kind) → List Token → Bool
-fits text stop room depth before last [] = true
-fits text stop room depth before last (token ∷ after) =
+abbrev pub tokens_fit : List ℕ → Stop → (room depth : ℕ) → (before last : Kind) → List Token → Bool
+tokens_fit text stop room depth before last [] = true
+tokens_fit text stop room depth before last (token ∷ after) =
     if depth == 0 && ends stop token.kind then true else
     if depth == 0 && is_cut stop token.kind then false else
-    (let taken = gap_len before last token.kind + length (spelled text token after) in
-    if nat_lt room taken then false else fits text stop (room - taken) (depth_after depth token.kind) last token.kind after)
+    (let taken = gap_len before last token.kind + length (token_bytes text token after) in
+    if nat_lt room taken then false else tokens_fit text stop (room - taken) (depth_after depth token.kind) last token.kind after)
 
 -- those behind the last token fit: where it opens a bracket, this is open
 abbrev pub fits_behind : List ℕ → Stop → ℕ → (before last : Kind) → List Token → Bool
-fits_behind text stop room before last after = fits text stop room (depth_after 0 last) before last after
+fits_behind text stop room before last after = tokens_fit text stop room (depth_after 0 last) before last after
 
 -- the last token ends a declaration
 abbrev pub ends_statement : State → Bool
@@ -157,7 +157,7 @@ follows_then state _ = false
 -- the token, and what follows up to there, does not fit
 abbrev pub is_beyond : List ℕ → State → Token → List Token → Bool
 is_beyond text state token after =
-    let taken = length (spelled text token after) + 1 in
+    let taken = length (token_bytes text token after) + 1 in
     if nat_lt state.room taken then true else not (fits_behind text (stop_of token.kind) (state.room - taken) state.last token.kind after)
 
 -- a line breaks between the last token and this one
@@ -198,8 +198,8 @@ gap_before text state token after =
 abbrev pub room_after : State → Gap → ℕ → ℕ
 room_after state Nothing len = state.room - len
 room_after state Blank len = (state.room - 1) - len
-room_after state (Line levels) len = (width - 4 * levels) - len
-room_after state EmptyLine len = width - len
+room_after state (Line levels) len = (line_width - 4 * levels) - len
+room_after state EmptyLine len = line_width - len
 
 -- what begins with a token of this kind
 abbrev pub part_of : Kind → Part
@@ -250,10 +250,10 @@ abbrev pub then_begins_after : State → Gap → Kind → Bool
 then_begins_after state gap kind = if is_broken state && is_then kind then is_line gap else state.then_begins
 
 -- what the tokens up to this one lead to
-abbrev pub next : List ℕ → State → Token → List Token → State
-next text state token after =
+abbrev pub state_after : List ℕ → State → Token → List Token → State
+state_after text state token after =
     let gap = gap_before text state token after in
-    let room = room_after state gap (length (spelled text token after)) in
+    let room = room_after state gap (length (token_bytes text token after)) in
     let in_line = in_line_after text state room token.kind after in
     let fit = fits_behind text stops.Bracket room state.last token.kind after in
     record {

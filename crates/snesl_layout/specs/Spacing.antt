@@ -81,5 +81,5 @@ abbrev pub is_printed : ℕ → Bool
 is_printed b = not (is_blank b)
 
 -- the bytes of a token before others: up to the next one or to a blank
-abbrev pub spelled : List ℕ → Token → List Token → List ℕ
-spelled text token after = take_while is_printed (drop token.at (take (next_at text after) text))
+abbrev pub token_bytes : List ℕ → Token → List Token → List ℕ
+token_bytes text token after = take_while is_printed (drop token.at (take (next_at text after) text))

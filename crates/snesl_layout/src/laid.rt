@@ -1,11 +1,11 @@
 // The layout of a program.
 
 ghost use Rattle.std.specs.Prelude.{◌≡◌, ◌<◌, ◌+◌, ◌∷◌, IfErr, IfOk, IsTrue, OnOk, drop, length};
-ghost use Rattle.snesl_layout.specs.Laid.{IsKept, IsLaidOut, IsOfLayout, IsParsed, IsUnlaid, words};
+ghost use Rattle.snesl_layout.specs.Laid.{IsLaidOut, IsOfLayout, IsParsed, IsUnlaid, KeepsWords, words};
 ghost use Rattle.snesl_layout.specs.Same.{AreOneProgram};
 
 use crate::layout::layout;
-use crate::spacing::spelled;
+use crate::spacing::token_bytes;
 use snesl_data::Refusal;
 use snesl_lexer::{Token, tokens_of};
 use snesl_syntax::{one_answer, parse};
@@ -42,7 +42,7 @@ fn word_at<'a>(text: &'a [u8], tokens: &[Token], i: usize) -> &'a [u8]
     ensures { words text.now (drop i tokens.now)
         ≡ result.now ∷ words text.now (drop (i + 1) tokens.now) }
 {
-    spelled(text, tokens[i], &tokens[i + 1..])
+    token_bytes(text, tokens[i], &tokens[i + 1..])
 }
 
 fn is_same_word(word: &[u8], its_word: &[u8]) -> bool
@@ -69,7 +69,7 @@ fn has_same_words(one: &[u8], tokens: &[Token], other: &[u8], others: &[Token]) 
 // Whether a text has the words of another, and is laid out as it stands. Where its tokens are not found memory was refused, since
 // it is a program.
 fn is_kept(alloc: Global, text: &[u8], tokens: &[Token], out: &[u8]) -> Result<bool, LayoutError>
-    ensures kept { IfOk result (λ kept. IsTrue kept → IsKept text.now tokens.now out.now) }
+    ensures kept { IfOk result (λ kept. IsTrue kept → KeepsWords text.now tokens.now out.now) }
     ensures refused { IfErr result (IsOfLayout out.now) }
 {
     let Ok(others) = tokens_of(alloc, out) else {

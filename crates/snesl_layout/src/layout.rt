@@ -3,8 +3,8 @@
 ghost use Rattle.std.specs.Prelude.{◌≡◌, ◌++◌, IfOk, OnOk};
 ghost use Rattle.snesl_layout.specs.Layout.{gap_bytes, indent, layout};
 
-use crate::lines::{Gap, gap_before, next, start};
-use crate::spacing::spelled;
+use crate::lines::{Gap, gap_before, start, state_after};
+use crate::spacing::token_bytes;
 use snesl_lexer::Token;
 use std::alloc::{AllocError, Global};
 
@@ -43,8 +43,8 @@ pub fn layout(alloc: Global, text: &[u8], tokens: &[Token]) -> Result<Vec<u8>, A
         let token = tokens[i];
         let after = &tokens[i + 1..];
         append_gap(&mut out, gap_before(text, state, token, after))?;
-        out.extend_from_slice(spelled(text, token, after))?;
-        state = next(text, state, token, after);
+        out.extend_from_slice(token_bytes(text, token, after))?;
+        state = state_after(text, state, token, after);
     }
     out.extend_from_slice(b"\n")?;
     Ok(out)

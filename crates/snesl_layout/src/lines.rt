@@ -1,9 +1,9 @@
 // Where lines break.
 
 ghost use Rattle.std.specs.Prelude.{◌≡◌, ◌≤◌};
-ghost use Rattle.snesl_layout.specs.Lines.{begins_statement, ends, ends_line, ends_statement, fits_behind, flat_after, gap_before, gap_len, in_line_after, begins_body, breaks_after, breaks_before, fills, follows_then, is_beyond, is_broken, is_cut, is_let_end, is_literal, levels_after, line_levels, margin, may_break, next, part_after, part_of, room_after, start, stop_of, then_begins_after, wraps, breaks};
+ghost use Rattle.snesl_layout.specs.Lines.{begins_statement, ends, ends_line, ends_statement, fits_behind, flat_after, gap_before, gap_len, in_line_after, begins_body, breaks_after, breaks_before, fills, follows_then, is_beyond, is_broken, is_cut, is_let_end, is_literal, levels_after, line_levels, margin, may_break, part_after, part_of, room_after, start, state_after, stop_of, then_begins_after, wraps, breaks};
 
-use crate::spacing::{closes, deeper, depth_after, is_glued, opens, spelled};
+use crate::spacing::{closes, deeper, depth_after, is_glued, opens, token_bytes};
 use snesl_lexer::{Kind, Token};
 
 // The bytes of a line are so many, and one more for what closes it.
@@ -137,7 +137,14 @@ fn gap_len(before: Kind, last: Kind, next: Kind) -> usize
 }
 
 // Whether the tokens behind the last one fit into so many bytes of a line, up to where it is looked.
-fn fits(text: &[u8], stop: Stop, room: usize, before: Kind, last: Kind, tokens: &[Token]) -> bool
+fn fits_behind(
+    text: &[u8],
+    stop: Stop,
+    room: usize,
+    before: Kind,
+    last: Kind,
+    tokens: &[Token],
+) -> bool
     ensures { result ≡ fits_behind text.now stop room before last tokens.now }
 {
     let mut room = room;
@@ -153,7 +160,7 @@ fn fits(text: &[u8], stop: Stop, room: usize, before: Kind, last: Kind, tokens: 
             return false;
         }
         let taken = gap_len(before, last, token.kind)
-            + spelled(text, token, &tokens[i + 1..]).len();
+            + token_bytes(text, token, &tokens[i + 1..]).len();
         if taken > room {
             return false;
         }
@@ -264,12 +271,12 @@ fn stop_of(kind: Kind) -> Stop
 fn is_beyond(text: &[u8], state: State, token: Token, after: &[Token]) -> bool
     ensures { result ≡ is_beyond text.now state token after.now }
 {
-    let taken = spelled(text, token, after).len() + 1;
+    let taken = token_bytes(text, token, after).len() + 1;
     if taken > state.room {
         return true;
     }
     let room = state.room - taken;
-    !fits(
+    !fits_behind(
         text,
         stop_of(token.kind),
         room,
@@ -376,7 +383,7 @@ fn in_line_after(text: &[u8], state: State, room: usize, kind: Kind, after: &[To
     ensures { result ≡ in_line_after text.now state room kind after.now }
 {
     if begins_statement(state) || begins_body(state) {
-        fits(text, Stop::Statement, room, state.last, kind, after)
+        fits_behind(text, Stop::Statement, room, state.last, kind, after)
     } else {
         state.in_line
     }
@@ -432,15 +439,15 @@ fn then_begins_after(state: State, gap: Gap, kind: Kind) -> bool
 }
 
 // What the tokens up to this one lead to.
-pub fn next(text: &[u8], state: State, token: Token, after: &[Token]) -> State
-    ensures { result ≡ next text.now state token after.now }
+pub fn state_after(text: &[u8], state: State, token: Token, after: &[Token]) -> State
+    ensures { result ≡ state_after text.now state token after.now }
 {
     let kind = token.kind;
-    let len = spelled(text, token, after).len();
+    let len = token_bytes(text, token, after).len();
     let gap = gap_before(text, state, token, after);
     let room = room_after(state, gap, len);
     let in_line = in_line_after(text, state, room, kind, after);
-    let closes = fits(text, Stop::Bracket, room, state.last, kind, after);
+    let closes = fits_behind(text, Stop::Bracket, room, state.last, kind, after);
     State {
         part: part_after(state, kind),
         in_line,

@@ -2,7 +2,7 @@
 
 ghost use Rattle.std.specs.Prelude.{◌≡◌, ◌≤◌, drop, length, take};
 ghost use Rattle.std.specs.List.{prefix_len};
-ghost use Rattle.snesl_layout.specs.Spacing.{closes, depth_after, ends_operand, is_glued, is_prefix_minus, is_printed, names_function, deeper, opens, spelled, next_at};
+ghost use Rattle.snesl_layout.specs.Spacing.{closes, depth_after, ends_operand, is_glued, is_prefix_minus, is_printed, names_function, deeper, opens, token_bytes, next_at};
 
 use snesl_data::is_blank;
 use snesl_lexer::{Kind, Token};
@@ -136,8 +136,8 @@ fn printed_len(text: &[u8]) -> usize
 }
 
 // The bytes of a token before others: up to the next one or to a blank.
-pub fn spelled<'a>(text: &'a [u8], token: Token, after: &[Token]) -> &'a [u8]
-    ensures { result.now ≡ spelled text.now token after.now }
+pub fn token_bytes<'a>(text: &'a [u8], token: Token, after: &[Token]) -> &'a [u8]
+    ensures { result.now ≡ token_bytes text.now token after.now }
 {
     let rest = between(text, token.at, next_at(text, after));
     &rest[..printed_len(rest)]

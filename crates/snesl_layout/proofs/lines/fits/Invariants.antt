@@ -1,8 +1,0 @@
-use Rattle.std.proofs.Common.{◌≡◌, drop}
-use Rattle.snesl_layout.specs.Lines.{fits, fits_behind}
-use Rattle.snesl_layout.proofs.lines.fits.Given as goal
-
--- all tokens fit just if those from this one on do
-abbrev pub invariant-loop-i : goal.invariant-loop-i
-invariant-loop-i l =
-    fits_behind l.text l.fn.stop l.fn.room l.fn.before l.fn.last l.tokens ≡ fits l.text l.stop l.room l.depth l.before l.last (drop l.i l.tokens)
