@@ -7,12 +7,12 @@ use Rattle.snesl_advice.specs.declared.following.Follower.{Follower}
 use Rattle.snesl_advice.specs.declared.following.Follower.TheVariants as next
 
 -- the text is a program, or begins one: all its tokens begin a program within the limits
-abbrev pub BeginsOne : List ℕ → Type 0
-BeginsOne text = ((tree : ProgramTree) × Parses text (Ok tree)) ⊎ Parses text (Err (Syntax (length text)))
+abbrev pub IsOrBeginsProgram : List ℕ → Type 0
+IsOrBeginsProgram text = ((tree : ProgramTree) × Parses text (Ok tree)) ⊎ Parses text (Err (Syntax (length text)))
 
 -- what stands in the program before an offset goes on with this word
 abbrev pub GoesOnWith : (program : List ℕ) → (at : ℕ) → (word : List ℕ) → Type 0
-GoesOnWith program at word = BeginsOne (take at program ++ codes " " ++ word)
+GoesOnWith program at word = IsOrBeginsProgram (take at program ++ codes " " ++ word)
 
 -- a word of the language that such a thing may be
 abbrev pub sample : Follower → List ℕ

@@ -10,7 +10,7 @@ use Rattle.snesl_tree.specs.View.{tree_of, trees_of, binders_of, declaration_of}
 use Rattle.snesl_types.specs.Clashes.{Clash}
 use Rattle.snesl_culprits.specs.Offsets.{first_offset}
 use Rattle.snesl_culprits.proofs.Others.{unrolled}
-use Rattle.snesl_culprits.specs.Culprits.{BeginsOne, IsCulprit, IsAmong, IsBound, IsDeclared, IsInside, IsOwn, of_itself, of_part, of_binder, of_first, of_later, of_name, of_source, of_other, of_one, of_later_one, parts, tested, IsOfFunction, IsOfDeclaration}
+use Rattle.snesl_culprits.specs.Culprits.{BeginsOne, IsCulprit, IsAmong, IsBound, IsDeclared, IsInside, IsOwnCulprit, of_itself, of_part, of_binder, of_first, of_later, of_name, of_source, of_other, of_one, of_later_one, parts, condition_parts, IsOfFunction, IsOfDeclaration}
 
 neither : {A B : Type 0} → ¬ A → ¬ B → ¬ (A ⊎ B)
 neither a b (inl x) = a x
@@ -69,28 +69,28 @@ module _ (at : ℕ) (clash : Clash) where
   among_one first a h = subst (BeginsOne (Among (both first none))) (or_none a) (among_both first none a None h among_none)
 
   -- a comprehension
-  pub inside_each : (start : ℕ) (within : Tree) (binders : Binders) (cond : Condition) (a b : Option ℕ) → BeginsOne (Among (both within (tested cond))) a
+  pub inside_each : (start : ℕ) (within : Tree) (binders : Binders) (cond : Condition) (a b : Option ℕ) → BeginsOne (Among (both within (condition_parts cond))) a
       → BeginsOne (Bound binders) b → BeginsOne (IsInside at clash (each start within binders cond)) (option_or a b)
   inside_each start within binders cond a b h k =
-      either_begins (Among (both within (tested cond))) (Bound binders) (IsInside at clash (each start within binders cond)) a b h k (λ part x. inl x) (λ part x. inr x) (λ part x. x)
+      either_begins (Among (both within (condition_parts cond))) (Bound binders) (IsInside at clash (each start within binders cond)) a b h k (λ part x. inl x) (λ part x. inr x) (λ part x. x)
 
   of_inside : (tree part : Tree) → IsInside at clash tree part → In tree part
   of_inside (each start within binders cond) part (inl x) = of_part x
   of_inside (each start within binders cond) part (inr x) = of_binder x
   of_inside tree part x = of_part x
 
-  inside_of_parts : (tree part : Tree) → Among (parts tree) part → IsInside at clash tree part
+  inside_of_parts : (tree part : Tree) → Among (form_parts tree) part → IsInside at clash tree part
   inside_of_parts (each start within binders cond) part x = inl x
   inside_of_parts tree part x = x
 
-  in_cases : (tree part : Tree) → In tree part → IsOwn at clash tree part ⊎ IsInside at clash tree part
+  in_cases : (tree part : Tree) → In tree part → IsOwnCulprit at clash tree part ⊎ IsInside at clash tree part
   in_cases tree part (of_itself x) = inl x
   in_cases tree part (of_part x) = inr (inside_of_parts tree part x)
   in_cases tree part (of_binder x) = inr (inr x)
 
-  pub in_tree : (tree : Tree) (a b : Option ℕ) → BeginsOne (IsOwn at clash tree) a → BeginsOne (IsInside at clash tree) b
+  pub in_tree : (tree : Tree) (a b : Option ℕ) → BeginsOne (IsOwnCulprit at clash tree) a → BeginsOne (IsInside at clash tree) b
       → BeginsOne (In tree) (option_or a b)
-  in_tree tree a b h k = either_begins (IsOwn at clash tree) (IsInside at clash tree) (In tree) a b h k (λ part x. of_itself x) (of_inside tree) (in_cases tree)
+  in_tree tree a b h k = either_begins (IsOwnCulprit at clash tree) (IsInside at clash tree) (In tree) a b h k (λ part x. of_itself x) (of_inside tree) (in_cases tree)
 
   bound_cases : (place : Span) (over : Tree) (others : Binders) (part : Tree) → ¬ (place.at ≡ at) → Bound (binder place over others) part → In over part ⊎ Bound others part
   bound_cases place over others part other (of_name e) = absurd (other e)

@@ -7,26 +7,26 @@ use Rattle.snesl_culprits.specs.Offsets.{first_offset}
 use Rattle.snesl_culprits.specs.Faults.{at_fault}
 
 -- a condition as a part
-abbrev pub tested : Condition → Trees
-tested always = none
-tested (only_where cond) = both cond none
+abbrev pub condition_parts : Condition → Trees
+condition_parts always = none
+condition_parts (only_where cond) = both cond none
 
 -- the parts of a form, but for what binders go over
-abbrev pub parts : Tree → Trees
-parts (binding at place value within) = both value (both within none)
-parts (each at within binders cond) = both within (tested cond)
-parts tree = seen_parts tree
+abbrev pub form_parts : Tree → Trees
+form_parts (binding at place value within) = both value (both within none)
+form_parts (each at within binders cond) = both within (condition_parts cond)
+form_parts tree = seen_parts tree
 
 -- the form stands at the offset, and its part is at fault
-abbrev pub IsOwn : ℕ → Clash → (tree part : Tree) → Type 0
-IsOwn at clash tree part = (offset tree ≡ at) × (at_fault clash tree ≡ Some part)
+abbrev pub IsOwnCulprit : ℕ → Clash → (tree part : Tree) → Type 0
+IsOwnCulprit at clash tree part = (offset tree ≡ at) × (at_fault clash tree ≡ Some part)
 
 module _ (at : ℕ) (clash : Clash) (part : Tree) where
   mutual
     -- the part is at fault in a form at the offset, which is the expression or lies within it
     pub data IsCulprit : Tree → Type 0 where
-      of_itself : {tree : Tree} → IsOwn at clash tree part → IsCulprit tree
-      of_part : {tree : Tree} → IsAmong (parts tree) → IsCulprit tree
+      of_itself : {tree : Tree} → IsOwnCulprit at clash tree part → IsCulprit tree
+      of_part : {tree : Tree} → IsAmong (form_parts tree) → IsCulprit tree
       of_binder : {start : ℕ} {within : Tree} {binders : Binders} {cond : Condition} → IsBound binders → IsCulprit (each start within binders cond)
 
     -- in one of these
@@ -42,8 +42,8 @@ module _ (at : ℕ) (clash : Clash) (part : Tree) where
 
 -- it is so in what the form is made of
 abbrev pub IsInside : ℕ → Clash → (tree part : Tree) → Type 0
-IsInside at clash (each start within binders cond) part = IsAmong at clash part (both within (tested cond)) ⊎ IsBound at clash part binders
-IsInside at clash tree part = IsAmong at clash part (parts tree)
+IsInside at clash (each start within binders cond) part = IsAmong at clash part (both within (condition_parts cond)) ⊎ IsBound at clash part binders
+IsInside at clash tree part = IsAmong at clash part (form_parts tree)
 
 -- it is the body of a function whose name stands at the offset, or lies in it
 abbrev pub IsOfFunction : ℕ → Clash → Span → (within part : Tree) → Type 0

@@ -6,7 +6,7 @@ ghost use Rattle.snesl_tree.specs.Tree.{both, none};
 ghost use Rattle.snesl_tree.specs.View.{tree_of, trees_of, binders_of, declaration_of};
 ghost use Rattle.snesl_types.specs.Clashes.{clash_of};
 ghost use Rattle.snesl_types.specs.Names.{condition_in};
-ghost use Rattle.snesl_culprits.specs.Culprits.{BeginsOne, IsAmong, IsBound, IsCulprit, IsCulpritOf, IsDeclared, IsInside, IsOfDeclaration, IsOfFunction, IsOwn, tested};
+ghost use Rattle.snesl_culprits.specs.Culprits.{BeginsOne, IsAmong, IsBound, IsCulprit, IsCulpritOf, IsDeclared, IsInside, IsOfDeclaration, IsOfFunction, IsOwnCulprit, condition_parts};
 
 use crate::choice::fault_offset;
 use crate::offsets::first_offset;
@@ -62,7 +62,7 @@ fn culprit_of_function(function: &Function, at: usize, clash: &Clash) -> Option<
 
 // Of a form that stands at the offset.
 fn own_culprit(expr: &Expr, at: usize, clash: &Clash) -> Option<usize>
-    ensures { BeginsOne (IsOwn at (clash_of clash.now) (tree_of expr.now)) result }
+    ensures { BeginsOne (IsOwnCulprit at (clash_of clash.now) (tree_of expr.now)) result }
 {
     if expr.at() == at {
         return fault_offset(expr, clash);
@@ -143,7 +143,7 @@ fn culprit_among(all: &[Expr], at: usize, clash: &Clash) -> Option<usize>
 #[cycle(walking)]
 fn culprit_tested(condition: &Option<Box<Expr>>, at: usize, clash: &Clash) -> Option<usize>
     ensures { BeginsOne (λ part. IsAmong at (clash_of clash.now) part
-        (tested (condition_in condition.now))) result }
+        (condition_parts (condition_in condition.now))) result }
 {
     match condition {
         Some(condition) => culprit_in(condition, at, clash),

@@ -6,7 +6,7 @@ use Rattle.snesl_tree.proofs.Arguments.{tree_of-Call, tree_of-Apply, tree_of-Lit
 use Rattle.snesl_types.specs.Clashes.{clash_of}
 use Rattle.snesl_types.specs.Names.{condition_in}
 use Rattle.snesl_types.proofs.Scopes.{tree_of-Each}
-use Rattle.snesl_culprits.specs.Culprits.{BeginsOne, IsAmong, IsCulprit, IsInside, tested}
+use Rattle.snesl_culprits.specs.Culprits.{BeginsOne, IsAmong, IsCulprit, IsInside, condition_parts}
 use Rattle.snesl_culprits.proofs.Found.{among_both, among_one, inside_each, in_tree, among_next, among_here, among_end, bound_next, bound_here, bound_by_name, bound_end}
 use Rattle.snesl_culprits.proofs.culprits.+walking.Goals as goal
 
@@ -123,16 +123,16 @@ culprit_inside-returns-in-Each t c =
     let tree = ap tree_of c.in-Each.is ∙ tree_of-Each c.in-Each.at c.in-Each.body c.in-Each.binders c.in-Each.condition
     ∙ ap (λ x. each c.in-Each.at (tree_of x) (binders_of c.in-Each.binders.items) cond) (sym c.deref-in-Each.ensures)
     ∙ ap (λ l. each c.in-Each.at (tree_of within) (binders_of l) cond) (sym c.deref-in-Each-2.ensures.value) in
-    let all = both (tree_of within) (tested cond) in
+    let all = both (tree_of within) (condition_parts cond) in
     subst (λ x. BeginsOne (IsInside at clash x) c.or-in-Each.result) (sym tree)
     (subst (BeginsOne (IsInside at clash (each c.in-Each.at (tree_of within) (binders_of binders) cond))) (sym c.or-in-Each.ensures)
     (inside_each at clash c.in-Each.at (tree_of within) (binders_of binders) cond c.or-within.result c.culprit_bound.result
     (subst (BeginsOne (λ part. IsAmong at clash part all)) (sym c.or-within.ensures)
-    (among_both at clash (tree_of within) (tested cond) c.culprit_in-in-Each.result c.culprit_tested.result c.culprit_in-in-Each.ensures c.culprit_tested.ensures))
+    (among_both at clash (tree_of within) (condition_parts cond) c.culprit_in-in-Each.result c.culprit_tested.result c.culprit_in-in-Each.ensures c.culprit_tested.ensures))
     c.culprit_bound.ensures))
 
 pub culprit_tested-returns-in-Some : goal.culprit_tested-returns-in-Some
 culprit_tested-returns-in-Some t c =
-    let all = ap (λ x. tested (condition_in x)) c.in-Some.is ∙ ap (λ x. both (tree_of x) none) (sym c.deref.ensures) in
+    let all = ap (λ x. condition_parts (condition_in x)) c.in-Some.is ∙ ap (λ x. both (tree_of x) none) (sym c.deref.ensures) in
     subst (λ x. BeginsOne (λ part. IsAmong c.args.at (clash_of c.args.clash.now) part x) c.culprit_in.result) (sym all)
     (among_one c.args.at (clash_of c.args.clash.now) (tree_of c.deref.result.now) c.culprit_in.result c.culprit_in.ensures)
