@@ -27,23 +27,23 @@ parts_of (each at body binders condition) = sources binders
 parts_of _ = none
 
 -- where calls and names mean this, the parts of the form have the values, and the form ends in the fault, which stands at its own offset
-pub record Ends (dialect : Dialect) (text : List ℕ) (calls : Calls) (environment : Environment) (tree : Tree) (kind : FaultKind) (at : ℕ) (values : List Value) : Type 0 where
+pub record FaultsAtForm (dialect : Dialect) (text : List ℕ) (calls : Calls) (environment : Environment) (tree : Tree) (kind : FaultKind) (at : ℕ) (values : List Value) : Type 0 where
   pub parts : eval_all dialect (parts_of tree) text calls environment ≡ gives values
   pub form : eval dialect tree text calls environment ≡ faults kind at
   pub own : at ≡ offset tree
 
 -- some form does, where these functions may be called and names mean something
-abbrev pub SomeEnds : Dialect → List ℕ → FaultKind → ℕ → List Value → Type 0
-SomeEnds dialect text kind at values =
+abbrev pub FaultsAtSomeForm : Dialect → List ℕ → FaultKind → ℕ → List Value → Type 0
+FaultsAtSomeForm dialect text kind at values =
     (functions : List Declaration) × (environment : Environment) × (tree : Tree)
-    × Ends dialect text (calls_of dialect text (map declaration_of functions)) environment tree kind at values
+    × FaultsAtForm dialect text (calls_of dialect text (map declaration_of functions)) environment tree kind at values
 
 -- so it is of what a search has found; where it was given up nothing is said
-abbrev pub Stops : Dialect → List ℕ → Stop → Type 0
-Stops dialect text GivenUp = Unit {0}
-Stops dialect text (Found finding) = SomeEnds dialect text finding.fault.kind finding.fault.at (map value_of finding.values.items)
+abbrev pub IsRightStop : Dialect → List ℕ → Stop → Type 0
+IsRightStop dialect text GivenUp = Unit {0}
+IsRightStop dialect text (Found finding) = FaultsAtSomeForm dialect text finding.fault.kind finding.fault.at (map value_of finding.values.items)
 
 -- the same of a result
 abbrev pub MayStop : {A : Type 0} → Dialect → List ℕ → Result A Stop → Type 0
 MayStop dialect text (Ok x) = Unit {0}
-MayStop dialect text (Err stop) = Stops dialect text stop
+MayStop dialect text (Err stop) = IsRightStop dialect text stop

@@ -6,7 +6,7 @@ ghost use Rattle.snesl_tree.specs.Tree.{both, none, offset};
 ghost use Rattle.snesl_tree.specs.View.{binders_of, tree_of};
 ghost use Rattle.snesl_evaluation.specs.Answer.{faults, gives};
 ghost use Rattle.snesl_evaluation.specs.Scopes.{all_in, eval_in};
-ghost use Rattle.snesl_faults.specs.Faults.{Stops, parts_of, sources};
+ghost use Rattle.snesl_faults.specs.Faults.{IsRightStop, parts_of, sources};
 
 use crate::finding::{Finding, Stop};
 use snesl_data::{Datum, Fault};
@@ -18,7 +18,7 @@ pub(crate) fn found_at(context: &ProgramContext, expr: &Expr, scope: &Scope, fau
     requires faulted { eval_in context.now scope.now (tree_of expr.now)
         ≡ faults fault.kind fault.at }
     requires own { fault.at ≡ offset (tree_of expr.now) }
-    ensures { Stops context.now.dialect context.now.text.now result }
+    ensures { IsRightStop context.now.dialect context.now.text.now result }
 {
     match part_values(context, expr, scope) {
         Ok(values) => Stop::Found(Finding { fault, values }),

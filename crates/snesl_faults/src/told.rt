@@ -2,7 +2,7 @@
 
 ghost use Rattle.std.specs.Prelude.{IfSome, map};
 ghost use Rattle.snesl_data.specs.Values.{value_of};
-ghost use Rattle.snesl_faults.specs.Faults.{SomeEnds};
+ghost use Rattle.snesl_faults.specs.Faults.{FaultsAtSomeForm};
 
 use crate::finding::Stop;
 use crate::search::search;
@@ -26,7 +26,7 @@ pub fn values_at_fault(
     inputs: &Inputs,
     fault: Fault,
 ) -> Option<Vec<Datum>>
-    ensures { IfSome result (λ values. SomeEnds program.now.dialect program.now.text.items
+    ensures { IfSome result (λ values. FaultsAtSomeForm program.now.dialect program.now.text.items
         fault.kind fault.at (map value_of values.items)) }
 {
     let context = ProgramContext {

@@ -30,12 +30,12 @@ place_of (Streamed at) program input = Some (place_in_program program at)
 place_of _ program input = None
 
 -- the front of the job
-abbrev pub front : Position
-front = record { line = 1; column = 1 }
+abbrev pub job_front : Position
+job_front = record { line = 1; column = 1 }
 
 -- a refusal's place, or the front of the job
 abbrev pub place_or_front : Refusal → (program input : List ℕ) → Position
-place_or_front refusal program input = unwrap_or (place_of refusal program input) front
+place_or_front refusal program input = unwrap_or (place_of refusal program input) job_front
 
 -- how many bytes what stands at a refusal's place has
 abbrev pub marked : Refusal → (program input : List ℕ) → ℕ
