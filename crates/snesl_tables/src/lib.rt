@@ -4,5 +4,5 @@
 mod spelling;
 mod table;
 
-pub use spelling::{SpellingError, spelled};
+pub use spelling::{SpellingError, spelled_bytes};
 pub use table::{Row, TableError, rows_of};

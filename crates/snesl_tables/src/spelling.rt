@@ -40,7 +40,7 @@ struct Speller {
 }
 
 /// The bytes that a text spells.
-pub fn spelled(alloc: Global, text: &str) -> Result<Vec<u8>, SpellingError> {
+pub fn spelled_bytes(alloc: Global, text: &str) -> Result<Vec<u8>, SpellingError> {
     let mut speller = Speller {
         bytes: Vec::new(alloc),
         open: None,

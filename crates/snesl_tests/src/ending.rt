@@ -4,7 +4,7 @@
 use crate::running::assert_done;
 use flow_drives::Outcome;
 use snesl_data::Refusal;
-use snesl_trials::{Done, ran_alone};
+use snesl_trials::{Done, ran_in_one_thread};
 use std::alloc::{AllocError, Global};
 use std::process::Abort;
 use std::test::Fail;
@@ -26,7 +26,7 @@ fn held_by_full_edge(done: &Done) -> Option<u64> {
 fn stalls_where_edges_are_small(rt: HostRuntime) -> Result<(), Fail> {
     let twice = b"let s = iota(100) in s ++ s".as_slice();
     for chunk in [1, 16] {
-        let small = ran_alone(&rt, rt.alloc(), twice, b"", 4, chunk)?;
+        let small = ran_in_one_thread(&rt, rt.alloc(), twice, b"", 4, chunk)?;
         assert_eq!(rt; held_by_full_edge(&small), Some(4));
     }
     Ok(())
@@ -39,7 +39,7 @@ fn assert_unlawful<R: Abort + Threads>(
     program: &[u8],
     (capacity, chunk): (usize, usize),
 ) -> Result<(), AllocError> {
-    let done = ran_alone(rt, alloc, program, b"", capacity, chunk)?;
+    let done = ran_in_one_thread(rt, alloc, program, b"", capacity, chunk)?;
     assert_done(rt, &done, Err(Refusal::BadConfig), b"");
     Ok(())
 }

@@ -12,7 +12,7 @@ use flow_nodes::StreamNode;
 use snesl_data::Refusal;
 use snesl_flatten::flatten;
 use snesl_syntax::{Program, parse};
-use snesl_trials::alone;
+use snesl_trials::in_one_thread;
 use snesl_types::{Typed, check};
 use snesl_values::{Inputs, read_inputs};
 use std::alloc::Global;
@@ -84,7 +84,7 @@ fn assert_sums<R: Abort + Threads>(
 // Step by step what a run does.
 #[test]
 fn one_program_and_two_inputs(rt: HostRuntime) -> Result<(), Fail> {
-    let config = alone(rt.alloc(), 1, 1)?;
+    let config = in_one_thread(rt.alloc(), 1, 1)?;
     let program = parse(rt.alloc(), b"input n : int; reduce_add(iota(n))")?;
     assert_sums(&rt, rt.alloc(), &program, &config)
 }

@@ -1,7 +1,7 @@
 // How large networks are, and how many messages go over their edges. The numbers are counted by hand.
 
 use flow_drives::Outcome;
-use snesl_trials::{Done, ran_alone};
+use snesl_trials::{Done, ran_in_one_thread};
 use std::alloc::{AllocError, Global};
 use std::process::Abort;
 use std::test::Fail;
@@ -29,7 +29,7 @@ fn assert_sized<R: Abort + Threads>(
 ) -> Result<(), AllocError> {
     for capacity in [1, 2, 4, 256] {
         for chunk in [1, 16] {
-            let done = ran_alone(rt, alloc, program, b"", capacity, chunk)?;
+            let done = ran_in_one_thread(rt, alloc, program, b"", capacity, chunk)?;
             let told = (done.ending, done.written.as_slice(), size_of(&done));
             assert_eq!(rt; told, (Ok(Outcome::Value), line, size));
         }

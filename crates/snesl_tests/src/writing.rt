@@ -4,7 +4,7 @@ use crate::limping::{Stop, Trouble};
 use crate::running::{Ran, ran_over};
 use flow_drives::{NoGate, Outcome};
 use snesl_data::{Fault, FaultKind, Refusal};
-use snesl_trials::alone;
+use snesl_trials::in_one_thread;
 use std::alloc::{AllocError, Global};
 use std::process::Abort;
 use std::sync::Arc;
@@ -19,7 +19,7 @@ fn ran(
     trouble: Trouble,
 ) -> Result<Ran, AllocError> {
     let gate = Arc::new(alloc, NoGate)?;
-    let config = alone(alloc, capacity, 16)?;
+    let config = in_one_thread(alloc, capacity, 16)?;
     Ok(ran_over(rt, alloc, program, &config, gate, trouble))
 }
 

@@ -7,4 +7,4 @@ mod running;
 
 pub use configuration::in_threads;
 pub use expected::Expected;
-pub use running::{Done, alone, ran, ran_alone};
+pub use running::{Done, in_one_thread, ran, ran_in_one_thread};

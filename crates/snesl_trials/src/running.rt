@@ -78,7 +78,7 @@ pub fn ran(
 }
 
 /// Runs a program for an input text in one thread, over edges of this capacity, with visits of at most so many steps.
-pub fn ran_alone(
+pub fn ran_in_one_thread(
     rt: &impl Threads,
     alloc: Global,
     program: &[u8],
@@ -86,7 +86,7 @@ pub fn ran_alone(
     capacity: usize,
     chunk: usize,
 ) -> Result<Done, AllocError> {
-    let config = alone(alloc, capacity, chunk)?;
+    let config = in_one_thread(alloc, capacity, chunk)?;
     ran(rt, alloc, program, input, &config)
 }
 
@@ -100,7 +100,7 @@ fn counts(alloc: Global, rested: &Rested<StreamNode>) -> Result<Vec<(u64, u64)>,
 }
 
 /// One thread, over edges of this capacity, with visits of at most so many steps.
-pub fn alone(alloc: Global, capacity: usize, chunk: usize) -> Result<Config, AllocError>
+pub fn in_one_thread(alloc: Global, capacity: usize, chunk: usize) -> Result<Config, AllocError>
     ensures capacity { IfOk result (λ config. config.capacity ≡ capacity) }
     ensures chunk { IfOk result (λ config. config.chunk ≡ chunk) }
     ensures drive { IfOk result (λ config. config.drive ≡ Serial) }

@@ -5,7 +5,7 @@ use crate::figures::plan::squares;
 use anyhow::Result;
 use flow_drives::{Config, MAX_CHUNK, NoGate, Outcome, Rested, drive};
 use flow_nodes::StreamNode;
-use snesl_trials::alone;
+use snesl_trials::in_one_thread;
 use std::rt::Clock;
 use std::sync::Arc;
 use std::thread::Threads;
@@ -20,7 +20,7 @@ pub fn time_graph<R: Print + Eprint + Clock + AllocGlobal + Threads>(
     count: u64,
 ) -> Result<()> {
     for chunk in [16, 256, MAX_CHUNK] {
-        measure(rt, count, &alone(rt.alloc(), CAPACITY, chunk)?)?;
+        measure(rt, count, &in_one_thread(rt.alloc(), CAPACITY, chunk)?)?;
     }
     Ok(())
 }

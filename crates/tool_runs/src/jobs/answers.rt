@@ -3,7 +3,7 @@
 use crate::jobs::Trial;
 use snesl_data::Counted;
 use snesl_run::answer;
-use snesl_tables::{Row, SpellingError, spelled};
+use snesl_tables::{Row, SpellingError, spelled_bytes};
 use std::alloc::{AllocError, Global};
 use std::fmt;
 use std::thread::Threads;
@@ -93,7 +93,7 @@ fn line_of(alloc: Global, line: Option<&str>) -> Result<Vec<u8>, SpellingError> 
     let Some(text) = line else {
         return Ok(Vec::new(alloc));
     };
-    let mut bytes = spelled(alloc, text)?;
+    let mut bytes = spelled_bytes(alloc, text)?;
     bytes.push(b'\n').map_err(AllocError::from)?;
     Ok(bytes)
 }
@@ -101,7 +101,7 @@ fn line_of(alloc: Global, line: Option<&str>) -> Result<Vec<u8>, SpellingError> 
 /// The bytes of the job: its lines, with a line feed between two.
 pub fn job_of(alloc: Global, row: &Row<'_>) -> Result<Vec<u8>, SpellingError> {
     let text = text_of(alloc, &row.job)?;
-    spelled(alloc, text.as_str())
+    spelled_bytes(alloc, text.as_str())
 }
 
 // The lines of a job as they are spelled, with a line feed between two.

@@ -7,7 +7,7 @@ use crate::jobs::answers::job_of;
 use snesl_console::split_job;
 use snesl_data::{Counted, Refusal};
 use snesl_tables::{Row, SpellingError};
-use snesl_trials::{Expected, ran_alone};
+use snesl_trials::{Expected, ran_in_one_thread};
 use std::alloc::{AllocError, Global};
 use std::fmt;
 use std::thread::Threads;
@@ -97,7 +97,7 @@ impl Beside {
         self.programs = self.programs.saturating_add(1);
         for capacity in [256, 4, 2, 1] {
             for chunk in [16, 256, 1] {
-                let done = ran_alone(rt, alloc, program, input, capacity, chunk)?;
+                let done = ran_in_one_thread(rt, alloc, program, input, capacity, chunk)?;
                 self.endings.count(&done);
                 if !expected.allows(&done) {
                     self.differing = self.differing.saturating_add(1);

@@ -6,7 +6,7 @@ use flow_drives::{Config, Drive};
 use snesl_console::split_job;
 use snesl_data::Counted;
 use snesl_tables::{Row, SpellingError};
-use snesl_trials::{Done, ran, ran_alone};
+use snesl_trials::{Done, ran, ran_in_one_thread};
 use std::alloc::{AllocError, Global};
 use std::fmt;
 use std::thread::Threads;
@@ -99,7 +99,7 @@ impl Drives {
         let (program, input) = split_job(alloc, &mut Counted::new(job)).map_err(|_| AllocError)?;
         self.programs = self.programs.saturating_add(1);
         for capacity in CAPACITIES {
-            let serial = ran_alone(rt, alloc, &program, &input, capacity, 16)?;
+            let serial = ran_in_one_thread(rt, alloc, &program, &input, capacity, 16)?;
             let case = Case {
                 program: &program,
                 input: &input,

@@ -9,7 +9,7 @@ use flow_drives::{Config, Drive, Outcome};
 use snesl_console::split_job;
 use snesl_data::{Counted, Refusal};
 use snesl_dice::Dice;
-use snesl_trials::{Done, Expected, alone, ran};
+use snesl_trials::{Done, Expected, in_one_thread, ran};
 use std::alloc::{AllocError, Global};
 use std::fmt;
 use std::thread::Threads;
@@ -125,7 +125,7 @@ impl Totals {
         dice: &mut Dice,
         case: Case<'_>,
     ) -> Result<(), Failure> {
-        let config = alone(alloc, WIDE, CHUNK)?;
+        let config = in_one_thread(alloc, WIDE, CHUNK)?;
         let wide = self.ran(rt, alloc, case, &config)?;
         if wide.ending == Err(Refusal::TooBig) && wide.written.is_empty() {
             return Ok(());
@@ -152,7 +152,7 @@ impl Totals {
         wide: &Done,
     ) -> Result<(), Failure> {
         let capacity = random_capacity(dice);
-        let config = alone(alloc, capacity, CHUNK)?;
+        let config = in_one_thread(alloc, capacity, CHUNK)?;
         let first = self.ran(rt, alloc, case, &config)?;
         check(alloc, case, wide, &config, &first)?;
         self.replay(alloc, dice, case, capacity, &first)?;
