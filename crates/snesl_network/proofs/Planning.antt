@@ -24,7 +24,7 @@ use Rattle.flow_plans.specs.Layouts.{layout, IsNetworkOfPlan}
 use Rattle.flow_assembly.specs.Openings.{AllOpen}
 use Rattle.snesl_translation.specs.Programs.{cells_of}
 use Rattle.snesl_flatten.specs.Networks.{NodeState, program_steps, NetworkMeans}
-use Rattle.snesl_network.specs.Driven.{IsWithinLimits, IsBeyondLimits, IsAccepted}
+use Rattle.snesl_network.specs.Driven.{ExceedsGraph, FitsInGraph, IsAccepted}
 use Rattle.snesl_network.specs.Meant.{IsMeantFor, HasNoNetwork}
 
 -- these nodes and edges are the network of this program with these inputs
@@ -85,10 +85,10 @@ module _ (text input : List ℕ) (parsed : Program) (typed : Typed) (parses : Pa
           }
 
       -- whose network is too great
-      pub plan_refused : (refusal : Refusal) → (refusal ≡ TooBig → IsBeyondLimits (typed_text typed) (typed_tree typed) (typed_inputs typed))
+      pub plan_refused : (refusal : Refusal) → (refusal ≡ TooBig → ExceedsGraph (typed_text typed) (typed_tree typed) (typed_inputs typed))
           → (refusal ≡ TooBig) ⊎ (refusal ≡ NoMemory) → HasNoNetwork text input refusal
       plan_refused refusal big (inl is) =
-          subst (HasNoNetwork text input) (sym is) (λ config. inl (record { accepted = accepted; greater = of_program IsBeyondLimits (big is) }))
+          subst (HasNoNetwork text input) (sym is) (λ config. inl (record { accepted = accepted; greater = of_program ExceedsGraph (big is) }))
       plan_refused refusal big (inr is) = subst (HasNoNetwork text input) (sym is) (λ config. tt)
 
     -- the network that was made is that of the text and its input, and means it
@@ -96,7 +96,7 @@ module _ (text input : List ℕ) (parsed : Program) (typed : Typed) (parses : Pa
         → IsItsNetwork environment states edges (typed_text typed) (typed_tree typed) (typed_inputs typed)
         → AllOpenFor environment states (typed_text typed) (typed_tree typed) (typed_inputs typed)
         → AreOpened node_behaviour states → IsNetwork node_behaviour states edges
-        → IsWithinLimits (typed_text typed) (typed_tree typed) (typed_inputs typed)
+        → FitsInGraph (typed_text typed) (typed_tree typed) (typed_inputs typed)
         → NetworkMeans (typed_text typed) (typed_tree typed) environment states edges
         → IsMeantFor text input states edges
     is_meant environment states edges spelled network opens opened joined few means =
@@ -114,6 +114,6 @@ module _ (text input : List ℕ) (parsed : Program) (typed : Typed) (parses : Pa
             opened = opened;
             joined = joined;
           };
-          few = of_program IsWithinLimits few;
+          few = of_program FitsInGraph few;
           means = of_program (λ bytes tree declared. NetworkMeans bytes tree environment states edges) means;
         }

@@ -43,14 +43,14 @@ abbrev pub IsNamed : FinalView NodeState → Fault → Type 0
 IsNamed rest f = NamesFault node_behaviour.process (network_of node_behaviour rest.states rest.edges) (configuration_of node_behaviour rest.states rest.traffic) f
 
 -- the network of a program of these inputs has no more nodes and edges than a graph may have
-abbrev pub IsWithinLimits : List ℕ → ProgramTree → List Declaration → Type 0
-IsWithinLimits text program inputs =
+abbrev pub FitsInGraph : List ℕ → ProgramTree → List Declaration → Type 0
+FitsInGraph text program inputs =
     let nodes = layout (program_steps text program inputs unset_cells) in
     (length nodes ≤ most_nodes) × (edges_needed nodes ≤ most_edges)
 
 -- or it has more
-abbrev pub IsBeyondLimits : List ℕ → ProgramTree → List Declaration → Type 0
-IsBeyondLimits text program inputs =
+abbrev pub ExceedsGraph : List ℕ → ProgramTree → List Declaration → Type 0
+ExceedsGraph text program inputs =
     let nodes = layout (program_steps text program inputs unset_cells) in
     (most_nodes < length nodes) ⊎ (most_edges < edges_needed nodes)
 
@@ -84,12 +84,12 @@ module _ (text input : List ℕ) where
   -- The program with its input is accepted, and a graph may have its network.
   pub record HasNetwork : Type 0 where
     pub accepted : IsAccepted
-    pub few : IsWithinLimits text accepted.program accepted.declared.inputs
+    pub few : FitsInGraph text accepted.program accepted.declared.inputs
 
   -- The program with its input is accepted, but its network has more nodes or edges than a graph may have.
   pub record IsTooGreat : Type 0 where
     pub accepted : IsAccepted
-    pub greater : IsBeyondLimits text accepted.program accepted.declared.inputs
+    pub greater : ExceedsGraph text accepted.program accepted.declared.inputs
 
   -- What rests is the network of the program with its input, driven as the configuration says until no node can step; and how
   -- it came out is the program's value, or a fault where the program has one.
@@ -99,7 +99,7 @@ module _ (text input : List ℕ) where
     pub states : List NodeState
     pub edges : List Edge
     pub start : IsNetworkFor states edges
-    pub few : IsWithinLimits text start.program start.declared.inputs
+    pub few : FitsInGraph text start.program start.declared.inputs
     pub same : IsSameNetwork node_behaviour states edges rest.states rest.edges
     pub capacity_is : rest.capacity ≡ config.capacity
     -- it is sound, no node can step, and no edge holds more than its capacity
