@@ -9,12 +9,12 @@ use Rattle.snesl_types.specs.Typed.{typed_dialect, typed_inputs, typed_text, typ
 use Rattle.snesl_types.specs.declared.typed.Typed.{Typed}
 use Rattle.flow_graph.specs.Edge.{Edge}
 use Rattle.snesl_flatten.specs.GraphNetworks.{AreOpened}
-use Rattle.snesl_flatten.specs.Networks.{NodeState, NetworkMeans}
+use Rattle.snesl_flatten.specs.Networks.{NetworkMeans, StreamNodeState}
 use Rattle.snesl_flatten.specs.StreamNodes.{node_behaviour}
 
 -- The text is a typed program, the input text spells values for its inputs, and the nodes stand before their first step. The
 -- network completes exactly when the program has a value for these, and then prints that value.
-pub record IsNetworkOf (text input : List ℕ) (states : List NodeState) (edges : List Edge) : Type 0 where
+pub record IsNetworkOf (text input : List ℕ) (states : List StreamNodeState) (edges : List Edge) : Type 0 where
   pub program : ProgramTree
   pub inputs : List Declaration
   pub ty : Ty
@@ -26,7 +26,7 @@ pub record IsNetworkOf (text input : List ℕ) (states : List NodeState) (edges 
   pub means : NetworkMeans text program environment states edges
 
 -- The same of a program that is typed: the input text spells values for its inputs, and the nodes stand before their first step.
-pub record IsNetworkOfTyped (typed : Typed) (input : List ℕ) (states : List NodeState) (edges : List Edge) : Type 0 where
+pub record IsNetworkOfTyped (typed : Typed) (input : List ℕ) (states : List StreamNodeState) (edges : List Edge) : Type 0 where
   pub environment : Environment
   pub reads : InputMeans (typed_dialect typed) (typed_inputs typed) input (spells environment)
   pub opened : AreOpened node_behaviour states

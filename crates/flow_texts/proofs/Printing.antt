@@ -28,7 +28,7 @@ use Rattle.flow_networks.specs.Networks.{AreOpened, network_of, configuration_of
 use Rattle.flow_networks.specs.Flows.{HasCarried}
 use Rattle.flow_networks.proofs.Flows.{same_bodies}
 use Rattle.flow_drives.specs.Texts.{last_text}
-use Rattle.flow_texts.specs.PrintedTexts.{NodeState, PrintsAtTheEnd, PrintTells}
+use Rattle.flow_texts.specs.PrintedTexts.{StreamNodeState, PrintsAtTheEnd, PrintTells}
 use Rattle.flow_texts.proofs.LastTexts.{last_is}
 
 -- values of a type that put the same on its edges are one value
@@ -37,8 +37,8 @@ same_value ty v w is_v is_w same =
     let one : v ∷ [] ≡ w ∷ [] = laid_injective ty (v ∷ []) (w ∷ []) (all_cons ty v [] is_v refl) (all_cons ty w [] is_w refl) (columns_same (width ty) (flat ty 0 (v ∷ [])) (flat ty 0 (w ∷ [])) same) in
     cc
 
-module _ (states : List NodeState) (edges : List Edge) (is_net : IsNetwork node_behaviour states edges) (opened : AreOpened node_behaviour states) where
-  abbrev net : Network NodeState
+module _ (states : List StreamNodeState) (edges : List Edge) (is_net : IsNetwork node_behaviour states edges) (opened : AreOpened node_behaviour states) where
+  abbrev net : Network StreamNodeState
   net = network_of node_behaviour states edges
 
   opening_is : (k : ℕ) → k < length states → net.opening k ≡ state_at node_behaviour states k
@@ -46,8 +46,8 @@ module _ (states : List NodeState) (edges : List Edge) (is_net : IsNetwork node_
       get_or-map node_behaviour.opening states k node_behaviour.sample node_behaviour.sample l
       ∙ All-get_or (λ s. node_behaviour.opening s ≡ s) states k node_behaviour.sample l opened
 
-  module _ (states' : List NodeState) (view : View) (all : IsComplete node_behaviour.process net (configuration_of node_behaviour states' view)) where
-    abbrev c : Configuration NodeState Signal
+  module _ (states' : List StreamNodeState) (view : View) (all : IsComplete node_behaviour.process net (configuration_of node_behaviour states' view)) where
+    abbrev c : Configuration StreamNodeState Signal
     c = configuration_of node_behaviour states' view
 
     -- A Print that has ended: what it read, and its text.
@@ -89,6 +89,6 @@ module _ (states : List NodeState) (edges : List Edge) (is_net : IsNetwork node_
         sym (flows p lt) ∙ same_bodies (bodies (in_edge edges k p)) (flat ty 0 (has.value ∷ []) p) (sym (carried (in_edge edges k p) there.0).1 ∙ has.came p lt)) in
         last_is text_in states' k node_behaviour.sample (text_of_value v) (print.1 ∙ sym same) (has.text_is ∙ ap (λ w. Some (text_of_value w)) (sym alike))
 
-pub print_tells : (states : List NodeState) (edges : List Edge) → IsNetwork node_behaviour states edges → PrintTells states edges
+pub print_tells : (states : List StreamNodeState) (edges : List Edge) → IsNetwork node_behaviour states edges → PrintTells states edges
 print_tells states edges is_net ty at print opened states' view same all bodies carried v is_v flows =
     tells states edges is_net opened states' view all ty at print same bodies carried v is_v flows

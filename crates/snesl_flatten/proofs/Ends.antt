@@ -21,7 +21,7 @@ use Rattle.flow_assembly.specs.Openings.{AllOpen}
 use Rattle.snesl_translation.specs.Wires.{Wires, type_of_wires, numbers_of}
 use Rattle.snesl_translation.specs.Programs.{first_offset, program_plan, unset_cells}
 use Rattle.flow_texts.specs.PrintedTexts.{PrintsAtTheEnd}
-use Rattle.snesl_flatten.specs.Networks.{NodeState, program_steps}
+use Rattle.snesl_flatten.specs.Networks.{StreamNodeState, program_steps}
 use Rattle.snesl_flatten.proofs.Sources.{value, front_steps, front_and_print, given_is}
 
 -- a Print that reads these streams
@@ -62,7 +62,8 @@ module _ (text : List ℕ) (program : ProgramTree) (inputs : List Declaration) (
       let on : k ≡ length front + zero = omega (arith, is, ap length print_last.1, length-append front last) in
       ap (λ l. slice_get l k) print_last.1 ∙ get_right front last k zero on
 
-  pub print_opens : (states : List NodeState) → length states ≡ length nodes → AllOpen nodes states → PrintsAtTheEnd (type_of_wires (program_plan text program inputs unset_cells).given) at states
+  pub print_opens : (states : List StreamNodeState) → length states ≡ length nodes → AllOpen nodes states
+      → PrintsAtTheEnd (type_of_wires (program_plan text program inputs unset_cells).given) at states
   print_opens states same opens =
       let front = print_last.0 in
       let last = print_placed at (type_of_wires w) (numbers_of w) in
@@ -71,10 +72,11 @@ module _ (text : List ℕ) (program : ProgramTree) (inputs : List Declaration) (
       (k, is ∙ sym same, opens k last (print_there k is) ∙ ap (λ v. (a_print, print_opening (type_of_wires v) at)) (sym (given_is text program inputs unset_cells)))
 
 -- it stays where a source is put in place of a node
-pub print_stays : (ty : Ty) (offset : ℕ) (states : List NodeState) (k : ℕ) (items : Items) → MayReplace node_behaviour states k (a_source, source_opening items) → PrintsAtTheEnd ty offset states
+pub print_stays : (ty : Ty) (offset : ℕ) (states : List StreamNodeState) (k : ℕ) (items : Items) → MayReplace node_behaviour states k (a_source, source_opening items)
+    → PrintsAtTheEnd ty offset states
     → PrintsAtTheEnd ty offset (set states k (a_source, source_opening items))
 print_stays ty offset states k items may last =
-    let s : NodeState = (a_source, source_opening items) in
+    let s : StreamNodeState = (a_source, source_opening items) in
     let other : last.0 ≢ k = λ same.
     let ports : 1 ≡ 0 = may.outputs ∙ get_or-map node_behaviour.outputs states k node_behaviour.sample 0 may.node ∙ ap (λ j. node_behaviour.outputs (state_at node_behaviour states j)) (sym same) ∙ ap node_behaviour.outputs last.2 in
     absurd (omega (arith, ports)) in

@@ -9,11 +9,11 @@ use Rattle.flow_plans.specs.Plans.{Step}
 use Rattle.flow_plans.specs.Layouts.{layout, IsNetworkOfPlan}
 use Rattle.flow_assembly.specs.Openings.{AllOpen}
 use Rattle.snesl_translation.specs.Programs.{unset_cells}
-use Rattle.snesl_flatten.specs.Networks.{NodeState, program_steps}
+use Rattle.snesl_flatten.specs.Networks.{StreamNodeState, program_steps}
 use Rattle.snesl_flatten.specs.Sources.{HasSources}
 use Rattle.snesl_flatten.proofs.Ends.{print_opens}
 
-module _ (text : List ℕ) (program : ProgramTree) (inputs : List Declaration) (states : List NodeState) (edges : List Edge) where
+module _ (text : List ℕ) (program : ProgramTree) (inputs : List Declaration) (states : List StreamNodeState) (edges : List Edge) where
   -- it has its sources before any of them is set
   pub no_source_set : (steps : List Step) → steps ≡ program_steps text program inputs unset_cells → IsNetworkOfPlan node_behaviour steps states edges → AllOpen (layout steps) states
       → AreOpened node_behaviour states → HasSources text program inputs [] states edges

@@ -26,7 +26,7 @@ use Rattle.flow_inputs.specs.TextSources.{items_in, text_source_state}
 use Rattle.flow_inputs.specs.Ways.{way_to, leaf_at}
 use Rattle.flow_inputs.specs.declared.source.TextSource.{TextSource}
 use Rattle.flow_scalar.specs.Streams.{Items}
-use Rattle.snesl_flatten.specs.Sources.{cells_in, kind_in, all_kinds, AreFresh}
+use Rattle.snesl_flatten.specs.Sources.{cells_in, source_kind, all_kinds, AreFresh}
 use Rattle.snesl_flatten.proofs.InputStreams.{value_at, is_there}
 
 -- one column, or one kind, more
@@ -65,7 +65,7 @@ module _ (holds : TextHoldsEdges) (kinds : KindsOfEdges) (text : List ℕ) (plac
       let r = reads_of (value_tokens (spelled_at text place)) place placed.1.2 in
       ap (λ (x : Items). x.cells) is ∙ holds placed.0 t edge text place r.0 (spelled_at text place) lt placed.1.1 placed.1.0 r.1
 
-  pub kind_of_edge : kind_in source ≡ kind_at (kinds_of t) edge
+  pub kind_of_edge : source_kind source ≡ kind_at (kinds_of t) edge
   kind_of_edge = ap (λ (x : Items). x.kind) is ∙ kinds t edge lt
 
 -- where the value of a declared input is

@@ -13,13 +13,13 @@ use Rattle.flow_plans.specs.Plans.{Step}
 use Rattle.flow_plans.specs.Ports.{kinds_read}
 use Rattle.flow_plans.specs.Layouts.{Placed, layout, places, stream_from, stream_to, edges_between, IsNetworkOfPlan}
 use Rattle.flow_assembly.specs.Openings.{AllOpen, IsUsable, OpeningsPerform}
-use Rattle.snesl_flatten.specs.Networks.{NodeState}
+use Rattle.snesl_flatten.specs.Networks.{StreamNodeState}
 use Rattle.snesl_flatten.specs.Sources.{HasSources}
 use Rattle.snesl_flatten.specs.Unset.{unset_steps, HoldsNetwork}
 use Rattle.snesl_flatten.proofs.Held.{no_source_set}
 use Rattle.snesl_flatten.proofs.Once.{AreOpened-prop, Opens-prop, IsUsable-prop, edges_are_a_set}
 
-module _ (typed : Typed) (states : List NodeState) (edges : List Edge) (at : List ℕ) (kept : ∥ HoldsNetwork typed states edges at ∥₁) where
+module _ (typed : Typed) (states : List StreamNodeState) (edges : List Edge) (at : List ℕ) (kept : ∥ HoldsNetwork typed states edges at ∥₁) where
   abbrev steps : List Step
   steps = unset_steps typed
 

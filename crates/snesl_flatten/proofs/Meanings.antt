@@ -39,7 +39,7 @@ use Rattle.flow_drives.specs.Texts.{last_text}
 use Rattle.flow_texts.specs.PrintedTexts.{PrintsAtTheEnd, PrintTells}
 use Rattle.snesl_translation.specs.Wires.{Wires, type_of_wires, numbers_of}
 use Rattle.snesl_translation.specs.Programs.{first_offset, program_plan, unset_cells, columns_of, cells_of, PlansMean}
-use Rattle.snesl_flatten.specs.Networks.{NodeState, program_steps, NetworkMeans}
+use Rattle.snesl_flatten.specs.Networks.{program_steps, NetworkMeans, StreamNodeState}
 use Rattle.snesl_flatten.specs.Sources.{HasSources}
 use Rattle.snesl_flatten.proofs.Sources.{value, given_is}
 use Rattle.snesl_flatten.proofs.Ends.{print_placed, print_there}
@@ -78,7 +78,7 @@ module _ (text : List ℕ) (program : ProgramTree) (environment : Environment) w
     value_is sound v is =
         typed_is program.dialect t v (subst (Safe (λ x. HasType program.dialect x t)) is (sound text program typing.0 t environment typing.1 fits_typing))
 
-module _ (text : List ℕ) (program : ProgramTree) (inputs : List Declaration) (environment : Environment) (states : List NodeState) (edges : List Edge)
+module _ (text : List ℕ) (program : ProgramTree) (inputs : List Declaration) (environment : Environment) (states : List StreamNodeState) (edges : List Edge)
     (is_net : IsNetwork node_behaviour states edges) (set : HasSources text program inputs (columns_of inputs environment) states edges) where
   abbrev plan : List Step
   plan = program_steps text program inputs (cells_of inputs environment)
@@ -124,7 +124,7 @@ module _ (text : List ℕ) (program : ProgramTree) (inputs : List Declaration) (
         let both : Some ran.0 ≡ None = sym ran.1 ∙ (means typing).1 kind at is in
         cc)
 
-    module _ (states' : List NodeState) (view : View) (same : length states' ≡ length states)
+    module _ (states' : List StreamNodeState) (view : View) (same : length states' ≡ length states)
         (all : IsComplete node_behaviour.process (network_of node_behaviour states edges) (configuration_of node_behaviour states' view)) where
       -- the text is that of the value
       text_is : (v : Value) → program_value text program environment ≡ gives v → HasTyping text program inputs t → last_text text_in states' ≡ text_of_value v

@@ -26,21 +26,23 @@ use Rattle.flow_plans.specs.Settings.{with_source, IsLaidBut, SourceIsSet}
 use Rattle.flow_assembly.specs.Openings.{Opens, AllOpen, OpeningsPerform}
 use Rattle.snesl_translation.specs.Wires.{type_of_wires}
 use Rattle.snesl_translation.specs.Programs.{first_offset, program_plan, unset_cells}
-use Rattle.snesl_flatten.specs.Networks.{NodeState, program_steps}
-use Rattle.snesl_flatten.specs.Sources.{all_kinds, cells_in, kind_in, source_columns, AreFresh, HasSources}
+use Rattle.snesl_flatten.specs.Networks.{StreamNodeState, program_steps}
+use Rattle.snesl_flatten.specs.Sources.{all_kinds, cells_in, source_columns, source_kind, AreFresh, HasSources}
 use Rattle.snesl_flatten.specs.Unset.{unset_steps, AreButSources}
 use Rattle.snesl_flatten.proofs.InputSources.{fresh_at}
 use Rattle.snesl_flatten.proofs.Sources.{source_step, next_source, next_set, steps_enough}
 use Rattle.snesl_flatten.proofs.Ends.{print_stays}
 
 -- the kind of the next source
-pub kind_there : (sources : List TextSource) (kinds : List Kind) → map kind_in sources ≡ kinds → (n : ℕ) (s : TextSource) → (n < length sources) × (s ≡ get_or sources n s) → slice_get kinds n ≡ Some (kind_in s)
+pub kind_there : (sources : List TextSource) (kinds : List Kind) → map source_kind sources ≡ kinds
+    → (n : ℕ) (s : TextSource) → (n < length sources) × (s ≡ get_or sources n s) → slice_get kinds n ≡ Some (source_kind s)
 kind_there sources kinds same n s turn =
-    ap (λ l. slice_get l n) (sym same) ∙ slice_get-map kind_in sources n ∙ ap (option_map kind_in) (slice_get-get_or sources n s turn.0 ∙ ap Some (sym turn.1))
+    ap (λ l. slice_get l n) (sym same) ∙ slice_get-map source_kind sources n ∙ ap (option_map source_kind) (slice_get-get_or sources n s turn.0 ∙ ap Some (sym turn.1))
 
 -- the same by how many columns there are
-pub kind_next : (sources : List TextSource) (kinds : List Kind) → map kind_in sources ≡ kinds → (done : List TextSource) (s : TextSource) → (length done < length sources) × (s ≡ get_or sources (length done) s)
-    → slice_get kinds (length (map cells_in done)) ≡ Some (kind_in s)
+pub kind_next : (sources : List TextSource) (kinds : List Kind) → map source_kind sources ≡ kinds
+    → (done : List TextSource) (s : TextSource) → (length done < length sources) × (s ≡ get_or sources (length done) s)
+    → slice_get kinds (length (map cells_in done)) ≡ Some (source_kind s)
 kind_next sources kinds same done s turn = ap (slice_get kinds) (length-map done cells_in) ∙ kind_there sources kinds same (length done) s turn
 
 -- it has written nothing
@@ -60,7 +62,8 @@ places_length plan k s (step ∷ steps) =
     ap suc (places_length plan (suc (k + length (all_after plan step.at s kinds))) (s + length kinds) steps)
 
 -- the next source has a place among those of the steps
-pub next_within : (text : List ℕ) (program : ProgramTree) (inputs : List Declaration) (columns : Columns) (states : List NodeState) (edges : List Edge) → HasSources text program inputs columns states edges
+pub next_within : (text : List ℕ) (program : ProgramTree) (inputs : List Declaration) (columns : Columns) (states : List StreamNodeState) (edges : List Edge)
+    → HasSources text program inputs columns states edges
     → (kind : Kind) → slice_get (all_kinds inputs) (length columns) ≡ Some kind → suc (length columns) < length (places (program_steps text program inputs unset_cells))
 next_within text program inputs columns states edges has kind there =
     let steps = program_steps text program inputs (source_columns columns) in
@@ -86,7 +89,8 @@ get_set_other (x ∷ xs) zero (suc k) y other = refl
 get_set_other (x ∷ xs) (suc j) zero y other = refl
 get_set_other (x ∷ xs) (suc j) (suc k) y other = get_set_other xs j k y (λ e. other (ap suc e))
 
-module _ (text : List ℕ) (program : ProgramTree) (inputs : List Declaration) (columns : Columns) (states : List NodeState) (edges : List Edge) (has : HasSources text program inputs columns states edges)
+module _ (text : List ℕ) (program : ProgramTree) (inputs : List Declaration) (columns : Columns) (states : List StreamNodeState) (edges : List Edge)
+    (has : HasSources text program inputs columns states edges)
     (set_law : SourceIsSet node_behaviour states edges) (perform : OpeningsPerform) (items : Items) (there : slice_get (all_kinds inputs) (length columns) ≡ Some items.kind)
     (k : ℕ) (place : k ≡ get_or (places (program_steps text program inputs unset_cells)) (suc (length columns)) 0) where
   abbrev i : ℕ
@@ -103,7 +107,7 @@ module _ (text : List ℕ) (program : ProgramTree) (inputs : List Declaration) (
   steps_set = with_source i step items.kind items.cells steps
 
   -- the state of the source that is put there
-  abbrev s : NodeState
+  abbrev s : StreamNodeState
   s = (a_source, source_opening items)
 
   law : let k = get_or (places steps) i 0 in
@@ -157,7 +161,7 @@ module _ (text : List ℕ) (program : ProgramTree) (inputs : List Declaration) (
       }
 
 -- Setting a source changes no other node.
-pub others_stay : (typed : Typed) (before states : List NodeState) (n k : ℕ) (s : NodeState) → AreButSources typed before states → n < length (all_kinds (typed_inputs typed))
+pub others_stay : (typed : Typed) (before states : List StreamNodeState) (n k : ℕ) (s : StreamNodeState) → AreButSources typed before states → n < length (all_kinds (typed_inputs typed))
     → k ≡ get_or (places (unset_steps typed)) (suc n) 0 → AreButSources typed before (set states k s)
 others_stay typed before states n k s so_far lt place = record {
   nodes = length-set states k s ∙ so_far.nodes;

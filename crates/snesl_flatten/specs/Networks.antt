@@ -19,8 +19,8 @@ use Rattle.snesl_translation.specs.Programs.{program_plan}
 use Rattle.flow_drives.specs.Texts.{last_text}
 
 -- the state of a node of any kind
-abbrev pub NodeState : Type 0
-NodeState = (t : NodeKind) × (member t).State
+abbrev pub StreamNodeState : Type 0
+StreamNodeState = (t : NodeKind) × (member t).State
 
 -- the steps of a program of these inputs, whose sources write these cells
 abbrev pub program_steps : List ℕ → ProgramTree → List Declaration → (ℕ → List Cell) → List Step
@@ -28,13 +28,13 @@ program_steps text program inputs cells = (program_plan text program inputs cell
 
 -- The network has a lawful flow just where the program has a value for these inputs, and then the text that it has printed
 -- once all its nodes have ended is that of the value.
-pub record NetworkMeans (text : List ℕ) (program : ProgramTree) (environment : Environment) (states : List NodeState) (edges : List Edge) : Type 0 where
+pub record NetworkMeans (text : List ℕ) (program : ProgramTree) (environment : Environment) (states : List StreamNodeState) (edges : List Edge) : Type 0 where
   -- where the program has a value, the network has a lawful flow
   pub flows : (v : Value) → program_value text program environment ≡ gives v → (bodies : ℕ → List Cell) × IsLawfulFlow node_behaviour states edges bodies
   -- where it ends in a fault, it has none
   pub faults_then : (kind : FaultKind) (at : ℕ) → program_value text program environment ≡ faults kind at
       → (bodies : ℕ → List Cell) → IsLawfulFlow node_behaviour states edges bodies → ⊥
   -- where all nodes have ended, the program has a value, and its text was printed
-  pub prints : (states' : List NodeState) (view : View) → length states' ≡ length states
+  pub prints : (states' : List StreamNodeState) (view : View) → length states' ≡ length states
       → IsComplete node_behaviour.process (network_of node_behaviour states edges) (configuration_of node_behaviour states' view)
       → (v : Value) × (program_value text program environment ≡ gives v) × (last_text text_in states' ≡ text_of_value v)

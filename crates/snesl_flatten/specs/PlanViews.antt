@@ -3,7 +3,7 @@ use Rattle.std.specs.Prelude.{List}
 use Rattle.flow_networks.specs.declared.edge.Edge.{Edge}
 use Rattle.flow_networks.specs.Graphs.{states_of, edges_of}
 use Rattle.snesl_types.specs.declared.typed.Typed.{Typed}
-use Rattle.snesl_flatten.specs.Networks.{NodeState}
+use Rattle.snesl_flatten.specs.Networks.{StreamNodeState}
 use Rattle.snesl_flatten.specs.declared.plan.Plan.{Plan}
 
 -- the program of which it is the plan
@@ -11,7 +11,7 @@ abbrev pub plan_typed : Plan → Typed
 plan_typed plan = plan.typed.now
 
 -- the states of the nodes of its network, and the edges
-abbrev pub plan_states : Plan → List NodeState
+abbrev pub plan_states : Plan → List StreamNodeState
 plan_states plan = states_of plan.graph
 
 abbrev pub plan_edges : Plan → List Edge

@@ -17,14 +17,14 @@ use Rattle.flow_assembly.specs.Openings.{AllOpen}
 use Rattle.snesl_translation.specs.Wires.{type_of_wires}
 use Rattle.snesl_translation.specs.Programs.{first_offset, program_plan, unset_cells}
 use Rattle.flow_texts.specs.PrintedTexts.{PrintsAtTheEnd}
-use Rattle.snesl_flatten.specs.Networks.{NodeState, program_steps}
+use Rattle.snesl_flatten.specs.Networks.{StreamNodeState, program_steps}
 
 -- what a source over a text writes, and of which kind
 abbrev pub cells_in : TextSource → List Cell
 cells_in source = (items_in source).cells
 
-abbrev pub kind_in : TextSource → Kind
-kind_in source = (items_in source).kind
+abbrev pub source_kind : TextSource → Kind
+source_kind source = (items_in source).kind
 
 -- none of them has written anything
 abbrev pub AreFresh : List TextSource → Type 0
@@ -42,7 +42,7 @@ source_columns columns number = slice_index_or columns (number - 1) []
 -- The network is that of the program whose first sources are set to these columns, before any step: each node is in the state
 -- in which it opens, its faults at the offset of its form. Its last node is a Print, and the nodes of its steps are where
 -- they were.
-pub record HasSources (text : List ℕ) (program : ProgramTree) (inputs : List Declaration) (columns : Columns) (states : List NodeState) (edges : List Edge) : Type 0 where
+pub record HasSources (text : List ℕ) (program : ProgramTree) (inputs : List Declaration) (columns : Columns) (states : List StreamNodeState) (edges : List Edge) : Type 0 where
   pub network : IsNetworkOfPlan node_behaviour (program_steps text program inputs (source_columns columns)) states edges
   pub opens : AllOpen (layout (program_steps text program inputs (source_columns columns))) states
   pub opened : AreOpened node_behaviour states

@@ -11,7 +11,7 @@ ghost use Rattle.flow_values.specs.Shapes.{kinds_of};
 ghost use Rattle.flow_values.specs.Flats.{width};
 ghost use Rattle.flow_rows.specs.Made.{columns_of_values};
 ghost use Rattle.snesl_translation.specs.Programs.{columns_of};
-ghost use Rattle.snesl_flatten.specs.Sources.{all_kinds, cells_in, kind_in, AreFresh};
+ghost use Rattle.snesl_flatten.specs.Sources.{all_kinds, cells_in, source_kind, AreFresh};
 
 use flow_inputs::{TextSource, edge_count, text_holds_edges};
 use snesl_data::Ty;
@@ -31,7 +31,7 @@ pub(crate) fn sources_of_inputs(
     ensures fresh { IfOk result (λ sources. AreFresh sources.items) }
     ensures cells { IfOk result (λ sources. map cells_in sources.items ≡
         columns_of (declared declarations.now) (environment_of inputs.now)) }
-    ensures kinds { IfOk result (λ sources. map kind_in sources.items ≡
+    ensures kinds { IfOk result (λ sources. map source_kind sources.items ≡
         all_kinds (declared declarations.now)) }
 {
     inputs_fit(inputs);
@@ -59,7 +59,7 @@ fn add_sources(
     ensures fresh { OnOk result (AreFresh sources.new.items) }
     ensures cells { OnOk result (map cells_in sources.new.items ≡ map cells_in sources.old.items ++
         columns_of_values (ty_of ty.now) (value_at (arc_value text.now).items place ∷ [])) }
-    ensures kinds { OnOk result (map kind_in sources.new.items ≡ map kind_in sources.old.items ++
+    ensures kinds { OnOk result (map source_kind sources.new.items ≡ map source_kind sources.old.items ++
         kinds_of (ty_of ty.now)) }
 {
     text_holds_edges();

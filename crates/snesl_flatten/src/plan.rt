@@ -10,7 +10,7 @@ ghost use Rattle.flow_plans.specs.Layouts.{layout, places as places_of, IsNetwor
 ghost use Rattle.flow_assembly.specs.Openings.{AllOpen};
 ghost use Rattle.snesl_translation.specs.Programs.{cells_of, columns_of};
 ghost use Rattle.snesl_flatten.specs.Networks.{program_steps, NetworkMeans};
-ghost use Rattle.snesl_flatten.specs.Sources.{all_kinds, cells_in, kind_in, AreFresh, HasSources};
+ghost use Rattle.snesl_flatten.specs.Sources.{all_kinds, cells_in, source_kind, AreFresh, HasSources};
 ghost use Rattle.snesl_flatten.specs.Unset.{unset_steps, HoldsNetwork, AreButSources};
 
 use crate::inputs::sources_of_inputs;
@@ -111,7 +111,7 @@ fn set_sources(
         (typed_inputs typed.now) [] (states_of graph.old) (edges_of graph.old) }
     requires places { places.now.items ≡ places_of (unset_steps typed.now) }
     requires fresh { AreFresh sources.items }
-    requires kinds { map kind_in sources.items ≡ all_kinds (typed_inputs typed.now) }
+    requires kinds { map source_kind sources.items ≡ all_kinds (typed_inputs typed.now) }
     ensures sources { HasSources (typed_text typed.now) (typed_tree typed.now)
         (typed_inputs typed.now) (map cells_in sources.items) (states_of graph.new)
         (edges_of graph.new) }

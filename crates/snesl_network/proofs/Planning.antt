@@ -23,17 +23,17 @@ use Rattle.flow_networks.specs.Networks.{AreOpened}
 use Rattle.flow_plans.specs.Layouts.{layout, IsNetworkOfPlan}
 use Rattle.flow_assembly.specs.Openings.{AllOpen}
 use Rattle.snesl_translation.specs.Programs.{cells_of}
-use Rattle.snesl_flatten.specs.Networks.{NodeState, program_steps, NetworkMeans}
+use Rattle.snesl_flatten.specs.Networks.{program_steps, NetworkMeans, StreamNodeState}
 use Rattle.snesl_network.specs.Driven.{ExceedsGraph, FitsInGraph, IsAccepted}
 use Rattle.snesl_network.specs.Meant.{IsMeantFor, HasNoNetwork}
 
 -- these nodes and edges are the network of this program with these inputs
-abbrev pub IsItsNetwork : Environment → List NodeState → List Edge → List ℕ → ProgramTree → List Declaration → Type 0
+abbrev pub IsItsNetwork : Environment → List StreamNodeState → List Edge → List ℕ → ProgramTree → List Declaration → Type 0
 IsItsNetwork environment states edges text program inputs =
     IsNetworkOfPlan node_behaviour (program_steps text program inputs (cells_of inputs environment)) states edges
 
 -- each of these nodes opens as this program says with these inputs
-abbrev pub AllOpenFor : Environment → List NodeState → List ℕ → ProgramTree → List Declaration → Type 0
+abbrev pub AllOpenFor : Environment → List StreamNodeState → List ℕ → ProgramTree → List Declaration → Type 0
 AllOpenFor environment states text program inputs = AllOpen (layout (program_steps text program inputs (cells_of inputs environment))) states
 
 module _ (text input : List ℕ) (parsed : Program) (typed : Typed) (parses : Parses text (Ok (tree_of_program parsed))) (kept : parsed.text.items ≡ text)
@@ -92,7 +92,7 @@ module _ (text input : List ℕ) (parsed : Program) (typed : Typed) (parses : Pa
       plan_refused refusal big (inr is) = subst (HasNoNetwork text input) (sym is) (λ config. tt)
 
     -- the network that was made is that of the text and its input, and means it
-    pub is_meant : (environment : Environment) (states : List NodeState) (edges : List Edge) → InputMeans dialect inputs input (spells environment)
+    pub is_meant : (environment : Environment) (states : List StreamNodeState) (edges : List Edge) → InputMeans dialect inputs input (spells environment)
         → IsItsNetwork environment states edges (typed_text typed) (typed_tree typed) (typed_inputs typed)
         → AllOpenFor environment states (typed_text typed) (typed_tree typed) (typed_inputs typed)
         → AreOpened node_behaviour states → IsNetwork node_behaviour states edges

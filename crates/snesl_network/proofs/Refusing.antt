@@ -11,7 +11,7 @@ use Rattle.snesl_types.proofs.TypingRefusals.{program_of_typing}
 use Rattle.snesl_meaning.specs.Meaning.{no_program, ill_typed}
 use Rattle.flow_networks.specs.declared.edge.Edge.{Edge}
 use Rattle.flow_drives.specs.declared.config.Config.{Config}
-use Rattle.snesl_flatten.specs.Networks.{NodeState}
+use Rattle.snesl_flatten.specs.Networks.{StreamNodeState}
 use Rattle.snesl_network.specs.Driven.{HasNetwork, WasRefused}
 use Rattle.snesl_network.specs.Meant.{IsMeantFor, HasNoNetwork}
 use Rattle.snesl_types.proofs.ProgramAnswers.{violation_complete}
@@ -37,7 +37,7 @@ module _ (text input : List ℕ) where
   check_refused program refusal parsed first config = ill_typed parsed (violation_complete text program refusal first)
 
   -- what has the meaning of a program with its input is a network of it
-  pub has_network : (states : List NodeState) (edges : List Edge) → IsMeantFor text input states edges → HasNetwork text input
+  pub has_network : (states : List StreamNodeState) (edges : List Edge) → IsMeantFor text input states edges → HasNetwork text input
   has_network states edges meant =
       let start = meant.start in
       record {

@@ -28,12 +28,12 @@ use Rattle.flow_drives.specs.declared.config.Config.{Config}
 use Rattle.flow_drives.specs.Configs.{IsLawful, IsInSteps}
 use Rattle.flow_drives.specs.Drives.{EndsMaximalRun, IsSoundAt, RestsAt}
 use Rattle.flow_drives.specs.Texts.{last_text}
-use Rattle.snesl_flatten.specs.Networks.{NodeState}
+use Rattle.snesl_flatten.specs.Networks.{StreamNodeState}
 use Rattle.snesl_network.specs.NodesAtRest.{FinalView}
 use Rattle.snesl_network.specs.Driven.{HaveEnded, IsNamed, CameToRest}
 use Rattle.snesl_network.specs.Meant.{IsMeantFor}
 
-module _ (text input : List ℕ) (states : List NodeState) (edges : List Edge) (meant : IsMeantFor text input states edges) (one : HaveOneMeaning) where
+module _ (text input : List ℕ) (states : List StreamNodeState) (edges : List Edge) (meant : IsMeantFor text input states edges) (one : HaveOneMeaning) where
   -- what evaluation answers
   abbrev answer : Answer Value
   answer = program_value text meant.start.program meant.start.environment
@@ -51,16 +51,16 @@ module _ (text input : List ℕ) (states : List NodeState) (edges : List Edge) (
       by_answer (faults kind at) is =
           let same : has_fault kind at ≡ has_value v = one text input (has_fault kind at) (has_value v) (means_as (faults kind at) is) has in absurd (cc)
 
-  module _ (config : Config) (rest : FinalView NodeState) (same : IsSameNetwork node_behaviour states edges rest.states rest.edges) (capacity_is : rest.capacity ≡ config.capacity)
+  module _ (config : Config) (rest : FinalView StreamNodeState) (same : IsSameNetwork node_behaviour states edges rest.states rest.edges) (capacity_is : rest.capacity ≡ config.capacity)
       (sound : IsSoundAt node_behaviour rest.states rest.edges rest.traffic) (rests : RestsAt node_behaviour rest.states rest.edges rest.capacity rest.traffic)
       (begun : FlowIsBegun node_behaviour states edges) (never_stalls : FlowNeverStalls node_behaviour states edges) where
-    abbrev P : Process NodeState Signal
+    abbrev P : Process StreamNodeState Signal
     P = node_behaviour.process
 
-    abbrev net : Network NodeState
+    abbrev net : Network StreamNodeState
     net = network_of node_behaviour states edges
 
-    abbrev at_rest : Configuration NodeState Signal
+    abbrev at_rest : Configuration StreamNodeState Signal
     at_rest = configuration_of node_behaviour rest.states rest.traffic
 
     -- what rests is sound, and no node can step, in the network as it was at its start

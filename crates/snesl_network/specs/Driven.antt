@@ -31,15 +31,15 @@ use Rattle.flow_drives.specs.declared.config.Config.{Config}
 use Rattle.flow_drives.specs.Configs.{IsLawful, StartsThreads, IsInSteps}
 use Rattle.flow_drives.specs.Drives.{EndsMaximalRun, IsSoundAt, RestsAt}
 use Rattle.flow_drives.specs.Texts.{last_text}
-use Rattle.snesl_flatten.specs.Networks.{NodeState, program_steps}
+use Rattle.snesl_flatten.specs.Networks.{StreamNodeState, program_steps}
 use Rattle.snesl_network.specs.NodesAtRest.{FinalView}
 
 -- all nodes that rest have ended
-abbrev pub HaveEnded : FinalView NodeState → Type 0
+abbrev pub HaveEnded : FinalView StreamNodeState → Type 0
 HaveEnded rest = AllEnded node_behaviour.process (network_of node_behaviour rest.states rest.edges) (configuration_of node_behaviour rest.states rest.traffic)
 
 -- this fault is the one that is named of all to which nodes have come
-abbrev pub IsNamed : FinalView NodeState → Fault → Type 0
+abbrev pub IsNamed : FinalView StreamNodeState → Fault → Type 0
 IsNamed rest f = NamesFault node_behaviour.process (network_of node_behaviour rest.states rest.edges) (configuration_of node_behaviour rest.states rest.traffic) f
 
 -- the network of a program of these inputs has no more nodes and edges than a graph may have
@@ -58,7 +58,7 @@ module _ (text input : List ℕ) where
   -- These nodes and edges are the network of the program with its input: that of its translation, with the values that the
   -- input text spells in its sources, before any step. Each node is in the state in which it opens, its faults at the offset of
   -- its form, and each port has its edge.
-  pub record IsNetworkFor (states : List NodeState) (edges : List Edge) : Type 0 where
+  pub record IsNetworkFor (states : List StreamNodeState) (edges : List Edge) : Type 0 where
     pub program : ProgramTree
     pub declared : Declared
     pub ty : Ty
@@ -93,10 +93,10 @@ module _ (text input : List ℕ) where
 
   -- What rests is the network of the program with its input, driven as the configuration says until no node can step; and how
   -- it came out is the program's value, or a fault where the program has one.
-  pub record CameToRest (config : Config) (rest : FinalView NodeState) : Type 0 where
+  pub record CameToRest (config : Config) (rest : FinalView StreamNodeState) : Type 0 where
     pub lawful : IsLawful config
     -- the network at its start, which a graph may have
-    pub states : List NodeState
+    pub states : List StreamNodeState
     pub edges : List Edge
     pub start : IsNetworkFor states edges
     pub few : FitsInGraph text start.program start.declared.inputs

@@ -7,19 +7,19 @@ use Rattle.flow_nodes.specs.StreamNodes.{node_behaviour}
 use Rattle.kahn.specs.declared.outcome.Outcome.{Outcome}
 use Rattle.snesl_network.specs.NodesAtRest.{FinalView}
 use Rattle.snesl_network.specs.OneNetwork.{HaveOneNetwork}
-use Rattle.snesl_flatten.specs.Networks.{NodeState}
+use Rattle.snesl_flatten.specs.Networks.{StreamNodeState}
 use Rattle.snesl_run.specs.Alike.{HaveOneOutcome}
 use Rattle.snesl_run.specs.Runs.{CameOut, outcome_of, view_in_report}
 
 -- how nodes came out, said of the network at its start and of the capacity
-came_out_at : (rest : FinalView NodeState) (edges : List Edge) (capacity : ℕ) (outcome : Outcome) → rest.edges ≡ edges → rest.capacity ≡ capacity
+came_out_at : (rest : FinalView StreamNodeState) (edges : List Edge) (capacity : ℕ) (outcome : Outcome) → rest.edges ≡ edges → rest.capacity ≡ capacity
     → CameOut rest outcome → ComesOut node_behaviour rest.states edges capacity rest.traffic outcome
 came_out_at rest edges capacity outcome same size came =
     subst (λ e. ComesOut node_behaviour rest.states e capacity rest.traffic outcome) same
     (subst (λ n. ComesOut node_behaviour rest.states rest.edges n rest.traffic outcome) size came)
 
 -- a run of the network, said of one that is the same
-run_at : (rest : FinalView NodeState) (states others : List NodeState) (edges more : List Edge) (capacity size : ℕ) → states ≡ others → edges ≡ more → size ≡ capacity
+run_at : (rest : FinalView StreamNodeState) (states others : List StreamNodeState) (edges more : List Edge) (capacity size : ℕ) → states ≡ others → edges ≡ more → size ≡ capacity
     → EndsMaximalRun node_behaviour size others more rest.states rest.traffic → EndsMaximalRun node_behaviour capacity states edges rest.states rest.traffic
 run_at rest states others edges more capacity size same joined fits run =
     subst (λ l. EndsMaximalRun node_behaviour capacity l edges rest.states rest.traffic) (sym same)

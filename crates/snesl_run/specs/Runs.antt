@@ -10,7 +10,7 @@ use Rattle.kahn.specs.declared.outcome.Outcome.TheVariants.{Value as Ended, Faul
 use Rattle.flow_nodes.specs.StreamNodes.{node_behaviour}
 use Rattle.flow_drives.specs.declared.config.Config.{Config}
 use Rattle.flow_drives.specs.Drives.{ComesOut}
-use Rattle.snesl_flatten.specs.Networks.{NodeState}
+use Rattle.snesl_flatten.specs.Networks.{StreamNodeState}
 use Rattle.snesl_meaning.specs.Meaning.{Means, has_value, has_fault}
 use Rattle.snesl_meaning.specs.Value.{GivesValue, GivesFault}
 use Rattle.snesl_network.specs.NodesAtRest.{FinalView, final_view}
@@ -21,7 +21,7 @@ use Rattle.snesl_run.specs.declared.report.Report.{Report}
 use Rattle.snesl_run.specs.declared.report.RunError.{RunError}
 
 -- the nodes of a run, at rest
-abbrev pub view_in_report : Report → FinalView NodeState
+abbrev pub view_in_report : Report → FinalView StreamNodeState
 view_in_report report = final_view report.rested
 
 -- how it came out
@@ -37,7 +37,7 @@ abbrev pub value_line : Value → List ℕ
 value_line v = text v ++ 10 ∷ []
 
 -- nodes at rest came out so
-abbrev pub CameOut : FinalView NodeState → Outcome → Type 0
+abbrev pub CameOut : FinalView StreamNodeState → Outcome → Type 0
 CameOut rest outcome = ComesOut node_behaviour rest.states rest.edges rest.capacity rest.traffic outcome
 
 -- the program ends in a fault for the input

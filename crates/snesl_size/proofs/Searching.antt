@@ -12,7 +12,7 @@ use Rattle.flow_drives.specs.declared.config.Drive.{Drive}
 use Rattle.flow_drives.specs.declared.config.Drive.TheVariants.{Serial}
 use Rattle.flow_drives.specs.Configs.{IsInSteps, IsLawful, IsWithin, StartsThreads}
 use Rattle.flow_drives.specs.Limits.{greatest_chunk}
-use Rattle.snesl_flatten.specs.Networks.{NodeState}
+use Rattle.snesl_flatten.specs.Networks.{StreamNodeState}
 use Rattle.snesl_meaning.specs.Meaning.{HaveOneMeaning, has_fault, has_value}
 use Rattle.snesl_network.specs.Driven.{CameToRest, HaveEnded, WasRefused}
 use Rattle.snesl_network.specs.NodesAtRest.{FinalView}
@@ -30,7 +30,7 @@ module _ (program input : List ℕ) where
   pub none_below_one : EndsAtNoneBelow program input 1
   none_below_one config report steps less reported is = absurd (omega (arith, less, reported.came.lawful.capacity.some))
 
-  module _ (capacity : ℕ) (rest : FinalView NodeState) (left : IsLeft program input capacity rest) where
+  module _ (capacity : ℕ) (rest : FinalView StreamNodeState) (left : IsLeft program input capacity rest) where
     -- where a network has stalled, the program ends at no capacity up to there
     pub none_up_to : EndedNetworksStay → (e : ℕ) → CameOut rest (Stalled e) → EndsAtNoneBelow program input (capacity + 1)
     none_up_to stay e so config report steps less reported is =
@@ -71,7 +71,7 @@ module _ (program input : List ℕ) where
 
   module _ (config : Config) (serial : config.drive ≡ Serial) where
     -- what a drive in one thread has left
-    pub left_so : {A E : Type 0} (rest : A → FinalView NodeState) (result : Result A E) → IfOk result (λ rested. CameToRest program input config (rest rested))
+    pub left_so : {A E : Type 0} (rest : A → FinalView StreamNodeState) (result : Result A E) → IfOk result (λ rested. CameToRest program input config (rest rested))
         → IfOk result (λ rested. IsLeft program input config.capacity (rest rested))
     left_so rest (Ok rested) came = record { config = config; serial = serial; capacity_is = refl; came = came }
     left_so rest (Err refusal) came = tt

@@ -17,7 +17,7 @@ use Rattle.flow_networks.specs.MaximalRuns.{EndsMaximalRun}
 use Rattle.flow_networks.specs.Networks.{configuration_of, network_of}
 use Rattle.flow_drives.specs.declared.config.Config.{Config}
 use Rattle.flow_nodes.specs.StreamNodes.{node_behaviour}
-use Rattle.snesl_flatten.specs.Networks.{NodeState}
+use Rattle.snesl_flatten.specs.Networks.{StreamNodeState}
 use Rattle.snesl_network.specs.Driven.{CameToRest, HaveEnded}
 use Rattle.snesl_network.specs.NodesAtRest.{FinalView}
 use Rattle.snesl_network.specs.OneNetwork.{HaveOneNetwork}
@@ -80,7 +80,7 @@ networks_stay networks alike program input config greater rest other steps more_
     }
 
 -- a network whose nodes have all ended came out so, and not otherwise
-pub ends_alone : (program input : List ℕ) (config : Config) (rest : FinalView NodeState) → CameToRest program input config rest → HaveEnded rest
+pub ends_alone : (program input : List ℕ) (config : Config) (rest : FinalView StreamNodeState) → CameToRest program input config rest → HaveEnded rest
     → (outcome : Outcome) → CameOut rest outcome → outcome ≡ Ended
 ends_alone program input config rest came ended outcome so =
     let wired = subst (λ net. IsWired net) (sym came.same.network) came.start.joined.wired in

@@ -7,7 +7,7 @@ use Rattle.flow_messages.specs.Limits.{greatest_capacity}
 use Rattle.flow_drives.specs.declared.config.Config.{Config}
 use Rattle.flow_drives.specs.declared.config.Drive.TheVariants.{Serial}
 use Rattle.flow_drives.specs.Configs.{IsInSteps}
-use Rattle.snesl_flatten.specs.Networks.{NodeState}
+use Rattle.snesl_flatten.specs.Networks.{StreamNodeState}
 use Rattle.snesl_network.specs.Driven.{CameToRest, HaveEnded, IsNamed, WasRefused}
 use Rattle.snesl_network.specs.NodesAtRest.{FinalView, final_view}
 use Rattle.snesl_run.specs.declared.report.Report.{Report}
@@ -18,7 +18,7 @@ use Rattle.snesl_size.specs.Staying.{HasEndedAs}
 
 module _ (program input : List ℕ) where
   -- A drive in one thread has left the program's network so, at this capacity.
-  pub record IsLeft (capacity : ℕ) (rest : FinalView NodeState) : Type 0 where
+  pub record IsLeft (capacity : ℕ) (rest : FinalView StreamNodeState) : Type 0 where
     pub config : Config
     pub serial : config.drive ≡ Serial
     pub capacity_is : config.capacity ≡ capacity
@@ -31,7 +31,7 @@ module _ (program input : List ℕ) where
       → outcome_of report ≢ Ended
 
   -- The network has ended so at this capacity, and the program ends at no lesser one.
-  pub record IsLeast (capacity : ℕ) (rest : FinalView NodeState) : Type 0 where
+  pub record IsLeast (capacity : ℕ) (rest : FinalView StreamNodeState) : Type 0 where
     pub left : IsLeft capacity rest
     pub ended : HaveEnded rest
     pub none_below : EndsAtNoneBelow capacity
@@ -43,7 +43,7 @@ module _ (program input : List ℕ) where
   pub record StalledBelow (capacity edge : ℕ) : Type 0 where
     pub below : ℕ
     pub one_less : below + 1 ≡ capacity
-    pub rest : FinalView NodeState
+    pub rest : FinalView StreamNodeState
     pub left : IsLeft below rest
     pub stalled : CameOut rest (Stalled edge)
 
@@ -55,7 +55,7 @@ module _ (program input : List ℕ) where
   -- The program ends in a fault, and this is the fault that is named at some capacity by a drive in one thread.
   pub record FaultsSo (fault : Fault) : Type 0 where
     pub capacity : ℕ
-    pub rest : FinalView NodeState
+    pub rest : FinalView StreamNodeState
     pub left : IsLeft capacity rest
     pub named : IsNamed rest fault
     pub faults : EndsInFault program input

@@ -2,25 +2,25 @@
 use Rattle.std.specs.Prelude.{◌≡◌, ℕ, ◌<◌, ◌≤◌, List, [], ◌++◌, Option, Some, None, codes, decimal, length}
 use Rattle.std.specs.Io.Iter.{u64_saturate}
 use Rattle.kahn.specs.Basics.{total}
-use Rattle.snesl_flatten.specs.Networks.{NodeState}
+use Rattle.snesl_flatten.specs.Networks.{StreamNodeState}
 use Rattle.snesl_network.specs.NodesAtRest.{FinalView}
 
 -- how many messages went over an edge, as they are counted: a count stays at the greatest u64
-abbrev pub count_over : FinalView NodeState → ℕ → ℕ
+abbrev pub count_over : FinalView StreamNodeState → ℕ → ℕ
 count_over rest e = u64_saturate (length (rest.traffic.sent e))
 
 -- how many went over all edges, counted so
-abbrev pub message_count : FinalView NodeState → ℕ
+abbrev pub message_count : FinalView StreamNodeState → ℕ
 message_count rest = u64_saturate (total (count_over rest) (length rest.edges))
 
 -- Of the first `edges` edges e is the first over which most messages went.
-pub record IsBusiestOf (rest : FinalView NodeState) (edges e : ℕ) : Type 0 where
+pub record IsBusiestOf (rest : FinalView StreamNodeState) (edges e : ℕ) : Type 0 where
   pub within : e < edges
   pub most : (f : ℕ) → f < edges → count_over rest f ≤ count_over rest e
   pub first : (f : ℕ) → f < e → count_over rest f < count_over rest e
 
 -- of all edges e is the first over which most messages went
-abbrev pub IsBusiest : FinalView NodeState → ℕ → Type 0
+abbrev pub IsBusiest : FinalView StreamNodeState → ℕ → Type 0
 IsBusiest rest e = IsBusiestOf rest (length rest.edges) e
 
 -- a name and a number
@@ -28,7 +28,7 @@ abbrev pub name_and_number : List ℕ → ℕ → List ℕ
 name_and_number name number = name ++ decimal number ++ codes "\n"
 
 -- the least capacity, how many nodes and edges there are, and how many messages went over all edges
-abbrev pub sizes_part : ℕ → FinalView NodeState → List ℕ
+abbrev pub sizes_part : ℕ → FinalView StreamNodeState → List ℕ
 sizes_part least rest =
     name_and_number (codes "least capacity: ") least ++ name_and_number (codes "nodes: ") (length rest.states) ++ name_and_number (codes "edges: ") (length rest.edges)
     ++ name_and_number (codes "messages: ") (message_count rest)
@@ -47,12 +47,12 @@ full_part (Some edge) = name_and_number (codes "full at one less: edge ") edge
 full_part None = []
 
 -- the lines of the busiest edge of a network, or none where it has no edge
-pub data BusiestLines (rest : FinalView NodeState) : List ℕ → Type 0 where
+pub data BusiestLines (rest : FinalView StreamNodeState) : List ℕ → Type 0 where
   with_edges : (e : ℕ) → IsBusiest rest e → BusiestLines rest (busiest_part e (count_over rest e))
   without_edges : length rest.edges ≡ 0 → BusiestLines rest []
 
 -- What is printed of a network that has ended at its least capacity, where this edge was full at one message less.
-pub record IsSizeTable (least : ℕ) (full : Option ℕ) (rest : FinalView NodeState) (table : List ℕ) : Type 0 where
+pub record IsSizeTable (least : ℕ) (full : Option ℕ) (rest : FinalView StreamNodeState) (table : List ℕ) : Type 0 where
   pub busiest : List ℕ
   pub lines : BusiestLines rest busiest
   pub is : table ≡ sizes_part least rest ++ busiest ++ full_part full

@@ -10,7 +10,7 @@ use Rattle.flow_inputs.specs.TextSources.{items_in}
 use Rattle.flow_inputs.specs.Ways.{way_to, leaf_at}
 use Rattle.flow_values.specs.Shapes.{kinds_of, kind_at}
 use Rattle.flow_values.specs.Flats.{width, flat}
-use Rattle.snesl_flatten.specs.Sources.{cells_in, kind_in, AreFresh}
+use Rattle.snesl_flatten.specs.Sources.{cells_in, source_kind, AreFresh}
 use Rattle.snesl_flatten.proofs.InputSources.{column_more, kind_more, fresh_more, cells_of_edge, kind_of_edge}
 use Rattle.snesl_flatten.proofs.inputs.add_sources.Goals as goal
 
@@ -18,7 +18,7 @@ pub loop-edge-init : goal.loop-edge-init
 loop-edge-init c = record {
   fresh = c.requires.fresh;
   cells = sym (append-nil (map cells_in c.args.sources.now.items));
-  kinds = sym (append-nil (map kind_in c.args.sources.now.items));
+  kinds = sym (append-nil (map source_kind c.args.sources.now.items));
 }
 
 pub loop-edge-preserved : goal.loop-edge-preserved
@@ -44,10 +44,10 @@ loop-edge-preserved c =
           ∙ append_assoc (map cells_in start) (columns i lists) (lists i ∷ [])
           ∙ ap (λ l. map cells_in start ++ l) (sym (column_more i lists) ∙ ap (λ n. columns n lists) next);
       kinds =
-          ap (map kind_in) c.in_ok-push.ensures.items ∙ map_push kind_in old source
+          ap (map source_kind) c.in_ok-push.ensures.items ∙ map_push source_kind old source
           ∙ ap₂ (λ l x. l ++ x ∷ []) c.loop-edge.invariant.kinds (kind_of_edge holds.items holds.kinds text place t c.requires.placed i lt source is)
-          ∙ append_assoc (map kind_in start) (take i (kinds_of t)) (kind_at (kinds_of t) i ∷ [])
-          ∙ ap (λ l. map kind_in start ++ l) (sym (kind_more (kinds_of t) i lt) ∙ ap (λ n. take n (kinds_of t)) next);
+          ∙ append_assoc (map source_kind start) (take i (kinds_of t)) (kind_at (kinds_of t) i ∷ [])
+          ∙ ap (λ l. map source_kind start ++ l) (sym (kind_more (kinds_of t) i lt) ∙ ap (λ n. take n (kinds_of t)) next);
     }
 
 pub returns-clause-cells : goal.returns-clause-cells
@@ -60,4 +60,4 @@ returns-clause-cells c =
 pub returns-clause-kinds : goal.returns-clause-kinds
 returns-clause-kinds c =
     let t = ty_of c.args.ty.now in
-    c.loop-edge.invariant.kinds ∙ ap (λ l. map kind_in c.args.sources.now.items ++ l) (take_all c.loop-edge.edge (kinds_of t) (omega (arith, c.edge_count-edge-end.ensures)))
+    c.loop-edge.invariant.kinds ∙ ap (λ l. map source_kind c.args.sources.now.items ++ l) (take_all c.loop-edge.edge (kinds_of t) (omega (arith, c.edge_count-edge-end.ensures)))

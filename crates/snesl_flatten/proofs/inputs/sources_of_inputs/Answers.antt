@@ -5,7 +5,7 @@ use Rattle.snesl_values.specs.Entries.{environment_at, ArePlaced}
 use Rattle.snesl_values.specs.Inputs.{Environment, FitDeclarations, declared, declaration_of, dialect_of, environment_of, placed_in, text_in}
 use Rattle.snesl_values.specs.Places.{value_at as spelled_at}
 use Rattle.snesl_translation.specs.Programs.{columns_of}
-use Rattle.snesl_flatten.specs.Sources.{all_kinds, cells_in, kind_in}
+use Rattle.snesl_flatten.specs.Sources.{all_kinds, cells_in, source_kind}
 use Rattle.snesl_flatten.proofs.InputSources.{place_there, placed_there, value_there, width_within}
 use Rattle.snesl_flatten.proofs.InputStreams.{value_at, declared_at, cells_added, kinds_added, columns_all}
 use Rattle.snesl_flatten.proofs.inputs.sources_of_inputs.Goals as goal
@@ -61,7 +61,7 @@ loop-number-preserved c =
           ∙ ap (λ n. columns_of (take n ds) (take n es)) next;
       kinds =
           c.in_ok-add_sources.ensures.kinds
-          ∙ kinds_added ds i d there (map kind_in c.loop-number.sources.items) c.loop-number.invariant.kinds
+          ∙ kinds_added ds i d there (map source_kind c.loop-number.sources.items) c.loop-number.invariant.kinds
           ∙ ap (λ n. all_kinds (take n ds)) next;
     }
 

@@ -12,7 +12,7 @@ use Rattle.flow_networks.specs.Replacements.{MayReplace}
 use Rattle.flow_networks.specs.declared.edge.Edge.{Edge}
 use Rattle.flow_plans.specs.Layouts.{places}
 use Rattle.flow_base.specs.Columns.{Columns}
-use Rattle.snesl_flatten.specs.Networks.{NodeState}
+use Rattle.snesl_flatten.specs.Networks.{StreamNodeState}
 use Rattle.snesl_flatten.specs.Unset.{unset_steps, AreButSources}
 use Rattle.flow_inputs.specs.TextSources.{items_in}
 use Rattle.snesl_flatten.specs.Sources.{all_kinds, cells_in, HasSources}
@@ -79,7 +79,7 @@ loop-source-preserved c =
       step = omega (arith, c.loop-source.invariant.step, length-append done (s ∷ []));
       sources =
           subst (λ (l : Columns). HasSources (typed_text typed) (typed_tree typed) (typed_inputs typed) l (states_of c.replace.new.self) (edges_of c.replace.new.self)) (sym (map-append cells_in done (s ∷ [])))
-          (subst (λ (l : List NodeState). HasSources (typed_text typed) (typed_tree typed) (typed_inputs typed) (columns ++ cells_in s ∷ []) l (edges_of c.replace.new.self)) (sym is)
+          (subst (λ (l : List StreamNodeState). HasSources (typed_text typed) (typed_tree typed) (typed_inputs typed) (columns ++ cells_in s ∷ []) l (edges_of c.replace.new.self)) (sym is)
           (subst (λ (l : List Edge). HasSources (typed_text typed) (typed_tree typed) (typed_inputs typed) (columns ++ cells_in s ∷ []) (set states k (a_source, source_opening (items_in s))) l) (sym c.replace.ensures.edges) set_has));
       edges = c.replace.ensures.edges ∙ c.loop-source.invariant.edges;
       others =
