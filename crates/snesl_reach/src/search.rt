@@ -58,7 +58,8 @@ fn candidates_in_declaration(
     at: usize,
 ) -> Result<Option<Candidates>, AllocError>
     ensures { IfOk result (λ found. option_map names_of found
-        ≡ candidates_in_declaration at (map declaration_of earlier.now) (declaration_of declaration.now)) }
+        ≡ candidates_in_declaration at (map declaration_of earlier.now)
+        (declaration_of declaration.now)) }
 {
     match declaration {
         Declaration::Input(_) => Ok(None),
@@ -72,7 +73,8 @@ fn candidates_in_declaration(
 // In an expression.
 #[cycle(walking)]
 fn candidates_in(alloc: Global, expr: &Expr, at: usize) -> Result<Option<Candidates>, AllocError>
-    ensures { IfOk result (λ found. option_map names_of found ≡ candidates_in at (tree_of expr.now)) }
+    ensures { IfOk result (λ found. option_map names_of found
+        ≡ candidates_in at (tree_of expr.now)) }
 {
     match expr {
         Expr::Integer { .. } | Expr::Truth { .. } => Ok(None),
@@ -136,7 +138,8 @@ fn candidates_in_two(
     at: usize,
 ) -> Result<Option<Candidates>, AllocError>
     ensures { IfOk result (λ found. option_map names_of found
-        ≡ option_or (candidates_in at (tree_of first.now)) (candidates_in at (tree_of second.now))) }
+        ≡ option_or (candidates_in at (tree_of first.now))
+        (candidates_in at (tree_of second.now))) }
 {
     let found = candidates_in(alloc, first, at)?;
     Ok(found.or(candidates_in(alloc, second, at)?))
