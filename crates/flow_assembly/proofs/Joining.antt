@@ -16,7 +16,7 @@ use Rattle.flow_nodes.specs.StreamNodes.{NodeKind, member, node_behaviour}
 use Rattle.flow_plans.specs.Ports.{kinds_read, kinds_written}
 use Rattle.flow_plans.specs.Layouts.{Placed, outputs_from, stream_from, stream_to, Performs}
 use Rattle.flow_assembly.specs.declared.network.Port.{Port}
-use Rattle.flow_assembly.specs.Openings.{Opens, OpeningsPerform}
+use Rattle.flow_assembly.specs.Openings.{IsOpening, OpeningsPerform}
 use Rattle.flow_assembly.specs.Joined.{supplier, edge_from, port_after, at_stream, run_of, ComesBefore, IsJoinedTo}
 use Rattle.flow_assembly.proofs.Pushes.{each_push, found_stays, found_last, none_stays, none_found, both_are, not_both}
 use Rattle.flow_assembly.proofs.Ordering.{Supplies, order_relabelled, order_joined, order_passed}
@@ -333,15 +333,16 @@ module _ (nodes : List Placed) (left left' : ℕ → ℕ) (supply : List Port) (
 
 module _ (nodes : List Placed) (left : ℕ → ℕ) (supply : List Port) (states : List State) (edges : List Edge) (is : IsJoinedTo nodes left supply (length states) 0 states edges) where
   -- one more node, of which no port has its edge
-  pub added : (placed : Placed) (s : State) → slice_get nodes (length states) ≡ Some placed → Opens placed.at placed.operation s → IsJoinedTo nodes left supply (length states) 0 (states ++ s ∷ []) edges
+  pub added : (placed : Placed) (s : State) → slice_get nodes (length states) ≡ Some placed → IsOpening placed.at placed.operation s
+      → IsJoinedTo nodes left supply (length states) 0 (states ++ s ∷ []) edges
   added placed s at opens = record {
     opens = λ k other lt is_at. elim (cases_lt k (length states)) [
-      | inl less ↦ subst (λ u. Opens other.at other.operation u) (sym (get_or_append_left states (s ∷ []) node_behaviour.sample k less)) (is.opens k other less is_at)
+      | inl less ↦ subst (λ u. IsOpening other.at other.operation u) (sym (get_or_append_left states (s ∷ []) node_behaviour.sample k less)) (is.opens k other less is_at)
       | inr more ↦
           let last : k ≡ length states = omega (arith, length_push states s) in
           let same : placed ≡ other = some_same (sym at ∙ ap (slice_get nodes) (sym last) ∙ is_at) in
           let state : state_at node_behaviour (states ++ s ∷ []) k ≡ s = ap (state_at node_behaviour (states ++ s ∷ [])) last ∙ get_or-append_seam states s [] node_behaviour.sample in
-          subst (λ u. Opens other.at other.operation u) (sym state) (subst (λ w. Opens w.at w.operation s) same opens)
+          subst (λ u. IsOpening other.at other.operation u) (sym state) (subst (λ w. IsOpening w.at w.operation s) same opens)
     ];
     joins = is.joins;
     readers = is.readers;

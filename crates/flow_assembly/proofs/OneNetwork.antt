@@ -12,7 +12,7 @@ use Rattle.flow_networks.specs.Networks.{state_at}
 use Rattle.flow_nodes.specs.StreamNodes.{NodeKind, member, node_behaviour, a_source}
 use Rattle.flow_plans.specs.Plans.{Operation, source}
 use Rattle.flow_plans.specs.Layouts.{layout}
-use Rattle.flow_assembly.specs.Openings.{Opens}
+use Rattle.flow_assembly.specs.Openings.{IsOpening}
 use Rattle.flow_assembly.specs.OneNetwork.{PlansHaveOneNetwork}
 use Rattle.flow_assembly.proofs.Fitting.{stands_at}
 
@@ -34,7 +34,7 @@ abbrev opened_source : Items → State
 opened_source items = (a_source, source_opening items)
 
 -- the transducer of an operation opens in one state
-opens_once : (at : ℕ) (operation : Operation) (s t : State) → Opens at operation s → Opens at operation t → s ≡ t
+opens_once : (at : ℕ) (operation : Operation) (s t : State) → IsOpening at operation s → IsOpening at operation t → s ≡ t
 opens_once at (source kind cells) s t one other =
     one.1 ∙ ap opened_source (items_same one.0 other.0 (one.2 ∙ sym other.2) (one.3 ∙ sym other.3)) ∙ sym other.1
 opens_once at _ s t one other = one ∙ sym other

@@ -22,7 +22,7 @@ use Rattle.flow_rows.specs.RowsAreFunctions.{RowsAreFunctions}
 use Rattle.flow_nodes.specs.StreamNodes.{NodeKind, member, node_behaviour, a_fork}
 use Rattle.flow_plans.specs.Plans.{Operation, source, const, unary, binary, iota, units_of, scan_add, reduce, length_of, dist, pack, pack_groups, flag_of_bool, same_flags, concat_flags, part_flags, the_check, append_flags, interleave, interleave_groups, print, tab, seq_of, index, fork, sink}
 use Rattle.flow_plans.specs.Layouts.{Performs}
-use Rattle.flow_assembly.specs.Openings.{Opens, IsUsable}
+use Rattle.flow_assembly.specs.Openings.{IsOpening, IsUsable}
 
 -- the kinds at no port, at one, and so on, by a function of the port
 none_at : (f : ℕ → Kind) (p : ℕ) → p < 0 → slice_get {X = Kind} [] p ≡ Some (f p)
@@ -79,7 +79,7 @@ fork_performs rows at kind others = record {
 }
 
 module _ (rows : RowsAreFunctions) (at : ℕ) where
-  pub performs : (operation : Operation) (s : State) → IsUsable operation → Opens at operation s → Performs node_behaviour operation s
+  pub performs : (operation : Operation) (s : State) → IsUsable operation → IsOpening at operation s → Performs node_behaviour operation s
   performs (source kind cells) s usable (items, is, of_kind, of_cells) =
       let here : Performs node_behaviour (source items.kind items.cells) s = subst (Performs node_behaviour (source items.kind items.cells)) (sym is) (record {
         opened = refl;

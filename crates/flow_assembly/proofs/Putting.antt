@@ -15,10 +15,10 @@ use Rattle.flow_plans.specs.Plans.{Step, fork, sink}
 use Rattle.flow_plans.specs.Ports.{AreWired, kinds_after}
 use Rattle.flow_plans.specs.Layouts.{Placed, uses, places_after, layout, stream_from, stream_to}
 use Rattle.flow_assembly.specs.declared.network.Port.{Port}
-use Rattle.flow_assembly.specs.Openings.{Opens, OpeningsPerform}
+use Rattle.flow_assembly.specs.Openings.{IsOpening, OpeningsPerform}
 use Rattle.flow_assembly.specs.Joined.{supplier, edge_from, port_after, IsJoinedTo}
 use Rattle.flow_assembly.specs.declared.counted_steps.CountedSteps.{CountedSteps}
-use Rattle.flow_assembly.specs.Ready.{plan_of, left_before, ComeNext, IsPutTo, KeepsLimits, IsTooBig}
+use Rattle.flow_assembly.specs.Ready.{plan_of, left_before, AreNextInLayout, IsPutTo, KeepsLimits, IsTooBig}
 use Rattle.flow_assembly.proofs.Fitting.{FitsKinds, some_same}
 use Rattle.flow_assembly.proofs.Laying.{layout_fits, steps_usable}
 use Rattle.flow_assembly.proofs.Limiting.{node_within, edge_within, too_many_nodes, too_many_after}
@@ -73,7 +73,7 @@ module _ (nodes : List Placed) (steps : List Step) (s : ℕ) (supply : List Port
     | inr ne ↦ left_same steps s t ne
   ])
 
-  module _ (placed : Placed) (state : State) (at : slice_get nodes (length states) ≡ Some placed) (opens : Opens placed.at placed.operation state) (one_read : placed.reads ≡ s ∷ []) where
+  module _ (placed : Placed) (state : State) (at : slice_get nodes (length states) ≡ Some placed) (opens : IsOpening placed.at placed.operation state) (one_read : placed.reads ≡ s ∷ []) where
     more : IsJoinedTo nodes (left_before steps s) supply (length states) 0 (states ++ state ∷ []) edges
     more = added nodes (left_before steps s) supply states edges is placed state at opens
 
@@ -167,7 +167,7 @@ module _ (nodes : List Placed) (steps : List Step) (s : ℕ) (supply : List Port
 
 -- What comes next after a stream
 
-pub sink_next : (plan : List Step) (states : List State) (at s : ℕ) (kind : Kind) → ComeNext plan states (places_after at s kind (uses s plan)) → uses s plan ≡ 0
+pub sink_next : (plan : List Step) (states : List State) (at s : ℕ) (kind : Kind) → AreNextInLayout plan states (places_after at s kind (uses s plan)) → uses s plan ≡ 0
     → slice_get (layout plan) (length states) ≡ Some (record { at = at; operation = sink kind; reads = s ∷ []; writes = [] })
 sink_next plan states at s kind next none =
     let first = next 0 (record { at = at; operation = sink kind; reads = s ∷ []; writes = [] }) (ap (λ n. slice_get (places_after at s kind n) 0) none) in
@@ -179,7 +179,7 @@ fork_after at s kind zero le = absurd (omega arith)
 fork_after at s kind (suc zero) le = absurd (omega arith)
 fork_after at s kind (suc (suc n)) le = refl
 
-pub fork_next : (plan : List Step) (states : List State) (at s : ℕ) (kind : Kind) (n : ℕ) → ComeNext plan states (places_after at s kind (uses s plan)) → uses s plan ≡ n → 2 ≤ n
+pub fork_next : (plan : List Step) (states : List State) (at s : ℕ) (kind : Kind) (n : ℕ) → AreNextInLayout plan states (places_after at s kind (uses s plan)) → uses s plan ≡ n → 2 ≤ n
     → slice_get (layout plan) (length states) ≡ Some (record { at = at; operation = fork kind n; reads = s ∷ []; writes = replicate n s })
 fork_next plan states at s kind n next many le =
     let first = next 0 (record { at = at; operation = fork kind n; reads = s ∷ []; writes = replicate n s }) (ap (λ m. slice_get (places_after at s kind m) 0) many ∙ fork_after at s kind n le) in
@@ -195,7 +195,7 @@ one_after at s kind (suc (suc n)) le = refl
 
 module _ (plan : List Step) (found : List ℕ) (at s : ℕ) (kind : Kind) (supply : List Port) (states : List State) (edges : List Edge)
     (is : IsPutTo plan s supply found states edges) (there : s < length supply) (later : uses s plan ≡ uses s (drop (length found) plan))
-    (next : ComeNext plan states (places_after at s kind (uses s plan))) where
+    (next : AreNextInLayout plan states (places_after at s kind (uses s plan))) where
   abbrev steps : List Step
   steps = drop (length found) plan
 
@@ -221,7 +221,7 @@ module _ (plan : List Step) (found : List ℕ) (at s : ℕ) (kind : Kind) (suppl
     abbrev pub supply_put : List Port
     supply_put = set supply s (port_after (supplier supply s))
 
-    pub sink_put : Opens at (sink kind) state → uses s plan ≡ 0 → IsPutTo plan (s + 1) supply_put found (states ++ state ∷ []) edges_put
+    pub sink_put : IsOpening at (sink kind) state → uses s plan ≡ 0 → IsPutTo plan (s + 1) supply_put found (states ++ state ∷ []) edges_put
     sink_put opens none =
         let placed : Placed = record { at = at; operation = sink kind; reads = s ∷ []; writes = [] } in
         let is_at = sink_next plan states at s kind next none in
@@ -230,7 +230,8 @@ module _ (plan : List Step) (found : List ℕ) (at s : ℕ) (kind : Kind) (suppl
           joined = at_length (left_before steps (s + 1)) supply_put state edges_put (put_sink (layout plan) steps s supply states edges is.joined there placed state is_at opens refl (sym later ∙ none) refl);
         }
 
-    pub fork_put : (n : ℕ) → Opens at (fork kind n) state → uses s plan ≡ n → 2 ≤ n → n < 2 ^ 64 → IsPutTo plan (s + 1) (set supply_put s (record { node = length states; port = 0 })) found (states ++ state ∷ []) edges_put
+    pub fork_put : (n : ℕ) → IsOpening at (fork kind n) state → uses s plan ≡ n → 2 ≤ n → n < 2 ^ 64
+        → IsPutTo plan (s + 1) (set supply_put s (record { node = length states; port = 0 })) found (states ++ state ∷ []) edges_put
     fork_put n opens many le fits =
         let placed : Placed = record { at = at; operation = fork kind n; reads = s ∷ []; writes = replicate n s } in
         let is_at = fork_next plan states at s kind n next many le in

@@ -16,7 +16,7 @@ use Rattle.flow_plans.specs.Layouts.{Placed, times, uses, places_after, all_afte
 use Rattle.flow_assembly.specs.declared.network.Port.{Port}
 use Rattle.flow_assembly.specs.Openings.{OpeningsPerform}
 use Rattle.flow_assembly.specs.Joined.{supplier, edge_from, port_after, IsJoinedTo}
-use Rattle.flow_assembly.specs.Ready.{ComeNext, KeepsLimits}
+use Rattle.flow_assembly.specs.Ready.{AreNextInLayout, KeepsLimits}
 use Rattle.flow_assembly.proofs.Fitting.{FitsKinds}
 use Rattle.flow_assembly.proofs.Laying.{get_front, get_back}
 use Rattle.flow_assembly.proofs.Limiting.{edge_within}
@@ -92,12 +92,14 @@ module _ (plan : List Step) (at first_stream q : ℕ) (kinds : List Kind) (kind 
       ap (all_after plan at (first_stream + q)) (drop-cons kinds q kind lt ∙ ap (λ k. k ∷ drop (suc q) kinds) is ∙ ap (λ n. kind ∷ drop n kinds) e)
       ∙ ap (λ n. places_after at (first_stream + q) kind (uses (first_stream + q) plan) ++ all_after plan at n (drop (q + 1) kinds)) f
 
-  pub first_next : (states : List State) → ComeNext plan states (all_after plan at (first_stream + q) (drop q kinds)) → ComeNext plan states (places_after at (first_stream + q) kind (uses (first_stream + q) plan))
+  pub first_next : (states : List State) → AreNextInLayout plan states (all_after plan at (first_stream + q) (drop q kinds))
+      → AreNextInLayout plan states (places_after at (first_stream + q) kind (uses (first_stream + q) plan))
   first_next states next k placed at_k =
       next k placed (ap (λ l. slice_get l k) all_now ∙ get_front (places_after at (first_stream + q) kind (uses (first_stream + q) plan)) (all_after plan at (first_stream + (q + 1)) (drop (q + 1) kinds)) k placed at_k)
 
-  pub later_next : (states states2 : List State) → ComeNext plan states (all_after plan at (first_stream + q) (drop q kinds)) → length states2 ≡ length states + length (places_after at (first_stream + q) kind (uses (first_stream + q) plan))
-      → ComeNext plan states2 (all_after plan at (first_stream + (q + 1)) (drop (q + 1) kinds))
+  pub later_next : (states states2 : List State) → AreNextInLayout plan states (all_after plan at (first_stream + q) (drop q kinds))
+      → length states2 ≡ length states + length (places_after at (first_stream + q) kind (uses (first_stream + q) plan))
+      → AreNextInLayout plan states2 (all_after plan at (first_stream + (q + 1)) (drop (q + 1) kinds))
   later_next states states2 next longer k placed at_k =
       let front = places_after at (first_stream + q) kind (uses (first_stream + q) plan) in
       let e : length states + (length front + k) ≡ length states2 + k = omega (arith, longer) in

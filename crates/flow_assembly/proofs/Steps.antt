@@ -17,9 +17,9 @@ use Rattle.flow_plans.specs.Plans.{Step}
 use Rattle.flow_plans.specs.Ports.{kinds_read, kinds_written, AreWired, kinds_after}
 use Rattle.flow_plans.specs.Layouts.{Placed, times, uses, numbered, all_after, layout, layout_from, places_from, stream_from, stream_to, Performs}
 use Rattle.flow_assembly.specs.declared.network.Port.{Port}
-use Rattle.flow_assembly.specs.Openings.{Opens}
+use Rattle.flow_assembly.specs.Openings.{IsOpening}
 use Rattle.flow_assembly.specs.Joined.{supplier, IsJoinedTo}
-use Rattle.flow_assembly.specs.Ready.{left_before, ports_of, ComeNext, IsPutTo, KeepsLimits, IsBuiltTo, WritesKinds}
+use Rattle.flow_assembly.specs.Ready.{left_before, ports_of, AreNextInLayout, IsPutTo, KeepsLimits, IsBuiltTo, WritesKinds}
 use Rattle.flow_assembly.proofs.Fitting.{bound, changed, some_same, each_at, each_length, stands_at}
 use Rattle.flow_assembly.proofs.Laying.{get_front}
 use Rattle.flow_assembly.proofs.Limiting.{node_within}
@@ -187,7 +187,8 @@ module _ (plan : List Step) (i : ℕ) (step : Step) (now : drop i plan ≡ step 
       subst (λ x. KeepsLimits plan states2 edges2 (length x)) (sym same) (subst (λ x. KeepsLimits plan x edges2 (length step.reads)) (sym one) (subst (λ x. KeepsLimits plan (states ++ state ∷ []) x (length step.reads)) (sym two)
       (node_within plan states edges placed state built.within placed_at room)))
 
-  pub step_joined : (state : State) (node : ℕ) (reads found2 : List ℕ) (states2 : List State) (edges2 : List Edge) → Opens step.at step.operation state → node ≡ length states → reads ≡ step.reads → found2 ≡ found ++ node ∷ []
+  pub step_joined : (state : State) (node : ℕ) (reads found2 : List ℕ) (states2 : List State) (edges2 : List Edge) → IsOpening step.at step.operation state → node ≡ length states
+      → reads ≡ step.reads → found2 ≡ found ++ node ∷ []
       → states2 ≡ states ++ state ∷ [] → edges2 ≡ edges → IsJoinedTo (layout plan) (λ t. times t reads + uses t (drop (length found2) plan)) supply node 0 states2 edges2
   step_joined state node reads found2 states2 edges2 opens at same longer one two =
       let start = added (layout plan) (λ t. uses t (drop i plan)) supply states edges built.joined placed state placed_at opens in
@@ -207,7 +208,8 @@ module _ (plan : List Step) (i : ℕ) (step : Step) (now : drop i plan ≡ step 
       let same : uses s (drop (length found2) plan) ≡ uses s (drop (i + 1) plan) = ap (λ m. uses s (drop m plan)) count in
       omega (arith, before, here, none, same)
 
-  pub step_next : (states2 : List State) (first : ℕ) (kinds2 : List Kind) → length states2 ≡ length states + 1 → first ≡ length supply → kinds2 ≡ kinds → ComeNext plan states2 (all_after plan step.at first kinds2)
+  pub step_next : (states2 : List State) (first : ℕ) (kinds2 : List Kind) → length states2 ≡ length states + 1 → first ≡ length supply → kinds2 ≡ kinds
+      → AreNextInLayout plan states2 (all_after plan step.at first kinds2)
   step_next states2 first kinds2 count is same k other at =
       let here : slice_get all_put k ≡ Some other = ap (λ l. slice_get (all_after plan step.at (length supply) l) k) (sym same) ∙ ap (λ s. slice_get (all_after plan step.at s kinds2) k) (sym is) ∙ at in
       ap (λ m. slice_get (layout plan) (m + k)) count ∙ sym (get_dropped (layout plan) (length states + 1) k) ∙ ap (λ l. slice_get l k) laid_after ∙ get_front all_put to_come k other here

@@ -7,7 +7,7 @@ use Rattle.flow_networks.specs.Networks.{state_at}
 use Rattle.flow_nodes.specs.StreamNodes.{NodeKind, member, node_behaviour}
 use Rattle.flow_plans.specs.Layouts.{Placed, StreamPort, ports_from, inputs_from, outputs_from, edges_from, edges_between, stream_from, stream_to}
 use Rattle.flow_assembly.specs.declared.network.Port.{Port}
-use Rattle.flow_assembly.specs.Openings.{Opens}
+use Rattle.flow_assembly.specs.Openings.{IsOpening}
 
 -- where the next reader of a stream gets it
 abbrev pub supplier : List Port → ℕ → Port
@@ -54,7 +54,7 @@ pub record IsInOrder (nodes : List Placed) (left : ℕ → ℕ) (supply : List P
 -- them an output port before node r, from its supplier on; all other output ports before node r have their edges. The edges are
 -- in the order in which they are to be.
 pub record IsJoinedTo (nodes : List Placed) (left : ℕ → ℕ) (supply : List Port) (r p : ℕ) (states : List ((t : NodeKind) × (member t).State)) (edges : List Edge) : Type 0 where
-  pub opens : (k : ℕ) (placed : Placed) → k < length states → slice_get nodes k ≡ Some placed → Opens placed.at placed.operation (state_at node_behaviour states k)
+  pub opens : (k : ℕ) (placed : Placed) → k < length states → slice_get nodes k ≡ Some placed → IsOpening placed.at placed.operation (state_at node_behaviour states k)
   pub joins : (e : ℕ) → e < length edges → stream_from nodes (edge_at edges e).writer (edge_at edges e).writer_port ≡ stream_to nodes (edge_at edges e).reader (edge_at edges e).reader_port
   pub readers : (e : ℕ) → e < length edges → ComesBefore (edge_at edges e).reader (edge_at edges e).reader_port r p
   pub writers : (e : ℕ) → e < length edges → (edge_at edges e).writer < r

@@ -36,33 +36,33 @@ use Rattle.flow_plans.specs.Layouts.{Placed, Performs}
 
 -- The state is the one in which the transducer of the operation opens whose faults are at this offset: that of its kind, with
 -- its parameters, before its first instance.
-abbrev pub Opens : ℕ → Operation → ((t : NodeKind) × (member t).State) → Type 0
-Opens at (source kind cells) s = (items : Items) × (s ≡ (a_source, source_opening items)) × (items.kind ≡ kind) × (items.cells ≡ cells)
-Opens at (const k) s = s ≡ (a_const, opened (k, const_machine.start) at)
-Opens at (unary dialect op) s = s ≡ (a_unary, opened ((dialect, op), unary_machine.start) at)
-Opens at (binary dialect op) s = s ≡ (a_binary, opened ((dialect, op), binary_machine.start) at)
-Opens at iota s = s ≡ (an_iota, opened (tt, iota_machine.start) at)
-Opens at units_of s = s ≡ (a_units_of, opened (tt, units_of_machine.start) at)
-Opens at (scan_add dialect) s = s ≡ (a_scan_add, opened (dialect, scan_add_machine.start) at)
-Opens at (reduce dialect reduction) s = s ≡ (a_reduce, opened ((dialect, reduction), reduce_machine.start) at)
-Opens at (length_of dialect) s = s ≡ (a_length, opened (dialect, length_machine.start) at)
-Opens at (dist kind) s = s ≡ (a_dist, opened (kind, dist_machine.start) at)
-Opens at (pack kind) s = s ≡ (a_pack, opened (kind, pack_machine.start) at)
-Opens at pack_groups s = s ≡ (a_pack_groups, opened (tt, pack_groups_table.start) at)
-Opens at flag_of_bool s = s ≡ (a_flag_of_bool, opened (tt, flag_of_bool_table.start) at)
-Opens at same_flags s = s ≡ (a_same_flags, opened (tt, same_flags_table.start) at)
-Opens at concat_flags s = s ≡ (a_concat_flags, opened (tt, concat_flags_table.start) at)
-Opens at part_flags s = s ≡ (a_part_flags, opened (tt, part_flags_table.start) at)
-Opens at the_check s = s ≡ (a_the_check, opened (tt, the_check_table.start) at)
-Opens at append_flags s = s ≡ (an_append_flags, opened (tt, append_flags_table.start) at)
-Opens at (interleave kind) s = s ≡ (an_interleave, opened (kind, interleave_machine.start) at)
-Opens at interleave_groups s = s ≡ (an_interleave_groups, opened (tt, interleave_groups_table.start) at)
-Opens at (print ty) s = s ≡ (a_print, print_opening ty at)
-Opens at (tab ty) s = s ≡ (a_tab, opened (ty, tab_machine.start) at)
-Opens at (seq_of ty) s = s ≡ (a_seq_of_vector, opened (ty, seq_machine.start) at)
-Opens at (index ty) s = s ≡ (an_index, opened (ty, index_machine.start) at)
-Opens at (fork kind outputs) s = s ≡ (a_fork, opened (fork_ports kind outputs, fork_machine.start) at)
-Opens at (sink kind) s = s ≡ (a_sink, opened (kind, sink_machine.start) at)
+abbrev pub IsOpening : ℕ → Operation → ((t : NodeKind) × (member t).State) → Type 0
+IsOpening at (source kind cells) s = (items : Items) × (s ≡ (a_source, source_opening items)) × (items.kind ≡ kind) × (items.cells ≡ cells)
+IsOpening at (const k) s = s ≡ (a_const, opened (k, const_machine.start) at)
+IsOpening at (unary dialect op) s = s ≡ (a_unary, opened ((dialect, op), unary_machine.start) at)
+IsOpening at (binary dialect op) s = s ≡ (a_binary, opened ((dialect, op), binary_machine.start) at)
+IsOpening at iota s = s ≡ (an_iota, opened (tt, iota_machine.start) at)
+IsOpening at units_of s = s ≡ (a_units_of, opened (tt, units_of_machine.start) at)
+IsOpening at (scan_add dialect) s = s ≡ (a_scan_add, opened (dialect, scan_add_machine.start) at)
+IsOpening at (reduce dialect reduction) s = s ≡ (a_reduce, opened ((dialect, reduction), reduce_machine.start) at)
+IsOpening at (length_of dialect) s = s ≡ (a_length, opened (dialect, length_machine.start) at)
+IsOpening at (dist kind) s = s ≡ (a_dist, opened (kind, dist_machine.start) at)
+IsOpening at (pack kind) s = s ≡ (a_pack, opened (kind, pack_machine.start) at)
+IsOpening at pack_groups s = s ≡ (a_pack_groups, opened (tt, pack_groups_table.start) at)
+IsOpening at flag_of_bool s = s ≡ (a_flag_of_bool, opened (tt, flag_of_bool_table.start) at)
+IsOpening at same_flags s = s ≡ (a_same_flags, opened (tt, same_flags_table.start) at)
+IsOpening at concat_flags s = s ≡ (a_concat_flags, opened (tt, concat_flags_table.start) at)
+IsOpening at part_flags s = s ≡ (a_part_flags, opened (tt, part_flags_table.start) at)
+IsOpening at the_check s = s ≡ (a_the_check, opened (tt, the_check_table.start) at)
+IsOpening at append_flags s = s ≡ (an_append_flags, opened (tt, append_flags_table.start) at)
+IsOpening at (interleave kind) s = s ≡ (an_interleave, opened (kind, interleave_machine.start) at)
+IsOpening at interleave_groups s = s ≡ (an_interleave_groups, opened (tt, interleave_groups_table.start) at)
+IsOpening at (print ty) s = s ≡ (a_print, print_opening ty at)
+IsOpening at (tab ty) s = s ≡ (a_tab, opened (ty, tab_machine.start) at)
+IsOpening at (seq_of ty) s = s ≡ (a_seq_of_vector, opened (ty, seq_machine.start) at)
+IsOpening at (index ty) s = s ≡ (an_index, opened (ty, index_machine.start) at)
+IsOpening at (fork kind outputs) s = s ≡ (a_fork, opened (fork_ports kind outputs, fork_machine.start) at)
+IsOpening at (sink kind) s = s ≡ (a_sink, opened (kind, sink_machine.start) at)
 
 -- a fork has two outputs at least; any other operation has the ports that it has
 abbrev pub IsUsable : Operation → Type 0
@@ -72,10 +72,10 @@ IsUsable _ = Unit {0}
 -- each of these transducers is in the state in which it opens
 abbrev pub AllOpen : List Placed → List ((t : NodeKind) × (member t).State) → Type 0
 AllOpen nodes states =
-    (k : ℕ) (placed : Placed) → slice_get nodes k ≡ Some placed → Opens placed.at placed.operation (state_at node_behaviour states k)
+    (k : ℕ) (placed : Placed) → slice_get nodes k ≡ Some placed → IsOpening placed.at placed.operation (state_at node_behaviour states k)
 
 -- a transducer in the state in which that of an operation opens does what the operation says
 abbrev pub OpeningsPerform : Type 0
 OpeningsPerform =
     (at : ℕ) (operation : Operation) (s : (t : NodeKind) × (member t).State)
-    → IsUsable operation → Opens at operation s → Performs node_behaviour operation s
+    → IsUsable operation → IsOpening at operation s → Performs node_behaviour operation s

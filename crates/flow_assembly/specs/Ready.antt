@@ -60,5 +60,6 @@ pub record WritesKinds (s : (t : NodeKind) × (member t).State) (kinds : List Ki
   pub kinds_out : (q : ℕ) → q < node_behaviour.outputs s → slice_get kinds q ≡ Some (node_behaviour.kind_out s q)
 
 -- these transducers come next
-abbrev pub ComeNext : List Step → List ((t : NodeKind) × (member t).State) → List Placed → Type 0
-ComeNext plan states nodes = (k : ℕ) (placed : Placed) → slice_get nodes k ≡ Some placed → slice_get (layout plan) (length states + k) ≡ Some placed
+abbrev pub AreNextInLayout : List Step → List ((t : NodeKind) × (member t).State) → List Placed → Type 0
+AreNextInLayout plan states nodes =
+    (k : ℕ) (placed : Placed) → slice_get nodes k ≡ Some placed → slice_get (layout plan) (length states + k) ≡ Some placed

@@ -7,7 +7,7 @@ ghost use Rattle.flow_networks.specs.Graphs.{states_so_far, edges_so_far};
 ghost use Rattle.flow_plans.specs.Layouts.{times, uses, places_after, all_after, layout, stream_to};
 ghost use Rattle.flow_plans.specs.Ports.{AreWired, kinds_after};
 ghost use Rattle.flow_assembly.specs.Joined.{IsJoinedTo};
-ghost use Rattle.flow_assembly.specs.Ready.{plan_of, IsCounted, IsTooBig, KeepsLimits, IsBuiltTo, IsPutTo, ComeNext};
+ghost use Rattle.flow_assembly.specs.Ready.{plan_of, IsCounted, IsTooBig, KeepsLimits, IsBuiltTo, IsPutTo, AreNextInLayout};
 
 use crate::counted_steps::CountedSteps;
 use crate::laws::openings_perform;
@@ -96,7 +96,7 @@ impl Network {
         requires inside { first + length kinds.now ≤ length self.old.supply.items }
         requires later { (s : ℕ) → first ≤ s → uses s (plan_of plan.now) ≡
             uses s (drop (length self.old.places.items) (plan_of plan.now)) }
-        requires next { ComeNext (plan_of plan.now) (states_so_far self.old.builder)
+        requires next { AreNextInLayout (plan_of plan.now) (states_so_far self.old.builder)
             (all_after (plan_of plan.now) at first kinds.now) }
         requires so_far { IsPutTo
             (plan_of plan.now) first self.old.supply.items self.old.places.items
@@ -131,7 +131,7 @@ impl Network {
         requires inside { stream < length self.old.supply.items }
         requires later { uses stream (plan_of plan.now) ≡
             uses stream (drop (length self.old.places.items) (plan_of plan.now)) }
-        requires next { ComeNext (plan_of plan.now) (states_so_far self.old.builder)
+        requires next { AreNextInLayout (plan_of plan.now) (states_so_far self.old.builder)
             (places_after at stream kind (uses stream (plan_of plan.now))) }
         requires so_far { IsPutTo
             (plan_of plan.now) stream self.old.supply.items self.old.places.items

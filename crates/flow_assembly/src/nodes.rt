@@ -5,7 +5,7 @@ ghost use Rattle.flow_scalar.specs.Streams.{stream_kind, stream_cells};
 ghost use Rattle.flow_nodes.specs.StreamNodes.{state_of};
 ghost use Rattle.flow_plans.specs.Plans.{fork, sink};
 ghost use Rattle.flow_plans.specs.Views.{operation_of};
-ghost use Rattle.flow_assembly.specs.Openings.{Opens};
+ghost use Rattle.flow_assembly.specs.Openings.{IsOpening};
 ghost use Rattle.flow_assembly.specs.Ready.{WritesKinds};
 
 use flow_base::{Node, Transducer};
@@ -32,7 +32,8 @@ pub fn node_of(
     at: usize,
     operation: &Operation,
 ) -> Result<StreamNode, AllocError>
-    ensures { IfOk result (λ node. Opens at (operation_of dialect operation.now) (state_of node)) }
+    ensures { IfOk result (λ node.
+        IsOpening at (operation_of dialect operation.now) (state_of node)) }
 {
     match operation {
         Operation::Control => Ok(StreamNode::Source(Source::new(Stream::Units(1)))),
@@ -91,7 +92,7 @@ pub fn node_of(
 
 /// The end of a stream that nothing uses, in its opening state.
 pub fn sink_of(at: usize, kind: Kind) -> StreamNode
-    ensures { Opens at (sink kind) (state_of result) }
+    ensures { IsOpening at (sink kind) (state_of result) }
 {
     StreamNode::Sink(Node::new(Sink::new(kind), at))
 }
@@ -99,7 +100,7 @@ pub fn sink_of(at: usize, kind: Kind) -> StreamNode
 /// A stream to several readers, in its opening state.
 pub fn fork_of(at: usize, kind: Kind, outputs: usize) -> StreamNode
     requires { 2 ≤ outputs }
-    ensures { Opens at (fork kind outputs) (state_of result) }
+    ensures { IsOpening at (fork kind outputs) (state_of result) }
 {
     StreamNode::Fork(Node::new(Fork::new(kind, outputs), at))
 }

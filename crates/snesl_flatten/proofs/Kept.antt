@@ -17,7 +17,7 @@ use Rattle.snesl_flatten.specs.Networks.{StreamNodeState}
 use Rattle.snesl_flatten.specs.Sources.{HasSources}
 use Rattle.snesl_flatten.specs.Unset.{unset_steps, HoldsNetwork}
 use Rattle.snesl_flatten.proofs.Held.{no_source_set}
-use Rattle.snesl_flatten.proofs.Once.{AreOpened-prop, Opens-prop, IsUsable-prop, edges_are_a_set}
+use Rattle.snesl_flatten.proofs.Once.{AreOpened-prop, IsOpening-prop, IsUsable-prop, edges_are_a_set}
 
 module _ (typed : Typed) (states : List StreamNodeState) (edges : List Edge) (at : List ℕ) (kept : ∥ HoldsNetwork typed states edges at ∥₁) where
   abbrev steps : List Step
@@ -52,7 +52,7 @@ module _ (typed : Typed) (states : List StreamNodeState) (edges : List Edge) (at
       ∥∥₁_elim kept once (λ h. h.sources.network.edges_are)
 
   opens : AllOpen (layout steps) states
-  opens k placed there = ∥∥₁_elim kept (Opens-prop placed.at placed.operation _) (λ h. h.sources.opens k placed there)
+  opens k placed there = ∥∥₁_elim kept (IsOpening-prop placed.at placed.operation _) (λ h. h.sources.opens k placed there)
 
   opened : AreOpened node_behaviour states
   opened = ∥∥₁_elim kept (AreOpened-prop states) (λ h. h.sources.opened)

@@ -15,7 +15,7 @@ use Rattle.flow_scalar.specs.SourceBehaviour.{source_opening}
 use Rattle.flow_networks.specs.declared.edge.Edge.{Edge}
 use Rattle.flow_networks.specs.Networks.{AreOpened}
 use Rattle.flow_plans.specs.Plans.{Operation, source, const, unary, binary, iota, units_of, scan_add, reduce, length_of, dist, pack, pack_groups, flag_of_bool, same_flags, concat_flags, part_flags, the_check, append_flags, interleave, interleave_groups, print, tab, seq_of, index, fork, sink}
-use Rattle.flow_assembly.specs.Openings.{Opens, IsUsable}
+use Rattle.flow_assembly.specs.Openings.{IsOpening, IsUsable}
 use Rattle.flow_nodes.specs.StreamNodes.{NodeKind, member, node_behaviour, a_source, a_const, a_unary, a_binary, a_fork, a_sink, an_iota, a_units_of, a_scan_add, a_reduce, a_length, a_flag_of_bool, a_the_check, a_same_flags, a_concat_flags, a_part_flags, an_append_flags, a_dist, a_pack, a_pack_groups, an_interleave, an_interleave_groups, a_print, a_tab, a_seq_of_vector, an_index}
 
 -- a type that maps into a set and back is a set
@@ -214,30 +214,30 @@ module _ (kind : Kind) (cells : List Cell) (s : (t : NodeKind) × (member t).Sta
       ap flat (Σ_prop_path {B = With} (λ items. hlevel (sets, State-set)) {u = (u.0, (u.1, u.2, u.3))} {v = (v.0, (v.1, v.2, v.3))}
       (items_same u.0 v.0 (u.2 ∙ sym v.2) (u.3 ∙ sym v.3)))
 
-pub Opens-prop : (at : ℕ) (operation : Operation) (s : (t : NodeKind) × (member t).State) → IsProp (Opens at operation s)
-Opens-prop at (source kind cells) s = source_opens-prop kind cells s
-Opens-prop at (const k) s = hlevel (props, State-set)
-Opens-prop at (unary dialect op) s = hlevel (props, State-set)
-Opens-prop at (binary dialect op) s = hlevel (props, State-set)
-Opens-prop at iota s = hlevel (props, State-set)
-Opens-prop at units_of s = hlevel (props, State-set)
-Opens-prop at (scan_add dialect) s = hlevel (props, State-set)
-Opens-prop at (reduce dialect reduction) s = hlevel (props, State-set)
-Opens-prop at (length_of dialect) s = hlevel (props, State-set)
-Opens-prop at (dist kind) s = hlevel (props, State-set)
-Opens-prop at (pack kind) s = hlevel (props, State-set)
-Opens-prop at pack_groups s = hlevel (props, State-set)
-Opens-prop at flag_of_bool s = hlevel (props, State-set)
-Opens-prop at same_flags s = hlevel (props, State-set)
-Opens-prop at concat_flags s = hlevel (props, State-set)
-Opens-prop at part_flags s = hlevel (props, State-set)
-Opens-prop at the_check s = hlevel (props, State-set)
-Opens-prop at append_flags s = hlevel (props, State-set)
-Opens-prop at (interleave kind) s = hlevel (props, State-set)
-Opens-prop at interleave_groups s = hlevel (props, State-set)
-Opens-prop at (print ty) s = hlevel (props, State-set)
-Opens-prop at (tab ty) s = hlevel (props, State-set)
-Opens-prop at (seq_of ty) s = hlevel (props, State-set)
-Opens-prop at (index ty) s = hlevel (props, State-set)
-Opens-prop at (fork kind outputs) s = hlevel (props, State-set)
-Opens-prop at (sink kind) s = hlevel (props, State-set)
+pub IsOpening-prop : (at : ℕ) (operation : Operation) (s : (t : NodeKind) × (member t).State) → IsProp (IsOpening at operation s)
+IsOpening-prop at (source kind cells) s = source_opens-prop kind cells s
+IsOpening-prop at (const k) s = hlevel (props, State-set)
+IsOpening-prop at (unary dialect op) s = hlevel (props, State-set)
+IsOpening-prop at (binary dialect op) s = hlevel (props, State-set)
+IsOpening-prop at iota s = hlevel (props, State-set)
+IsOpening-prop at units_of s = hlevel (props, State-set)
+IsOpening-prop at (scan_add dialect) s = hlevel (props, State-set)
+IsOpening-prop at (reduce dialect reduction) s = hlevel (props, State-set)
+IsOpening-prop at (length_of dialect) s = hlevel (props, State-set)
+IsOpening-prop at (dist kind) s = hlevel (props, State-set)
+IsOpening-prop at (pack kind) s = hlevel (props, State-set)
+IsOpening-prop at pack_groups s = hlevel (props, State-set)
+IsOpening-prop at flag_of_bool s = hlevel (props, State-set)
+IsOpening-prop at same_flags s = hlevel (props, State-set)
+IsOpening-prop at concat_flags s = hlevel (props, State-set)
+IsOpening-prop at part_flags s = hlevel (props, State-set)
+IsOpening-prop at the_check s = hlevel (props, State-set)
+IsOpening-prop at append_flags s = hlevel (props, State-set)
+IsOpening-prop at (interleave kind) s = hlevel (props, State-set)
+IsOpening-prop at interleave_groups s = hlevel (props, State-set)
+IsOpening-prop at (print ty) s = hlevel (props, State-set)
+IsOpening-prop at (tab ty) s = hlevel (props, State-set)
+IsOpening-prop at (seq_of ty) s = hlevel (props, State-set)
+IsOpening-prop at (index ty) s = hlevel (props, State-set)
+IsOpening-prop at (fork kind outputs) s = hlevel (props, State-set)
+IsOpening-prop at (sink kind) s = hlevel (props, State-set)

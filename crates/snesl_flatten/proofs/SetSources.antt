@@ -23,7 +23,7 @@ use Rattle.flow_plans.specs.Plans.{Step, source}
 use Rattle.flow_plans.specs.Ports.{kinds_written}
 use Rattle.flow_plans.specs.Layouts.{Placed, all_after, layout, places, places_from, IsNetworkOfPlan}
 use Rattle.flow_plans.specs.Settings.{with_source, IsLaidBut, SourceIsSet}
-use Rattle.flow_assembly.specs.Openings.{Opens, AllOpen, OpeningsPerform}
+use Rattle.flow_assembly.specs.Openings.{AllOpen, IsOpening, OpeningsPerform}
 use Rattle.snesl_translation.specs.Wires.{type_of_wires}
 use Rattle.snesl_translation.specs.Programs.{first_offset, program_plan, unset_cells}
 use Rattle.snesl_flatten.specs.Networks.{StreamNodeState, program_steps}
@@ -142,10 +142,10 @@ module _ (text : List ℕ) (program : ProgramTree) (inputs : List Declaration) (
   all_open j other there = elim (cases_eq j k) [
     | inl same ↦
         let state : state_at node_behaviour (set states k s) j ≡ s = ap (state_at node_behaviour (set states k s)) same ∙ get_or-set_same states k s node_behaviour.sample may_set.node in
-        subst (λ u. Opens other.at other.operation u) (sym state) (subst (λ (w : Placed). Opens w.at w.operation s) (at_set j other there same) (items, refl, refl, refl))
+        subst (λ u. IsOpening other.at other.operation u) (sym state) (subst (λ (w : Placed). IsOpening w.at w.operation s) (at_set j other there same) (items, refl, refl, refl))
     | inr ne ↦
         let was : slice_get (layout steps) j ≡ Some other = sym (get_set_other (layout steps) k j placed ne) ∙ ap (λ l. slice_get l j) (sym laid_but.laid) ∙ there in
-        subst (λ u. Opens other.at other.operation u) (sym (get_or-set_other states k j s node_behaviour.sample ne)) (has.opens j other was)
+        subst (λ u. IsOpening other.at other.operation u) (sym (get_or-set_other states k j s node_behaviour.sample ne)) (has.opens j other was)
   ]
 
   -- and then one source more is set

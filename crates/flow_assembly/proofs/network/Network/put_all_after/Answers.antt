@@ -3,7 +3,7 @@ use Rattle.flow_messages.specs.declared.message.Kind.TheVariants.{Unit as UnitKi
 use Rattle.snesl_data.specs.declared.refusal.Refusal.TheVariants.{TooBig}
 use Rattle.flow_plans.specs.Layouts.{uses, all_after}
 use Rattle.flow_networks.specs.Graphs.{states_so_far, edges_so_far}
-use Rattle.flow_assembly.specs.Ready.{plan_of, IsPutTo, ComeNext}
+use Rattle.flow_assembly.specs.Ready.{plan_of, AreNextInLayout, IsPutTo}
 use Rattle.flow_assembly.proofs.Fitting.{passed_on}
 use Rattle.flow_assembly.proofs.Refused.{none_done, same_error}
 use Rattle.flow_assembly.proofs.Stepping.{first_next, later_next, count_next, same_default}
@@ -35,7 +35,7 @@ loop-port-init c =
     let e : c.args.first + 0 ≡ c.args.first = omega arith in
     record {
       so_far = subst (λ s. IsPutTo plan s now.supply.items now.places.items states (edges_so_far now.builder)) (sym e) c.requires.so_far;
-      next = subst (λ s. ComeNext plan states (all_after plan c.args.at s c.args.kinds.now)) (sym e) c.requires.next;
+      next = subst (λ s. AreNextInLayout plan states (all_after plan c.args.at s c.args.kinds.now)) (sym e) c.requires.next;
       nodes = ap (λ s. length states + length (all_after plan c.args.at s c.args.kinds.now)) e;
       supply = refl;
       places = refl;
