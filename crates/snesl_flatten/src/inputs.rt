@@ -59,8 +59,8 @@ fn add_sources(
     ensures fresh { OnOk result (AreFresh sources.new.items) }
     ensures cells { OnOk result (map cells_in sources.new.items ≡ map cells_in sources.old.items ++
         columns_of_values (ty_of ty.now) (value_at (arc_value text.now).items place ∷ [])) }
-    ensures kinds { OnOk result (map source_kind sources.new.items ≡ map source_kind sources.old.items ++
-        kinds_of (ty_of ty.now)) }
+    ensures kinds { OnOk result (map source_kind sources.new.items
+        ≡ map source_kind sources.old.items ++ kinds_of (ty_of ty.now)) }
 {
     text_holds_edges();
     for edge in 0..edge_count(ty) {
