@@ -10,7 +10,7 @@ use Rattle.snesl_tree.specs.View.{tree_of, trees_of, binders_of, declaration_of}
 use Rattle.snesl_types.specs.Clashes.{Clash}
 use Rattle.snesl_culprits.specs.Offsets.{first_offset}
 use Rattle.snesl_culprits.proofs.Others.{unrolled}
-use Rattle.snesl_culprits.specs.Culprits.{BeginsOne, IsCulprit, IsAmong, IsBound, IsDeclared, IsInside, IsOwnCulprit, of_itself, of_part, of_binder, of_first, of_later, of_name, of_source, of_other, of_one, of_later_one, parts, condition_parts, IsOfFunction, IsOfDeclaration}
+use Rattle.snesl_culprits.specs.Culprits.{BeginsOne, IsCulprit, IsAmong, IsBound, IsDeclared, IsInside, IsOwnCulprit, of_itself, of_part, of_binder, of_first, of_later, of_name, of_source, of_other, of_one, of_later_one, form_parts, condition_parts, IsOfFunction, IsOfDeclaration}
 
 neither : {A B : Type 0} → ¬ A → ¬ B → ¬ (A ⊎ B)
 neither a b (inl x) = a x
