@@ -6,6 +6,11 @@ from .scope import NameMissing, Scope
 from .terms import Parser, parsed
 from .tokens import FormError
 
+# Words of the kit that take two things of different types first: a function and a list, or a list and a number.
+MIXED = {
+    "before_first", "cond", "count_by", "drop", "filter", "filter_map", "flat_map", "list_all", "list_any", "map", "option_and_then", "option_map",
+    "position_or_len", "prefix_len", "slice_get", "slice_index", "slice_index_or", "slice_set", "sum_by", "take", "take_while", "unwrap_or",
+}
 APART = {"(", "{", "[", "]", "=", ";", ",", "|", "→", "↦", "if", "then", "else", "let", "in", "record", "λ", "elim", "as"}
 
 
@@ -112,6 +117,8 @@ def head_of(tokens, at):
 def differ_in_type(scope, tokens, at):
     """Whether the argument at a place and the next one are known to be of different types."""
     head = head_of(tokens, at)
+    if head is not None and head[1] == 0 and head[0] in MIXED:
+        return True
     try:
         known = head and takes(scope, head[0])
     except (NameMissing, FormError, AttributeError):

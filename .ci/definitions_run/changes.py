@@ -1,7 +1,8 @@
 """Changed definitions: which changes the rows tell.
 
-First each short row is answered as the definitions stand, and the equations and rules that it reaches are noted. Then a definition of the
-headline is changed in one that some row reaches, and such rows are answered until one is answered otherwise, stops, or does not end.
+First each row is answered as the definitions stand, and the equations and rules that it reaches are noted. Then a definition of the
+headline is changed in one that some row reaches, and all rows that reach it are answered, the cheapest first, until one is answered
+otherwise, stops, or does not end. A change that no row tells needs a reason why no row can.
 """
 
 import os
@@ -9,38 +10,38 @@ import random
 import resource
 import time
 
-from .answers import CRATES, definitions, deriver
+from .answers import CRATES, definitions, deriver, on_large_stack
 from .edits import changes_of
 from .gate import rows_to_try, unknown_forms
 from .headline import whole_headline
-from .pool import in_processes
+from .pool import collect_seldom, in_processes
 from .taken import sides_of, taken_fields
 from .trials import Trial
 
 REASONS = os.path.join(os.path.dirname(os.path.abspath(__file__)), "..", "definitions_alike")
-MOST_SECONDS = 20
-DEAREST = 1.5
-ROWS_EACH = 60
-# So many rows apart stand those that are answered before the first change.
-WARMING = 15
-# Tables whose rows are much like one another: some of them are tried last.
-LIKE_OTHERS = ("brackets", "bytes", "second_dialect")
-# Tables whose rows are each about another limit: all of them are tried, at last.
-LIMITS = ("limits", "depth")
-FEW_BYTES, MOST_BYTES = 300, 2500
+# A row does not end where it takes so many times what it took before, and so many processor seconds more.
+TIMES, SECONDS_MORE = 8, 4
+# Rows of so many processor seconds are tried of a change that has a reason.
+SECONDS_WITH_REASON = 5
+MOST_MEMORY = 6 << 30
+PROGRESS = 50
 TOLD, STOPPED, LIVES = 10, 11, 12
 
 
 class Reached:
-    """A row that is answered as it tells: what it cost, and the equations that it reached."""
+    """A row that is answered as it tells: what it cost, and the places of the equations that it reached."""
 
-    def __init__(self, number, seconds, places):
-        self.number = number
+    def __init__(self, row, seconds, reached):
+        self.row = row
         self.seconds = seconds
-        self.places = places
+        self.reached = reached
+
+    def reaches(self, place):
+        """Whether it reached a place."""
+        return place is not None and place < len(self.reached) and self.reached[place] == 1
 
 
-def answered(program, trial, number, row):
+def answered(program, trial, row):
     """What a row reaches, or None where it is not answered as it tells."""
     program.constants.clear()
     trial.ruled.clear()
@@ -51,8 +52,7 @@ def answered(program, trial, number, row):
         said = trial.differs(row)
     except Exception:
         return None
-    places = frozenset(place for place, at in program.places.items() if program.reached[at])
-    return None if said else Reached(number, time.process_time() - started, places)
+    return None if said else Reached(row, time.process_time() - started, bytes(program.reached))
 
 
 def with_change(program, change):
@@ -74,9 +74,10 @@ def verdict(program, change, rows):
     try:
         with_change(program, change)
         trial = Trial(program)
-        for row in rows:
-            resource.setrlimit(resource.RLIMIT_CPU, (int(time.process_time()) + MOST_SECONDS, resource.RLIM_INFINITY))
-            if trial.differs(row) is not None:
+        for one in rows:
+            most = int(time.process_time() + TIMES * one.seconds) + SECONDS_MORE
+            resource.setrlimit(resource.RLIMIT_CPU, (most, resource.RLIM_INFINITY))
+            if trial.differs(one.row) is not None:
                 return TOLD
         return LIVES
     except Exception:
@@ -84,19 +85,18 @@ def verdict(program, change, rows):
 
 
 def verdict_apart(program, change, rows):
-    """The same in a process of its own, which ends where a row takes many seconds."""
+    """The same in a process of its own, which ends where a row does not end."""
     child = os.fork()
     if child == 0:
-        resource.setrlimit(resource.RLIMIT_AS, (6 << 30, 6 << 30))
+        resource.setrlimit(resource.RLIMIT_AS, (MOST_MEMORY, MOST_MEMORY))
         os._exit(verdict(program, change, rows))
     _, status = os.waitpid(child, 0)
     code = os.waitstatus_to_exitcode(status)
     return code if code in (TOLD, LIVES) else STOPPED
 
 
-def changes_reached(program, reached):
-    """The changes of equations of the headline that some row reaches, but for those of fields that are not taken."""
-    places = set().union(*(one.places for one in reached))
+def changes_reached(program, places):
+    """The changes of equations of the headline at these places, but for those of fields that are not taken."""
     fields = taken_fields(sides_of(program, places))
     closure = whole_headline(program.modules, os.path.abspath(CRATES))
     return [change for one in closure.found.values()
@@ -110,36 +110,33 @@ def reasons():
 
 
 class Rows:
-    """The rows by which changes are told: short ones, of which is known what they reach, and others."""
+    """The rows of all tables, of which is known what they reach. They are answered in this process, so that all is compiled before each
+    change has a process of its own."""
 
-    def __init__(self, program, processes):
-        self.trial = Trial(program)
-        all_short = [row for row in rows_to_try()[0] if len(row.job) <= MOST_BYTES]
-        self.short = [row for row in all_short if len(row.job) <= FEW_BYTES and not row.place.startswith(LIKE_OTHERS)]
-        self.others = [row for row in all_short if row not in self.short]
-        answers, _ = in_processes(lambda item: answered(program, self.trial, *item), list(enumerate(self.short)), processes)
-        self.reached = sorted((one for one in answers if one is not None and one.seconds < DEAREST), key=lambda one: one.seconds)
-        self.is_warm = False
+    def __init__(self, program):
+        self.program = program
+        trial = Trial(program)
+        collect_seldom()
+        found = on_large_stack(lambda: [answered(program, trial, row) for row in rows_to_try()[0]])
+        self.reached = sorted((one for one in found if one is not None), key=lambda one: one.seconds)
 
-    def warm(self):
-        """Answers some rows, so that what they need is compiled before each change has a process of its own."""
-        if not self.is_warm:
-            self.is_warm = True
-            for row in self.short[::WARMING]:
-                self.trial.differs(row)
+    def places(self):
+        """The places that some row reaches."""
+        return {place for place, number in self.program.places.items() if any(one.reaches(number) for one in self.reached)}
 
     def near(self, change):
-        """The cheap rows that reach a change, the cheapest first."""
-        return [self.short[one.number] for one in self.reached if (change.definition.key, change.at) in one.places]
+        """The rows that reach a change, the cheapest first."""
+        place = self.program.places.get((change.definition.key, change.at))
+        return [one for one in self.reached if one.reaches(place)]
 
-    def for_change(self, change, seed):
-        """The rows to try of a change: cheap ones that reach it, some of the others that do, some longer ones, those that have the
-        text that is changed, and those about limits."""
-        near, chance = self.near(change), random.Random(seed)
-        further = chance.sample(near, min(len(near), ROWS_EACH // 2))
-        others = chance.sample(self.others, min(len(self.others), ROWS_EACH))
-        others += [row for row in self.short + self.others if change.text and change.text in row.job][:ROWS_EACH]
-        return near[:ROWS_EACH // 2] + further + others + [row for row in self.short + self.others if row.place.startswith(LIMITS)]
+    def for_change(self, change, has_reason):
+        """The rows to try of a change."""
+        near, seconds = self.near(change), 0
+        for count, one in enumerate(near):
+            seconds += one.seconds
+            if has_reason and seconds > SECONDS_WITH_REASON:
+                return near[:count]
+        return near
 
 
 class Part:
@@ -160,34 +157,37 @@ def run(seed, part, seconds, processes):
     """Tries a part of the changes, for so many seconds, and prints those that live without a reason; 1 where there are such."""
     program = definitions()
     unknown_forms(program, whole_headline(program.modules, os.path.abspath(CRATES)))
-    rows = Rows(program, processes)
-    changes = changes_reached(program, rows.reached)
+    rows = Rows(program)
+    changes = changes_reached(program, rows.places())
+    known, started = reasons(), time.time()
+    idle = known - {change.name for change in changes}
     random.Random(seed).shuffle(changes)
-    print(f"seed {seed}: {len(changes)} changes that {len(rows.reached)} rows reach", flush=True)
-    known, end = reasons(), time.time() + seconds
+    some = part.of(changes)
+    print(f"seed {seed}: {len(some)} of {len(changes)} changes that {len(rows.reached)} rows reach", flush=True)
 
-    def tried(change):
+    def tried(item):
         """What becomes of a change, or None where the time is over."""
-        if time.time() > end:
+        number, change = item
+        if seconds is not None and time.time() > started + seconds:
             return None
-        rows.warm()
-        tries = rows.near(change) if change.name in known else rows.for_change(change, seed)
-        status = verdict_apart(program, change, tries)
-        if status == LIVES and change.name not in known:
-            print(f"lives: {change.name}", flush=True)
+        status = verdict_apart(program, change, rows.for_change(change, change.name in known))
+        if (status == LIVES) != (change.name in known):
+            print("lives:" if status == LIVES else "has a reason, and is told:", change.name, flush=True)
+        if number % PROGRESS == 0:
+            print(f"{number} begun, {time.time() - started:.0f} s", flush=True)
         return status
 
-    some = part.of(changes)
-    found, _ = in_processes(tried, some, processes)
-    return summed(some, found, known)
+    found, _ = in_processes(tried, list(enumerate(some, 1)), processes)
+    return summed(some, found, known, idle)
 
 
-def summed(changes, found, known):
-    """Prints how many were told."""
-    tried = sum(status is not None for status in found)
-    told, stopped = found.count(TOLD), found.count(STOPPED)
+def summed(changes, found, known, idle):
+    """Prints how many were told; idle reasons are of no change."""
+    told, stopped, tried = found.count(TOLD), found.count(STOPPED), len(found) - found.count(None)
     alike = sum(status == LIVES and change.name in known for change, status in zip(changes, found))
     lives = found.count(LIVES) - alike
-    print(f"{tried} of {len(changes)} tried: {told} told by an answer, {stopped} stopped or without end, {alike} alike by a reason, {lives} live")
-    print(f"{tried - lives} passed, {lives} failed")
-    return 1 if lives else 0
+    for name in sorted(idle):
+        print(f"has a reason, and is no change: {name}")
+    print(f"{told + stopped} told, {alike} with a reason, {lives} live of {tried}; of those told, by {stopped} a row stops or does not end")
+    print(f"{tried - lives} passed, {lives + len(idle)} failed")
+    return 1 if lives or idle else 0

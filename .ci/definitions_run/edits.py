@@ -2,7 +2,7 @@
 
 from collections import Counter
 
-from .argument_types import constructor_takes, differ_in_type
+from .argument_types import constructor_takes, differ_in_type, head_of
 from .matching import Match
 from .modules import explicit_parameters
 from .relations import header_of
@@ -16,6 +16,8 @@ OTHERS = {
     "nat_le": "nat_lt", "nat_lt": "nat_le", "int_lt": "int_le", "min": "max", "max": "min", "take": "drop", "drop": "take",
     "list_all": "list_any", "list_any": "list_all", "int_div": "int_rem", "int_rem": "int_div", "zero": "1",
 }
+# What gives the same whichever of its two arguments comes first.
+SYMMETRIC = {"are_same", "bytes_eq", "eqb", "is_same", "max", "min", "nat_eq", "same_integer", "same_truth"}
 
 
 class Change:
@@ -93,10 +95,17 @@ def are_bound_for_once(tokens, names):
     return all(list(tokens).count(name) == 2 for name in names) and binder_names(tokens, ("{",)).issuperset(names)
 
 
+def are_even(tokens, at):
+    """Whether an argument and the next one are those of what gives the same where they are exchanged."""
+    head = head_of(tokens, at)
+    return head is not None and head[0] in SYMMETRIC
+
+
 def exchanged(scope, tokens, at, parameters):
     """The tokens with two names that follow each other exchanged, where both are arguments, and of one type as far as is known; else None.
 
-    The parameters of a relation are of different types, so their exchange is refused before it is run.
+    The parameters of a relation are of different types, so their exchange is refused before it is run. Of what is symmetric an exchange
+    changes nothing.
     """
     if at < 1 or at + 1 >= len(tokens):
         return None
@@ -106,7 +115,7 @@ def exchanged(scope, tokens, at, parameters):
         return None
     if first in parameters or second in parameters or are_bound_for_once(tokens, (first, second)):
         return None
-    if first == second or any(word.endswith(".") for word in words) or differ_in_type(scope, tokens, at):
+    if first == second or any(word.endswith(".") for word in words) or differ_in_type(scope, tokens, at) or are_even(tokens, at):
         return None
     return tokens[:at] + [second, first] + tokens[at + 2:]
 
