@@ -8,7 +8,7 @@ from .tokens import FormError
 
 # Words of the kit that take two things of different types first: a function and a list, or a list and a number.
 MIXED = {
-    "before_first", "cond", "count_by", "drop", "filter", "filter_map", "flat_map", "list_all", "list_any", "map", "option_and_then", "option_map",
+    "before_first", "count_by", "drop", "filter", "filter_map", "flat_map", "list_all", "list_any", "map", "option_and_then", "option_map",
     "position_or_len", "prefix_len", "slice_get", "slice_index", "slice_index_or", "slice_set", "sum_by", "take", "take_while", "unwrap_or",
 }
 APART = {"(", "{", "[", "]", "=", ";", ",", "|", "→", "↦", "if", "then", "else", "let", "in", "record", "λ", "elim", "as"}
