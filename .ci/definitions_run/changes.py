@@ -25,7 +25,7 @@ TIMES, SECONDS_MORE = 8, 4
 SECONDS_WITH_REASON = 5
 MOST_MEMORY = 6 << 30
 PROGRESS = 50
-TOLD, STOPPED, LIVES = 10, 11, 12
+TOLD, STOPPED, REFUSED, LIVES = 10, 11, 12, 13
 
 
 class Reached:
@@ -80,6 +80,9 @@ def verdict(program, change, rows):
             if trial.differs(one.row) is not None:
                 return TOLD
         return LIVES
+    except (AttributeError, TypeError):
+        # a value of another type than what takes it: the change is one that a checker refuses
+        return REFUSED
     except Exception:
         return STOPPED
 
@@ -92,7 +95,7 @@ def verdict_apart(program, change, rows):
         os._exit(verdict(program, change, rows))
     _, status = os.waitpid(child, 0)
     code = os.waitstatus_to_exitcode(status)
-    return code if code in (TOLD, LIVES) else STOPPED
+    return code if code in (TOLD, REFUSED, LIVES) else STOPPED
 
 
 def changes_reached(program, places):
@@ -182,12 +185,14 @@ def run(seed, part, seconds, processes):
 
 
 def summed(changes, found, known, idle):
-    """Prints how many were told; idle reasons are of no change."""
-    told, stopped, tried = found.count(TOLD), found.count(STOPPED), len(found) - found.count(None)
+    """Prints how many were told, but for those that a checker refuses; idle reasons are of no change."""
+    told, stopped, refused = found.count(TOLD), found.count(STOPPED), found.count(REFUSED)
+    tried = len(found) - found.count(None) - refused
     alike = sum(status == LIVES and change.name in known for change, status in zip(changes, found))
     lives = found.count(LIVES) - alike
     for name in sorted(idle):
         print(f"has a reason, and is no change: {name}")
-    print(f"{told + stopped} told, {alike} with a reason, {lives} live of {tried}; of those told, by {stopped} a row stops or does not end")
+    print(f"a row stops or does not end by {stopped} of those told; a checker refuses {refused} others")
+    print(f"{told + stopped} told, {alike} with a reason, {lives} live of {tried}")
     print(f"{tried - lives} passed, {lives + len(idle)} failed")
     return 1 if lives or idle else 0
