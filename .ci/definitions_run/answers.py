@@ -61,7 +61,7 @@ class Job:
         self.source = source or Source(program, text)
         self.tree = self.source.tree()
         self.declared, self.type = self.source.typing()
-        self.input = InputReader(program, self.tree["dialect"], input_text)
+        self.input = InputReader(program, deriver(program).decide, self.tree["dialect"], input_text)
         self.environment = self.input.environment(self.declared["inputs"])
         self.layout = self.laid_out()
 

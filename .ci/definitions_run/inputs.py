@@ -20,8 +20,9 @@ class NotTheSame(Exception):
 class InputReader:
     """Reads an input text for declarations."""
 
-    def __init__(self, definitions, dialect, text):
+    def __init__(self, definitions, decide, dialect, text):
         self.definitions = definitions
+        self.decide = decide
         self.dialect = dialect
         self.text = tuple(text)
         self.found = []
@@ -72,14 +73,14 @@ class InputReader:
         return getattr(self, "value_of_" + name)(*ty.given)
 
     def value_of_int(self):
-        """An integer of the dialect."""
+        """An integer of the dialect: `HasType` says that it is one."""
         if self.token is None or self.token.tag != TOKENS + "integer":
             self.stop()
-        number = self.token.given[0]
-        if not self.call("snesl_data.specs.Integers", "is_integer", self.dialect, number):
+        number = Built(VALUES + "an_int", (self.token.given[0],))
+        if not self.decide(self.call("snesl_data.specs.Values", "HasType", self.dialect, number, Built(TYPES + "int"))):
             self.stop()
         self.take()
-        return Built(VALUES + "an_int", (number,))
+        return number
 
     def value_of_bool(self):
         """A truth value."""
