@@ -40,7 +40,7 @@ class InputReader:
     def advance(self, at):
         """Looks at the token that comes next from an offset on."""
         self.end = self.call("snesl_values.specs.InputTokens", "next_at", self.text, at)
-        lexeme = self.call("snesl_values.specs.InputTokens", "next", self.text, at)
+        lexeme = self.call("snesl_values.specs.InputTokens", "next_lexeme", self.text, at)
         self.token, self.length = lexeme.given[0] if lexeme.tag == "Some" else (None, 0)
 
     def take(self):

@@ -7,7 +7,7 @@ the parts of a job (`IsJob`), and what an input text spells (`inputs.py`).
 from .values import Built, dropped
 
 LEXICAL = "snesl_lexer.specs.Lexical"
-FIRST = "Rattle.snesl_lexer.specs.declared.lexer.First.TheVariants."
+FIRST = "Rattle.snesl_lexer.specs.declared.lexer.Foremost.TheVariants."
 
 
 class Refused(Exception):
@@ -102,7 +102,7 @@ class Source:
         tokens = self.tokens()
         reader = self.call("snesl_syntax.specs.DialectMachine", "reader")
         depth = self.call("snesl_grammar.specs.Limits", "greatest_depth")
-        answer = self.call("snesl_syntax.specs.Answer", "answer", reader, depth, len(self.text), reader["start"], tokens)
+        answer = self.call("snesl_syntax.specs.Answer", "parse_rest", reader, depth, len(self.text), reader["start"], tokens)
         return unless_refused(answer)
 
     def value(self, tree, environment):

@@ -9,13 +9,13 @@ use Rattle.snesl_types.specs.Program.{Program}
 use Rattle.snesl_types.specs.GrammarView.{program_of as tree_of}
 use Rattle.snesl_types.specs.Programs.{HasTyping}
 use Rattle.snesl_types.specs.Typed.{program_of, typed_inputs, typed_ty}
-use Rattle.snesl_types.specs.declared.typed.Typed.{Typed}
+use Rattle.snesl_types.specs.declared.typed.TypedProgram.{TypedProgram}
 use Rattle.flow_graph.specs.Edge.{Edge}
 use Rattle.snesl_flatten.specs.Networks.{NetworkMeans, StreamNodeState}
 use Rattle.callers.specs.Flatten.{IsNetworkOf, IsNetworkOfTyped}
 use Rattle.callers.proofs.Checked.{of_text, of_program}
 
-module _ (text : List ℕ) (parsed : Program) (typed : Typed) (kept : parsed.text.items ≡ text) (same : program_of typed ≡ parsed) where
+module _ (text : List ℕ) (parsed : Program) (typed : TypedProgram) (kept : parsed.text.items ≡ text) (same : program_of typed ≡ parsed) where
   -- a network of the typed program is one of the text
   pub of_network : (input : List ℕ) (states : List StreamNodeState) (edges : List Edge) → Parses text (Ok (tree_of parsed))
       → HasTyping parsed.text.items (tree_of parsed) (typed_inputs typed) (typed_ty typed) → IsNetworkOfTyped typed input states edges → IsNetworkOf text input states edges

@@ -1,12 +1,12 @@
 -- The network of a program for an input text.
 use Rattle.std.specs.Prelude.{ℕ, List, Ok}
-use Rattle.snesl_values.specs.Inputs.{Declaration, Environment, InputMeans, spells}
+use Rattle.snesl_values.specs.Inputs.{InputDeclaration, Environment, InputMeans, spells}
 use Rattle.snesl_values.specs.Types.{Ty}
 use Rattle.snesl_syntax.specs.Parse.{Parses}
 use Rattle.snesl_types.specs.Programs.{HasTyping}
 use Rattle.snesl_types.specs.Tree.{ProgramTree}
 use Rattle.snesl_types.specs.Typed.{typed_dialect, typed_inputs, typed_text, typed_tree}
-use Rattle.snesl_types.specs.declared.typed.Typed.{Typed}
+use Rattle.snesl_types.specs.declared.typed.TypedProgram.{TypedProgram}
 use Rattle.flow_graph.specs.Edge.{Edge}
 use Rattle.snesl_flatten.specs.GraphNetworks.{AreOpened}
 use Rattle.snesl_flatten.specs.Networks.{NetworkMeans, StreamNodeState}
@@ -16,7 +16,7 @@ use Rattle.snesl_flatten.specs.StreamNodes.{node_behaviour}
 -- network completes exactly when the program has a value for these, and then prints that value.
 pub record IsNetworkOf (text input : List ℕ) (states : List StreamNodeState) (edges : List Edge) : Type 0 where
   pub program : ProgramTree
-  pub inputs : List Declaration
+  pub inputs : List InputDeclaration
   pub ty : Ty
   pub environment : Environment
   pub parses : Parses text (Ok program)
@@ -26,7 +26,7 @@ pub record IsNetworkOf (text input : List ℕ) (states : List StreamNodeState) (
   pub means : NetworkMeans text program environment states edges
 
 -- The same of a program that is typed: the input text spells values for its inputs, and the nodes stand before their first step.
-pub record IsNetworkOfTyped (typed : Typed) (input : List ℕ) (states : List StreamNodeState) (edges : List Edge) : Type 0 where
+pub record IsNetworkOfTyped (typed : TypedProgram) (input : List ℕ) (states : List StreamNodeState) (edges : List Edge) : Type 0 where
   pub environment : Environment
   pub reads : InputMeans (typed_dialect typed) (typed_inputs typed) input (spells environment)
   pub opened : AreOpened node_behaviour states

@@ -2,7 +2,7 @@
 use Rattle.std.specs.Prelude.{ℕ, List, Result, Ok}
 use Rattle.snesl_values.specs.Datum.{Datum}
 use Rattle.snesl_values.specs.Fault.{Fault}
-use Rattle.snesl_values.specs.Inputs.{Declaration, Environment, InputMeans, spells}
+use Rattle.snesl_values.specs.Inputs.{InputDeclaration, Environment, InputMeans, spells}
 use Rattle.snesl_values.specs.Types.{Ty}
 use Rattle.snesl_syntax.specs.Parse.{Parses}
 use Rattle.snesl_types.specs.Eval.{program_value}
@@ -14,7 +14,7 @@ use Rattle.snesl_types.specs.Tree.{ProgramTree}
 -- first fault.
 pub record IsValueOf (text input : List ℕ) (answer : Result Datum Fault) : Type 0 where
   pub program : ProgramTree
-  pub inputs : List Declaration
+  pub inputs : List InputDeclaration
   pub ty : Ty
   pub environment : Environment
   pub parses : Parses text (Ok program)

@@ -93,9 +93,11 @@ module _ (plan : List Step) (n : ℕ) (supply : List Port) (found : List ℕ) (s
 
     pub is_network : IsNetworkOfPlan node_behaviour plan states edges
     is_network = record {
-      nodes = all_nodes;
+      laid = record {
+        nodes = all_nodes;
+        reads = λ k placed at. sym (each_length (slice_get kinds) placed.reads (kinds_read placed.operation) (fit k placed at).reads);
+        joins = built.joined.joins;
+        edges_are = all_edges;
+      };
       performs = does;
-      reads = λ k placed at. sym (each_length (slice_get kinds) placed.reads (kinds_read placed.operation) (fit k placed at).reads);
-      joins = built.joined.joins;
-      edges_are = all_edges;
     }

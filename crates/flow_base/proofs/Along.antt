@@ -11,7 +11,7 @@ use Rattle.flow_messages.specs.Signals.{Signal, carry}
 use Rattle.flow_messages.specs.declared.message.Kind.{Kind}
 use Rattle.flow_messages.specs.declared.message.Kind.TheVariants.{Unit as UnitKind, Bool as BoolKind, Int as IntKind, Vec as VecKind}
 use Rattle.flow_base.specs.Machines.{Machine, ask_of, state_after_read, written_cell, state_after_write}
-use Rattle.flow_base.specs.Nodes.{behaviour_of, node_state, want_for, moved}
+use Rattle.flow_base.specs.Nodes.{behaviour_of, node_state, want_for, went_on}
 use Rattle.flow_base.specs.Along.{MovesAlong, RunsAlong, shown_signals, written_signals, written_at}
 use Rattle.flow_base.specs.declared.node.Phase.TheVariants.{Working}
 use Rattle.flow_base.specs.declared.slices.Moved.{Moved}
@@ -119,7 +119,7 @@ module _ {P S : Type 0} (m : Machine P S) where
     pub ran_first : (s t : S) (x : Cell) → want_for (ask_of (m.move p s)) ≡ Read 0 → state_after_read (m.move p s) x ≡ Ok t → Along s t (carry x ∷ []) [] (λ q. []) 1
     ran_first s t x wants leads = record {
       history = Reads 0 (carry x) ∷ [];
-      does = λ at. (wants, ap (moved m (node_state (p, s) Working at)) leads);
+      does = λ at. (wants, ap (went_on m (node_state (p, s) Working at)) leads);
       counts = refl;
       reads_first = refl;
       reads_second = refl;
@@ -131,7 +131,7 @@ module _ {P S : Type 0} (m : Machine P S) where
     pub ran_second : (s t : S) (x : Cell) → want_for (ask_of (m.move p s)) ≡ Read 1 → state_after_read (m.move p s) x ≡ Ok t → Along s t [] (carry x ∷ []) (λ q. []) 1
     ran_second s t x wants leads = record {
       history = Reads 1 (carry x) ∷ [];
-      does = λ at. (wants, ap (moved m (node_state (p, s) Working at)) leads);
+      does = λ at. (wants, ap (went_on m (node_state (p, s) Working at)) leads);
       counts = refl;
       reads_first = refl;
       reads_second = refl;

@@ -12,10 +12,10 @@ use Rattle.flow_messages.specs.declared.ends.Why.TheVariants.{Closed}
 use Rattle.flow_messages.specs.declared.message.Msg.{Msg}
 use Rattle.flow_messages.specs.Cells.{Cell}
 use Rattle.flow_base.specs.Machines.{Machine, Taking, state_after_item, state_after_read, Leads}
-use Rattle.flow_base.specs.Nodes.{node_state, node_after_read, moved}
+use Rattle.flow_base.specs.Nodes.{node_state, node_after_read, went_on}
 use Rattle.flow_base.specs.declared.node.Phase.TheVariants.{Working}
 use Rattle.flow_base.specs.Transducers.{Behaviour, BehaviourLaws}
-use Rattle.flow_base.specs.Visits.{read_from, sent_after, longer, Wrote, edge_of, LeavesAlone, Went, WentOn, IsPlaced, IsWired}
+use Rattle.flow_base.specs.Visits.{read_from, sent_after, longer, Wrote, edge_of, LeavesAlone, Went, WentOn, IsPlaced, PortsHaveEdges}
 use Rattle.flow_base.proofs.Carried.{looked_coming, looked_room, same_ends_refl, prefix_same, prefix_then, read_append, sent_append, taken_received, taken_room, put_wrote}
 use Rattle.flow_base.proofs.Reached.{opening_does, reached_does}
 use Rattle.flow_base.proofs.Visits.{Made, left_alone, not_at}
@@ -56,11 +56,11 @@ put_sure v w f message r certain ok refused closed succeeds = put_wrote v v w f 
 
 -- an item that leads on, in a node that works
 pub leads_on : {P S : Type 0} (m : Machine P S) (p : P) (s next : S) (at : ℕ) (t : Taking S) (x : Signal) → ((y : Cell) → state_after_read (m.move p s) y ≡ state_after_item t y) → Leads t x next → node_state (p, next) Working at ≡ node_after_read m Working (node_state (p, s) Working at) x
-leads_on m p s next at t (carry y) reads leads = sym (ap (moved m (node_state (p, s) Working at)) (reads y ∙ leads))
+leads_on m p s next at t (carry y) reads leads = sym (ap (went_on m (node_state (p, s) Working at)) (reads y ∙ leads))
 leads_on m p s next at t stop reads leads = absurd leads
 
 -- a node's edges, as its worker sees them
-pub wired : {S : Type 0} (b : Behaviour S) (inputs outputs : List ℕ) (s : S) (v : View) → IsPlaced b inputs outputs s v → IsWired inputs outputs (b.inputs s) (b.outputs s) v
+pub wired : {S : Type 0} (b : Behaviour S) (inputs outputs : List ℕ) (s : S) (v : View) → IsPlaced b inputs outputs s v → PortsHaveEdges inputs outputs (b.inputs s) (b.outputs s) v
 wired b inputs outputs s v placed = record { each_input = placed.each_input; each_output = placed.each_output; reads = placed.reads; writes = placed.writes }
 
 -- who does nothing leaves all alone, and who looks for messages at an input does

@@ -22,7 +22,7 @@ use Rattle.flow_base.specs.Machines.{Machine, MachineLaws, Move, begins, takes, 
 use Rattle.flow_base.specs.declared.worker.Ask.TheVariants.{Begin}
 use Rattle.flow_base.specs.declared.node.Phase.{Phase}
 use Rattle.flow_base.specs.declared.node.Phase.TheVariants.{Working, Closing, Ending, Faulted}
-use Rattle.flow_base.specs.Nodes.{NodeState, node_state, behaviour_of, want_for, at_end, moved, closing}
+use Rattle.flow_base.specs.Nodes.{NodeState, node_state, behaviour_of, want_for, at_end, went_on, closing}
 use Rattle.flow_base.specs.Passing.{MayCome, PassedOn}
 use Rattle.flow_base.specs.Following.{Fans, Follows, signals_of, is_begin, is_working, node_passes}
 use Rattle.flow_base.specs.Following.{Writes as WritesAll}
@@ -169,7 +169,7 @@ module _ {P S : Type 0} (m : Machine P S) (laws : MachineLaws m) (p : P) (at : �
       let next = on_next (state_after_read (m.move p m.start) x) (WritesAll m p None) h in
       record {
         history = Reads 0 (carry x) ∷ [];
-        does = (wants, ap (moved m ready) next.is ∙ ap (λ s. node_state (p, s) Working at) next.holds);
+        does = (wants, ap (went_on m ready) next.is ∙ ap (λ s. node_state (p, s) Working at) next.holds);
         reads_are = refl;
         no_others = λ k ne. reads_later k 0 (carry x) [] ne;
         writes_are = λ q l. refl;
@@ -184,7 +184,7 @@ module _ {P S : Type 0} (m : Machine P S) (laws : MachineLaws m) (p : P) (at : �
       let n = m.outputs p in
       record {
         history = Reads 0 (carry x) ∷ fan z 0 n;
-        does = (wants, subst (λ r. Does (behaviour_of m).process (moved m ready r) (fan z 0 n) ready) (sym next.is) (fan_does z n 0 next.state next.holds.1));
+        does = (wants, subst (λ r. Does (behaviour_of m).process (went_on m ready r) (fan z 0 n) ready) (sym next.is) (fan_does z n 0 next.state next.holds.1));
         reads_are = ap (λ l. carry x ∷ l) (fan_reads 0 z 0 n);
         no_others = λ k ne. reads_later k 0 (carry x) (fan z 0 n) ne ∙ fan_reads k z 0 n;
         writes_are = λ q l. fan_at q z 0 n (omega arith) (omega (arith, l));

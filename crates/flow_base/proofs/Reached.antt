@@ -3,7 +3,7 @@ use Rattle.std.proofs.Common.{◌≡◌, ℕ, ◌<◌, true, List, [], ◌∷◌
 use mathlib.Core.Logic.{∥∥₁_elim, ∥∥₁_map}
 use native.Mathlib.Bridge.{le_prop}
 use Rattle.kahn.specs.declared.want.Want.TheVariants.{Read, Write}
-use Rattle.kahn.specs.Processes.{Event, Reads, Writes, Does, IsLawful, writes}
+use Rattle.kahn.specs.Processes.{Event, Reads, Writes, Does, IsLawfulProcess, writes}
 use Rattle.kahn.proofs.History.{does_then, writes_push}
 use Rattle.std.proofs.Props.{props}
 use Rattle.flow_messages.specs.declared.message.Kind.{Kind}
@@ -43,7 +43,7 @@ module _ {S : Type 0} (b : Behaviour S) (laws : BehaviourLaws b) where
   pub reached_wrote : (s s' : S) (q : ℕ) → b.process.want s ≡ Write q → s' ≡ b.process.wrote s → IsReached b s → IsReached b s'
   reached_wrote s s' q wants is reached = reached_does (Writes q (b.process.written s) ∷ []) s s' (wants, refl, sym is) reached
 
-  lawful_at : (s : S) → IsLawful b.process (b.opening s) (b.inputs (b.opening s)) (b.outputs (b.opening s))
+  lawful_at : (s : S) → IsLawfulProcess b.process (b.opening s) (b.inputs (b.opening s)) (b.outputs (b.opening s))
   lawful_at s = (laws.opened (b.opening s) (laws.same_opening s)).lawful
 
   -- what it writes is the end, or of the kind of its port

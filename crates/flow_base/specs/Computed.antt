@@ -39,15 +39,15 @@ module _ {P S : Type 0} (m : Machine P S) (p : P) where
   after_writes read (takes q t) bound i = read (takes q t) i
 
   -- what is written where n items are left, and the next is read or there is none
-  abbrev pub answer : ℕ → Move S → Columns → Option Columns
-  answer (suc n) (begins t) i = on_item (each_port i 0) (λ x l. on_next (state_after_item t x) (λ s. after_writes (answer n) (m.move p s) (m.debt p s) (with_column 0 l i)))
-  answer (suc n) (takes q t) i = on_item (each_port i q) (λ x l. on_next (state_after_item t x) (λ s. after_writes (answer n) (m.move p s) (m.debt p s) (with_column q l i)))
-  answer zero (begins t) i = Some (nothing (m.outputs p))
-  answer _ _ i = None
+  abbrev pub rest_written : ℕ → Move S → Columns → Option Columns
+  rest_written (suc n) (begins t) i = on_item (each_port i 0) (λ x l. on_next (state_after_item t x) (λ s. after_writes (rest_written n) (m.move p s) (m.debt p s) (with_column 0 l i)))
+  rest_written (suc n) (takes q t) i = on_item (each_port i q) (λ x l. on_next (state_after_item t x) (λ s. after_writes (rest_written n) (m.move p s) (m.debt p s) (with_column q l i)))
+  rest_written zero (begins t) i = Some (nothing (m.outputs p))
+  rest_written _ _ i = None
 
   -- what whole instances write that read these columns, where there are any
   abbrev pub computed : Columns → Option Columns
-  computed i = after_writes (answer (item_count i)) (m.move p m.start) (m.debt p m.start) i
+  computed i = after_writes (rest_written (item_count i)) (m.move p m.start) (m.debt p m.start) i
 
   -- the row is what is computed
   abbrev pub ComputesRow : Type 0
@@ -116,7 +116,7 @@ written_some q c (Some rest) o e = let same : o ≡ push_column q c rest = cc in
 
 module _ {P S : Type 0} (m : Machine P S) (laws : MachineLaws m) (p : P) where
   abbrev From : ℕ → S → ℕ → Columns → Option Columns
-  From n s bound i = after_writes m p (answer m p n) (m.move p s) bound i
+  From n s bound i = after_writes m p (rest_written m p n) (m.move p s) bound i
 
   -- what a run writes is what is computed
   abbrev Computes : S → Columns → Columns → Type 0
@@ -134,23 +134,23 @@ module _ {P S : Type 0} (m : Machine P S) (laws : MachineLaws m) (p : P) where
       next (Err kind) h = absurd h
 
   step_computes : (s : S) (v : Move S) → SoundAt m p s v → (x : Cell) (i o : Columns) → Then (λ next. Computes next i o) v x → width (reading v x i) ≡ m.inputs p → width (writing v o) ≡ m.outputs p →
-      (bound : ℕ) → m.debt p s ≤ bound → after_writes m p (answer m p (item_count (reading v x i))) v bound (reading v x i) ≡ Some (writing v o)
+      (bound : ℕ) → m.debt p s ≤ bound → after_writes m p (rest_written m p (item_count (reading v x i))) v bound (reading v x i) ≡ Some (writing v o)
   step_computes s (begins t) law x i o h wi wo bound le =
       let w : width i ≡ m.inputs p = sym (width_push 0 x i) ∙ wi in
       let lt : 0 < width i = subst (λ n. 0 < n) (sym w) law.1.0 in
-      ap (λ n. answer m p n (begins t) (push_column 0 x i)) (items_push 0 x i lt) ∙ read_computes 0 t x i o lt w wo h
+      ap (λ n. rest_written m p n (begins t) (push_column 0 x i)) (items_push 0 x i lt) ∙ read_computes 0 t x i o lt w wo h
   step_computes s (takes q t) law x i o h wi wo bound le =
       let w : width i ≡ m.inputs p = sym (width_push q x i) ∙ wi in
       let lt : q < width i = subst (λ n. q < n) (sym w) law.0 in
-      ap (λ n. answer m p n (takes q t) (push_column q x i)) (items_push q x i lt) ∙ read_computes q t x i o lt w wo h
+      ap (λ n. rest_written m p n (takes q t) (push_column q x i)) (items_push q x i lt) ∙ read_computes q t x i o lt w wo h
   step_computes s (gives q c next) law x i o h wi wo zero le = let falls = law.1 in absurd (omega arith)
   step_computes s (gives q c next) law x i o h wi wo (suc bound) le = let falls = law.1 in ap (written q c) (h wi (sym (width_push q c o) ∙ wo) bound (omega arith))
 
   none_computes : Computes m.start (nothing (m.inputs p)) (nothing (m.outputs p))
   none_computes wi wo bound le = go (m.move p m.start) (laws.begins_at_start p)
     where
-      go : (v : Move S) → ask_of v ≡ Begin → after_writes m p (answer m p (item_count (nothing (m.inputs p)))) v bound (nothing (m.inputs p)) ≡ Some (nothing (m.outputs p))
-      go (begins t) e = ap (λ n. answer m p n (begins t) (nothing (m.inputs p))) (items_nothing (m.inputs p))
+      go : (v : Move S) → ask_of v ≡ Begin → after_writes m p (rest_written m p (item_count (nothing (m.inputs p)))) v bound (nothing (m.inputs p)) ≡ Some (nothing (m.outputs p))
+      go (begins t) e = ap (λ n. rest_written m p n (begins t) (nothing (m.inputs p))) (items_nothing (m.inputs p))
       go (takes q t) e = absurd (cc)
       go (gives q c s) e = absurd (cc)
 
@@ -158,13 +158,13 @@ module _ {P S : Type 0} (m : Machine P S) (laws : MachineLaws m) (p : P) where
   run_computes = run_is m p Computes (laws.sound p) none_computes (λ s x i o h. step_computes s (m.move p s) (laws.sound p s) x i o h)
 
   -- what is computed is what a run writes
-  abbrev Reaches : Move S → Columns → Columns → Type 0
-  Reaches v i o = (width o ≡ m.outputs p) × ((n : ℕ) × RunOf m p n v i o)
+  abbrev IsOfRun : Move S → Columns → Columns → Type 0
+  IsOfRun v i o = (width o ≡ m.outputs p) × ((n : ℕ) × RunOf m p n v i o)
 
   abbrev AnswersRun : ℕ → Type 0
-  AnswersRun n = (s : S) (v : Move S) → SoundAt m p s v → (i o : Columns) → item_count i ≡ n → width i ≡ m.inputs p → answer m p n v i ≡ Some o → Reaches v i o
+  AnswersRun n = (s : S) (v : Move S) → SoundAt m p s v → (i o : Columns) → item_count i ≡ n → width i ≡ m.inputs p → rest_written m p n v i ≡ Some o → IsOfRun v i o
 
-  writes_run : (n : ℕ) → AnswersRun n → (bound : ℕ) (s : S) (v : Move S) → SoundAt m p s v → (i o : Columns) → item_count i ≡ n → width i ≡ m.inputs p → after_writes m p (answer m p n) v bound i ≡ Some o → Reaches v i o
+  writes_run : (n : ℕ) → AnswersRun n → (bound : ℕ) (s : S) (v : Move S) → SoundAt m p s v → (i o : Columns) → item_count i ≡ n → width i ≡ m.inputs p → after_writes m p (rest_written m p n) v bound i ≡ Some o → IsOfRun v i o
   writes_run n reads bound s (begins t) law i o e w h = reads s (begins t) law i o e w h
   writes_run n reads bound s (takes q t) law i o e w h = reads s (takes q t) law i o e w h
   writes_run n reads zero s (gives q c next) law i o e w h = absurd (cc)

@@ -12,7 +12,7 @@ use Rattle.flow_base.specs.Ranges.{CellInRange, SignalInRange}
 use Rattle.flow_base.specs.Machines.{Taking, Move, begins, takes, Machine, ask_of, state_after_read, OfNext, SoundRead}
 use Rattle.flow_base.specs.Bodies.{Body, BodyAfter, take_read, begin_read, begin_stop, begin_none, take_full, other_kind, of_kind_there, in_range_there}
 use Rattle.flow_base.specs.Promises.{KeepsRead}
-use Rattle.flow_base.specs.Nodes.{NodeState, node_state, opened, behaviour_of, want_in, moved, at_end, node_after_read}
+use Rattle.flow_base.specs.Nodes.{NodeState, node_state, opened, behaviour_of, want_in, went_on, at_end, node_after_read}
 use Rattle.flow_base.specs.ClosedLists.{AreClosed, closed_full, carried, stopped, closed_rest, closed_more, ends_less, ends_more, ends_closed, closed_ends}
 use Rattle.flow_base.specs.NodePromises.{Remains, owes_in, over_in, promise_of, closing_owes}
 use Rattle.flow_base.specs.declared.node.Phase.TheVariants.{Working, Closing, Ending}
@@ -25,23 +25,23 @@ module _ {P S : Type 0} (m : Machine P S) (p : P) (s : S) (at : ℕ) where
   Owes n i o = owes_in m n.phase n.worker i o
 
   -- where an item leads
-  moved_forth : (r : Result S FaultKind) (i o : Lists Signal) (ins outs : Lists Cell) → BodyAfter m p r ins outs → AreClosed (m.inputs p) i ins → AreClosed (m.outputs p) o outs → Owes (moved m here r) i o
+  moved_forth : (r : Result S FaultKind) (i o : Lists Signal) (ins outs : Lists Cell) → BodyAfter m p r ins outs → AreClosed (m.inputs p) i ins → AreClosed (m.outputs p) o outs → Owes (went_on m here r) i o
   moved_forth (Ok next) i o ins outs body ci co = record { ins = ins; outs = outs; body = body; closed_ins = ci; closed_outs = co }
   moved_forth (Err kind) i o ins outs body ci co = absurd body
 
-  moved_back : (r : Result S FaultKind) (i o : Lists Signal) → Owes (moved m here r) i o → (ins : Lists Cell) × (outs : Lists Cell) × BodyAfter m p r ins outs × AreClosed (m.inputs p) i ins × AreClosed (m.outputs p) o outs
+  moved_back : (r : Result S FaultKind) (i o : Lists Signal) → Owes (went_on m here r) i o → (ins : Lists Cell) × (outs : Lists Cell) × BodyAfter m p r ins outs × AreClosed (m.inputs p) i ins × AreClosed (m.outputs p) o outs
   moved_back (Ok next) i o h = (h.ins, h.outs, h.body, h.closed_ins, h.closed_outs)
   moved_back (Err kind) i o h = absurd h
 
-  moved_opening : (r : Result S FaultKind) → (behaviour_of m).opening (moved m here r) ≡ opened (p, m.start) at
+  moved_opening : (r : Result S FaultKind) → (behaviour_of m).opening (went_on m here r) ≡ opened (p, m.start) at
   moved_opening (Ok next) = refl
   moved_opening (Err kind) = refl
 
-  moved_of_kind : (r : Result S FaultKind) → m.of_kind p s → OfNext r (m.of_kind p) → (behaviour_of m).of_kind (moved m here r)
+  moved_of_kind : (r : Result S FaultKind) → m.of_kind p s → OfNext r (m.of_kind p) → (behaviour_of m).of_kind (went_on m here r)
   moved_of_kind (Ok next) held after = after
   moved_of_kind (Err kind) held after = held
 
-  moved_in_range : (dialect : Dialect) (r : Result S FaultKind) → m.in_range dialect p s → OfNext r (m.in_range dialect p) → (behaviour_of m).in_range dialect (moved m here r)
+  moved_in_range : (dialect : Dialect) (r : Result S FaultKind) → m.in_range dialect p s → OfNext r (m.in_range dialect p) → (behaviour_of m).in_range dialect (went_on m here r)
   moved_in_range dialect (Ok next) own after = after
   moved_in_range dialect (Err kind) own after = own
 
@@ -54,14 +54,14 @@ module _ {P S : Type 0} (m : Machine P S) (p : P) (s : S) (at : ℕ) where
     in_range : (dialect : Dialect) (x : Cell) → m.of_kind p s → m.in_range dialect p s → CellInRange dialect x → OfNext (state_after_read v x) (m.in_range dialect p)
 
   module _ (v : Move S) (q : ℕ) (law : ReadsBy v q) where
-    item_forth : (x : Cell) (i o : Lists Signal) → Remains m p v (push q (carry x) i) o → Owes (moved m here (state_after_read v x)) i o
+    item_forth : (x : Cell) (i o : Lists Signal) → Remains m p v (push q (carry x) i) o → Owes (went_on m here (state_after_read v x)) i o
     item_forth x i o h =
         let front = carried x (i q) (h.ins q) (sym (at_port q (carry x ∷ i q) i) ∙ h.closed_ins q law.port) in
         let less = with_port q front.0 h.ins in
         let body : Body m p v (push q x less) h.outs = subst (λ l. Body m p v l h.outs) (sym (put_back q x front.0 h.ins front.1)) h.body in
         moved_forth (state_after_read v x) i o less h.outs ((law.steps x less h.outs).0 body) (closed_rest (m.inputs p) q (carry x) i h.ins front.0 front.2 h.closed_ins) h.closed_outs
 
-    item_back : (x : Cell) (i o : Lists Signal) → Owes (moved m here (state_after_read v x)) i o → Remains m p v (push q (carry x) i) o
+    item_back : (x : Cell) (i o : Lists Signal) → Owes (went_on m here (state_after_read v x)) i o → Remains m p v (push q (carry x) i) o
     item_back x i o h =
         let g = moved_back (state_after_read v x) i o h in
         record {
@@ -92,13 +92,13 @@ module _ {P S : Type 0} (m : Machine P S) (p : P) (s : S) (at : ℕ) where
       ends = ap (λ w. over_in (at_end m (ask_of w) here).phase q) e ∙ end_passed;
       still_in = λ message k h. absurd (cc);
       still_out = λ message k h. absurd (cc);
-      kinds = λ x other. ap (λ r. want_in m (moved m here r).phase (moved m here r)) (ap (λ w. state_after_read w x) e ∙ law.kinds x other);
+      kinds = λ x other. ap (λ r. want_in m (went_on m here r).phase (went_on m here r)) (ap (λ w. state_after_read w x) e ∙ law.kinds x other);
       of_kind = of_kind;
       in_range = in_range;
     }
       where
         message : (x : Signal) (i o : Lists Signal) → Remains m p (m.move p s) (push q x i) o ↔ Owes (node_after_read m Working here x) i o
-        message (carry x) i o = subst (λ w. Remains m p w (push q (carry x) i) o ↔ Owes (moved m here (state_after_read w x)) i o) (sym e) (λ h. item_forth x i o h, λ h. item_back x i o h)
+        message (carry x) i o = subst (λ w. Remains m p w (push q (carry x) i) o ↔ Owes (went_on m here (state_after_read w x)) i o) (sym e) (λ h. item_forth x i o h, λ h. item_back x i o h)
         message stop i o = subst (λ w. Remains m p w (push q stop i) o ↔ Owes (at_end m (ask_of w) here) i o) (sym e) (end_steps i o)
 
         opening : (x : Signal) → (behaviour_of m).opening (node_after_read m Working here x) ≡ opened (p, m.start) at

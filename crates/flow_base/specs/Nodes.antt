@@ -43,9 +43,9 @@ module _ {P S : Type 0} (m : Machine P S) where
   want_in (Faulted kind) n = Stopped (record { kind = kind; at = n.at })
 
   -- the worker goes on, or the node has faulted
-  abbrev pub moved : NodeState (P × S) → Result S FaultKind → NodeState (P × S)
-  moved n (Ok next) = record n { worker = (n.worker.0, next) }
-  moved n (Err kind) = record n { phase = Faulted kind }
+  abbrev pub went_on : NodeState (P × S) → Result S FaultKind → NodeState (P × S)
+  went_on n (Ok next) = record n { worker = (n.worker.0, next) }
+  went_on n (Err kind) = record n { phase = Faulted kind }
 
   -- the stream at the first port may end where an instance may begin, and at no other place
   abbrev pub at_end : Ask → NodeState (P × S) → NodeState (P × S)
@@ -54,7 +54,7 @@ module _ {P S : Type 0} (m : Machine P S) where
 
   -- where an end is due, nothing else may come
   abbrev pub node_after_read : Phase → NodeState (P × S) → Signal → NodeState (P × S)
-  node_after_read Working n (carry x) = moved n (state_after_read (move_of m n.worker) x)
+  node_after_read Working n (carry x) = went_on n (state_after_read (move_of m n.worker) x)
   node_after_read Working n stop = at_end (ask_of (move_of m n.worker)) n
   node_after_read (Closing p) n stop = record n { phase = closing (p + 1) (m.inputs n.worker.0) }
   node_after_read (Closing p) n (carry x) = record n { phase = Faulted Shape }

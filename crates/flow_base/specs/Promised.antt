@@ -4,7 +4,7 @@ use Rattle.std.proofs.Common.{sym, ◌∙◌, ap, subst, append-nil}
 use Rattle.snesl_data.specs.declared.fault.Fault.{Fault}
 use Rattle.kahn.specs.declared.want.Want.TheVariants.{Read, Write, Ended, Faulted}
 use Rattle.kahn.specs.Basics.{Begins}
-use Rattle.kahn.specs.Processes.{Event, Does, reads, writes, HasEnd, IsLawful, RunsToEnd}
+use Rattle.kahn.specs.Processes.{Event, Does, reads, writes, HasEnd, IsLawfulProcess, RunsToEnd}
 use Rattle.kahn.specs.ProcessTheorems.{FollowsLists}
 use Rattle.kahn.proofs.Conclusions.{follows_lists}
 use Rattle.flow_messages.specs.Cells.{Cell}
@@ -27,7 +27,7 @@ module _ {S : Type 0} (b : Behaviour S) (promise : Promise S) (laws : PromiseLaw
     has_end : (ms : List Signal) (body : List Cell) → ms ≡ closed body → HasEnd b.process ms
     has_end ms body e = subst (λ l. HasEnd b.process l) (sym e) (closed_end b.process laws.end body)
 
-    lawful : IsLawful b.process start (b.inputs start) (b.outputs start)
+    lawful : IsLawfulProcess b.process start (b.inputs start) (b.outputs start)
     lawful = record {
       in_port = λ h s p does wants. subst (λ n. p < n) (inputs_stay b promise laws start s (opening_stays b promise laws h start s does)) (keeps b promise laws s (Read p) wants).port;
       out_port = λ h s p does wants. subst (λ n. p < n) (outputs_stay b promise laws start s (opening_stays b promise laws h start s does)) (keeps b promise laws s (Write p) wants).port;

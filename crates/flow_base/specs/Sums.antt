@@ -6,7 +6,7 @@ use Rattle.snesl_data.specs.declared.fault.Fault.{Fault}
 use Rattle.kahn.specs.declared.want.Want.{Want}
 use Rattle.kahn.specs.declared.want.Want.TheVariants.{Read, Write, Ended, Faulted}
 use Rattle.kahn.specs.Basics.{Begins}
-use Rattle.kahn.specs.Processes.{Event, Reads, Writes, Does, reads, writes, HasEnd, IsLawful, RunsToEnd}
+use Rattle.kahn.specs.Processes.{Event, Reads, Writes, Does, reads, writes, HasEnd, IsLawfulProcess, RunsToEnd}
 use Rattle.flow_messages.specs.Cells.{Cell}
 use Rattle.flow_messages.specs.Signals.{Signal, stop}
 use Rattle.flow_base.specs.Lists.{Lists}
@@ -64,7 +64,7 @@ module _ {Tag : Type 0} {StateOf : Tag → Type 0} (some : Tag) (each : (t : Tag
       end_sum : (ms : List Signal) → HasEnd (each t).process ms → HasEnd sum_of.process ms
       end_sum ms has = subst (λ x. HasEnd (record (each t).process { end = x }) ms) (laws t).end has
 
-      lawful : IsLawful sum_of.process (t, start) ((each t).inputs start) ((each t).outputs start)
+      lawful : IsLawfulProcess sum_of.process (t, start) ((each t).inputs start) ((each t).outputs start)
       lawful = record {
         in_port = λ h u p does wants. let d = sum_does t h start u does in kept.lawful.in_port h d.0 p d.2 (wants_there u d.0 (Read p) d.1 wants);
         out_port = λ h u p does wants. let d = sum_does t h start u does in kept.lawful.out_port h d.0 p d.2 (wants_there u d.0 (Write p) d.1 wants);

@@ -7,7 +7,7 @@ use Rattle.snesl_data.specs.declared.fault.FaultKind.TheVariants.{Shape}
 use Rattle.kahn.specs.declared.want.Want.{Want}
 use Rattle.kahn.specs.declared.want.Want.TheVariants.{Read, Write, Ended, Faulted}
 use Rattle.kahn.specs.Basics.{Begins}
-use Rattle.kahn.specs.Processes.{Process, Event, Does, reads, writes, IsLawful, Settles, RunsToEnd}
+use Rattle.kahn.specs.Processes.{Process, Event, Does, reads, writes, IsLawfulProcess, Settles, RunsToEnd}
 use Rattle.flow_messages.specs.Cells.{Cell, is_of}
 use Rattle.flow_messages.specs.Signals.{Signal, carry, stop}
 use Rattle.flow_messages.specs.declared.message.Kind.{Kind}
@@ -76,7 +76,7 @@ module _ {S : Type 0} (b : Behaviour S) where
   -- What a transducer keeps to that opened in `start`, whatever it reads and writes.
   pub record TransducerLaws (start : S) : Type 0 where
     -- it wants no port after that port's end, and is ended only after the end on all ports
-    pub lawful : IsLawful b.process start (b.inputs start) (b.outputs start)
+    pub lawful : IsLawfulProcess b.process start (b.inputs start) (b.outputs start)
     -- over bodies that satisfy the row it has a run to its end
     pub runs : (ins outs : Lists Cell) → b.row start ins outs → RunsToEnd b.process start (b.inputs start) (closed_at (b.inputs start) ins) (closed_at (b.outputs start) outs)
     -- on prefixes of closed lists whose bodies satisfy the row it has not faulted, and wrote prefixes of those that go out

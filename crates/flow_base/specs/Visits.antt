@@ -127,7 +127,7 @@ module _ {S : Type 0} (b : Behaviour S) where
     pub kinds : TakeKinds outputs (b.kind_out s) v
 
 -- so many input ports and output ports have these edges, and their ends are there
-pub record IsWired (inputs outputs : List ℕ) (reads_from writes_to : ℕ) (v : View) : Type 0 where
+pub record PortsHaveEdges (inputs outputs : List ℕ) (reads_from writes_to : ℕ) (v : View) : Type 0 where
   pub each_input : length inputs ≡ reads_from
   pub each_output : length outputs ≡ writes_to
   pub reads : All (λ e. v.reads e ≡ true) inputs

@@ -69,7 +69,7 @@ pub trait Worker {
     ghost use Rattle.flow_base.specs.Following.{Follows};
     ghost use Rattle.flow_messages.specs.Ends.{SameEnds};
     ghost use Rattle.flow_base.specs.Nodes.{behaviour_of, node_state};
-    ghost use Rattle.flow_base.specs.Visits.{IsWired, TakeKinds, Went};
+    ghost use Rattle.flow_base.specs.Visits.{PortsHaveEdges, TakeKinds, Went};
     ghost use Rattle.flow_base.specs.declared.node.Phase.TheVariants.{Working};
     ghost use Rattle.flow_base.specs.Workers.{Takes, IsReading, IsWriting};
     ghost use Rattle.flow_base.specs.Machines.{Machine, MachineLaws, move_of, ask_of, state_after_read, written_cell, state_after_write, with_parameters};
@@ -182,7 +182,7 @@ pub trait Worker {
         ends: &mut E,
         most: usize,
     ) -> usize
-        requires wired { IsWired inputs.now outputs.now (machine.inputs (state self.old).0)
+        requires wired { PortsHaveEdges inputs.now outputs.now (machine.inputs (state self.old).0)
             (machine.outputs (state self.old).0) (E.view ends.old) }
         requires kinds { TakeKinds outputs.now (machine.kind_out (state self.old).0)
             (E.view ends.old) }

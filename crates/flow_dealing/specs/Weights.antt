@@ -9,6 +9,7 @@ use Rattle.flow_networks.specs.declared.edge.Edge.{Edge}
 use Rattle.flow_networks.specs.Edges.{edge_at}
 use Rattle.flow_dealing.specs.Counts.{AreOfARun}
 use Rattle.flow_dealing.specs.declared.dealing.Dealing.{Dealing}
+use Rattle.flow_dealing.specs.declared.tried.Tried.{Tried}
 
 -- each edge has its link, between the nodes that it joins
 abbrev pub JoinAs : List Edge → List Link → Type 0
@@ -44,3 +45,20 @@ pub record Weighs (nodes threads : ℕ) (edges : List Edge) (counts work : List 
 abbrev pub IsWeighed : {S : Type 0} (b : Behaviour S) (capacity threads : ℕ) (states : List S) (edges : List Edge) → Dealing → Type 0
 IsWeighed b capacity threads states edges dealing =
     (counts : List ℕ) × (work : List ℕ) × (links : List Link) × AreOfARun b capacity states edges counts × Weighs (length states) threads edges counts work links dealing
+
+-- So much work of each node, and these links, are what was found where so many messages went over each edge.
+pub record AreFound (nodes : ℕ) (edges : List Edge) (counts : List ℕ) (tried : Tried) : Type 0 where
+  -- all messages
+  pub messages : tried.messages ≡ u64_saturate (sum counts)
+  -- each node has its work in one thread, by the messages at its edges, and its work over rings
+  pub each : length tried.alone.items ≡ nodes
+  pub busy : (e : ℕ) → e < length edges → HaveWork counts edges tried.alone.items e
+  pub each_over_rings : length tried.rings.items ≡ nodes
+  pub busy_over_rings : (e : ℕ) → e < length edges → HaveWork counts edges tried.rings.items e
+  -- each edge is a link, whose cost is by its messages
+  pub joins : JoinAs edges tried.links.items
+  pub costs : CostFor counts tried.links.items
+
+-- the messages are those of a run of the network of these nodes and edges, at this capacity
+abbrev pub IsTrialOf : {S : Type 0} (b : Behaviour S) (capacity : ℕ) (states : List S) (edges : List Edge) → Tried → Type 0
+IsTrialOf b capacity states edges tried = (counts : List ℕ) × AreOfARun b capacity states edges counts × AreFound (length states) edges counts tried

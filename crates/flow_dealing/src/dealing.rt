@@ -1,7 +1,5 @@
 // Dealing by a trial.
-ghost use Rattle.std.specs.Prelude.{◌≡◌, ◌<◌, ◌≤◌, IfOk, length};
-ghost use Rattle.std.specs.Io.Iter.{u64_saturate};
-ghost use Rattle.std.specs.List.{sum};
+ghost use Rattle.std.specs.Prelude.{◌<◌, ◌≤◌, IfOk, length};
 ghost use Rattle.flow_messages.specs.Limits.{greatest_capacity};
 ghost use Rattle.flow_networks.specs.Graphs.{edges_of, states_of};
 ghost use Rattle.flow_networks.specs.Networks.{AreOpened};
@@ -9,7 +7,9 @@ ghost use Rattle.flow_nodes.specs.StreamNodes.{node_behaviour};
 ghost use Rattle.flow_cut.specs.Loads.{IsDealing};
 ghost use Rattle.flow_dealing.specs.Weights.{IsWeighed};
 
+use crate::prices::Driven;
 use crate::trial::run_trial;
+use crate::tried::{SHORT, sum};
 use crate::weights::weights;
 use flow_cut::{by_turns, deal_by_cut, greatest_load};
 use flow_networks::Graph;
@@ -51,8 +51,8 @@ pub fn deal_by_trial(
     ensures load { IfOk result (λ dealing. dealing.load ≤ dealing.by_turns) }
 {
     let mut graph = graph;
-    let counts = run_trial(alloc, &mut graph, capacity)?;
-    let (work, links) = weights(alloc, &graph, &counts)?;
+    let counts = run_trial(alloc, &mut graph, capacity, SHORT)?;
+    let (work, links) = weights(alloc, Driven::OverRings, &graph, &counts)?;
     let share = deal_by_cut(alloc, &work, &links, threads)?;
     let turns = by_turns(alloc, work.len(), threads)?;
     Ok(Dealing {
@@ -61,15 +61,4 @@ pub fn deal_by_trial(
         work: sum(&work),
         share,
     })
-}
-
-// The sum, which stays at `u64::MAX`.
-fn sum(work: &[u64]) -> u64
-    ensures { result ≡ u64_saturate (sum work.now) }
-{
-    let mut sum: u64 = 0;
-    for own in work {
-        sum = sum.saturating_add(*own);
-    }
-    sum
 }

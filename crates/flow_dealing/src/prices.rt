@@ -1,22 +1,52 @@
-// What messages cost, in tenths of a processor's cycle. The figures are guesses, of runs in one thread and in several.
+// What messages cost, in picoseconds. In one thread: the least times of squares, wide, nest and deep at chunk 1,024 (docs/bench.svg),
+// spread over their messages, which tells each of them within a factor of one and a half; an element of `tab` and an index as
+// docs/TIMES.md has them. Over rings a message took some three nanoseconds at each end, whatever its kind, and more between threads.
 ghost use Rattle.std.specs.Prelude.{◌<◌};
 
 use flow_messages::Kind;
 use flow_nodes::StreamNode;
 
+/// How nodes are driven.
+#[derive(Clone, Copy, Debug, PartialEq, Eq)]
+pub enum Driven {
+    /// In one thread, without rings.
+    Alone,
+    /// In several threads, where each edge is a ring.
+    OverRings,
+}
+
 /// What a message of this kind costs the node that reads or writes it.
-pub fn price(node: &StreamNode, kind: Kind) -> u64
+pub fn price(driven: Driven, node: &StreamNode, kind: Kind) -> u64
     ensures { 0 < result }
 {
-    let own = match node {
-        StreamNode::Binary(_) | StreamNode::Dist(_) => 12,
-        StreamNode::Reduce(_) | StreamNode::ScanAdd(_) => 25,
-        _ => 2,
-    };
-    match kind {
-        Kind::Unit => own + 5,
-        Kind::Bool => own + 10,
-        Kind::Int | Kind::Vec => own + 18,
+    passage(driven, kind) + work(node)
+}
+
+// What a message costs to be read or written.
+fn passage(driven: Driven, kind: Kind) -> u64
+    ensures positive { 0 < result }
+    ensures small { result < 10000 }
+{
+    match (driven, kind) {
+        (Driven::Alone, Kind::Unit) => 70,
+        (Driven::Alone, Kind::Bool) => 140,
+        (Driven::Alone, Kind::Int) => 280,
+        (Driven::Alone, Kind::Vec) => 1_500,
+        (Driven::OverRings, Kind::Unit | Kind::Bool | Kind::Int) => 3_000,
+        (Driven::OverRings, Kind::Vec) => 5_000,
+    }
+}
+
+// What the node does for a message besides.
+fn work(node: &StreamNode) -> u64
+    ensures { result < 10000 }
+{
+    match node {
+        StreamNode::Binary(_) | StreamNode::Dist(_) => 210,
+        StreamNode::Reduce(_) | StreamNode::ScanAdd(_) => 280,
+        StreamNode::Tab(_) | StreamNode::Seq(_) => 6_000,
+        StreamNode::Index(_) => 9_000,
+        _ => 0,
     }
 }
 
@@ -25,8 +55,7 @@ pub fn crossing_price(kind: Kind) -> u64
     ensures { 0 < result }
 {
     match kind {
-        Kind::Unit => 2,
-        Kind::Bool => 6,
-        Kind::Int | Kind::Vec => 15,
+        Kind::Unit | Kind::Bool | Kind::Int => 600,
+        Kind::Vec => 1_000,
     }
 }

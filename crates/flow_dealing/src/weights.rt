@@ -5,7 +5,7 @@ ghost use Rattle.flow_networks.specs.Graphs.{edges_of, states_of};
 ghost use Rattle.flow_cut.specs.Loads.{AreBetween};
 ghost use Rattle.flow_dealing.specs.Weights.{CostFor, HaveWork, JoinAs};
 
-use crate::prices::{crossing_price, price};
+use crate::prices::{Driven, crossing_price, price};
 use flow_base::Transducer;
 use flow_cut::Link;
 use flow_messages::Kind;
@@ -13,9 +13,10 @@ use flow_networks::{Edge, Graph, graph_is_a_network};
 use flow_nodes::StreamNode;
 use std::alloc::{AllocError, Global};
 
-/// The work of each node of a graph, over whose edges so many messages go, and its edges as links.
+/// The work of each node of a graph, over whose edges so many messages go, driven in this way; and its edges as links.
 pub fn weights(
     alloc: Global,
+    driven: Driven,
     graph: &Graph<StreamNode>,
     counts: &[u64],
 ) -> Result<(Vec<u64>, Vec<Link>), AllocError>
@@ -36,12 +37,12 @@ pub fn weights(
         add_work(
             &mut work,
             writer,
-            cost(count, price(graph.node(writer), kind)),
+            cost(count, price(driven, graph.node(writer), kind)),
         );
         add_work(
             &mut work,
             reader,
-            cost(count, price(graph.node(reader), kind)),
+            cost(count, price(driven, graph.node(reader), kind)),
         );
         links.push(Link {
             writer,

@@ -4,11 +4,9 @@ ghost use Rattle.flow_networks.specs.Graphs.{states_of};
 ghost use Rattle.flow_networks.specs.Networks.{AreOpened};
 ghost use Rattle.flow_nodes.specs.StreamNodes.{node_behaviour};
 ghost use Rattle.flow_drives.specs.Configs.{IsLawful, StartsThreads, IsInSteps};
-ghost use Rattle.flow_drives.specs.Driven.{HasNetworkOf, EndsRunOf};
-ghost use Rattle.flow_drives.specs.Epochs.{TookRounds, TookEpochs};
-ghost use Rattle.flow_drives.specs.Led.{LedBy};
-ghost use Rattle.flow_drives.specs.Resteds.{rested_capacity, rested_rounds, rested_epochs, rested_share, rested_shares, moves_of, IsOverRings};
-ghost use Rattle.flow_drives.specs.Starts.{AskedBy};
+ghost use Rattle.flow_drives.specs.Driven.{HasNetworkOf, EndsRunOf, TookItsRounds, TookItsEpochs, LedUnder, NamesSharesOf, HasThreadsOf};
+ghost use Rattle.flow_drives.specs.Resteds.{rested_capacity, IsOverRings};
+ghost use Rattle.flow_drives.specs.Starts.{DriveAsks};
 ghost use Rattle.flow_drives.specs.declared.config.Drive.TheVariants.{Rings};
 ghost use Rattle.flow_drives.specs.declared.driver.DriveError.TheVariants.{BadConfig, NoThread, Short};
 
@@ -45,19 +43,13 @@ pub fn drive<G: Gate + Send + Sync + Drop + 'static>(
     ensures whole { result ≡ Err Short → ⊥ }
     ensures network { IfOk result (λ rested. HasNetworkOf graph rested) }
     ensures capacity { IfOk result (λ rested. rested_capacity rested ≡ config.now.capacity) }
-    ensures run { IsInSteps config.now.drive
-        → IfOk result (λ rested. EndsRunOf graph config.now rested) }
-    ensures rounds { IfOk result (λ rested.
-        TookRounds config.now.drive (rested_rounds rested) (moves_of rested)) }
-    ensures epochs { IfOk result (λ rested.
-        TookEpochs config.now.drive (rested_epochs rested) (moves_of rested)) }
-    ensures led { IfOk result (λ rested. LedBy ⟦<Boxes as Ends>⟧ ⟦<RingEnds as Ends>⟧
-        config.now.drive graph config.now rested) }
+    ensures run { IsInSteps config.now.drive → IfOk result (EndsRunOf graph config.now) }
+    ensures rounds { IfOk result (TookItsRounds config.now.drive) }
+    ensures epochs { IfOk result (TookItsEpochs config.now.drive) }
+    ensures led { IfOk result (LedUnder ⟦<Boxes as Ends>⟧ ⟦<RingEnds as Ends>⟧ graph config.now) }
     ensures rings { IfOk result (λ rested. IsOverRings rested ↔ (config.now.drive ≡ Rings)) }
-    ensures share { StartsThreads config.now.drive
-        → IfOk result (λ rested. rested_share rested ≡ config.now.share.items) }
-    ensures shares { StartsThreads config.now.drive
-        → IfOk result (λ rested. rested_shares rested ≡ config.now.threads) }
+    ensures share { StartsThreads config.now.drive → IfOk result (NamesSharesOf config.now) }
+    ensures shares { StartsThreads config.now.drive → IfOk result (HasThreadsOf config.now) }
 {
     flow_drives::drive(rt, alloc, graph, config, gate)
 }
@@ -78,21 +70,14 @@ pub fn drive_with<G: Gate + Send + Sync + Drop + 'static, S: Start>(
     ensures whole { result ≡ Err Short → ⊥ }
     ensures network { IfOk result (λ rested. HasNetworkOf graph rested) }
     ensures capacity { IfOk result (λ rested. rested_capacity rested ≡ config.now.capacity) }
-    ensures run { IsInSteps config.now.drive
-        → IfOk result (λ rested. EndsRunOf graph config.now rested) }
-    ensures rounds { IfOk result (λ rested.
-        TookRounds config.now.drive (rested_rounds rested) (moves_of rested)) }
-    ensures epochs { IfOk result (λ rested.
-        TookEpochs config.now.drive (rested_epochs rested) (moves_of rested)) }
-    ensures led { IfOk result (λ rested. LedBy ⟦<Boxes as Ends>⟧ ⟦<RingEnds as Ends>⟧
-        config.now.drive graph config.now rested) }
+    ensures run { IsInSteps config.now.drive → IfOk result (EndsRunOf graph config.now) }
+    ensures rounds { IfOk result (TookItsRounds config.now.drive) }
+    ensures epochs { IfOk result (TookItsEpochs config.now.drive) }
+    ensures led { IfOk result (LedUnder ⟦<Boxes as Ends>⟧ ⟦<RingEnds as Ends>⟧ graph config.now) }
     ensures rings { IfOk result (λ rested. IsOverRings rested ↔ (config.now.drive ≡ Rings)) }
-    ensures share { StartsThreads config.now.drive
-        → IfOk result (λ rested. rested_share rested ≡ config.now.share.items) }
-    ensures shares { StartsThreads config.now.drive
-        → IfOk result (λ rested. rested_shares rested ≡ config.now.threads) }
-    ensures asked { IfOk result (λ rested. AskedBy config.now.drive (rested_rounds rested)
-        (rested_epochs rested) config.now.threads (S.asked start.old) (S.asked start.new)) }
+    ensures share { StartsThreads config.now.drive → IfOk result (NamesSharesOf config.now) }
+    ensures shares { StartsThreads config.now.drive → IfOk result (HasThreadsOf config.now) }
+    ensures asked { IfOk result (DriveAsks S.asked start.old start.new config.now) }
     ensures refused { S.refused start.new → S.refused start.old ⊎ (result ≡ Err NoThread) }
 {
     flow_drives::drive_with(rt, alloc, graph, config, gate, start)

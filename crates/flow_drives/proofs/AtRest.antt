@@ -21,7 +21,7 @@ use Rattle.flow_drives.specs.declared.ring_shares.RingShares.{RingShares}
 use Rattle.flow_drives.specs.Apart.{HaveSlots, HaveStates, traffic_apart}
 use Rattle.flow_drives.specs.Drives.{IsSoundAt, RestsAt}
 use Rattle.flow_drives.specs.Edges.{AreJoined}
-use Rattle.flow_drives.specs.Parts.{states_at, edges_at, traffic_at, capacity_at, share_at, shares_at, AreApart}
+use Rattle.flow_drives.specs.Parts.{states_at, edges_at, traffic_at, capacity_at, share_at, shares_at, StayInShares}
 use Rattle.flow_drives.specs.Resteds.{AreTheShares}
 use Rattle.flow_drives.proofs.Holding.{all_ends_fit, ends_fit}
 
@@ -57,7 +57,7 @@ module _ {X : Type 0} {t : Ghosts X} where
   -- the shares of a graph that was driven over rings
   pub are_the_shares : (rested : Rested X t) (shares : RingShares X t) → rested.parts ≡ Apart shares → AreTheShares rested shares.shares.items
   are_the_shares rested shares is = record {
-    over = subst (λ (parts : Parts X t). AreApart parts) (sym is) tt;
+    over = subst (λ (parts : Parts X t). StayInShares parts) (sym is) tt;
     count = sym (ap (λ (parts : Parts X t). shares_at parts) is);
     nodes = subst (λ (parts : Parts X t). ∥ HaveStates (share_at parts) (edges_at parts) (nodes_in shares.shares.items) (states_at parts) ∥₁) (sym is) shares.rest.nodes;
     traffic = ap (λ (parts : Parts X t). traffic_at parts) is ∙ sym (ap (λ (parts : Parts X t). traffic_apart (share_at parts) (edges_at parts) shares.shares.items) is);

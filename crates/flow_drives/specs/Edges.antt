@@ -65,6 +65,18 @@ abbrev pub shares_in : AllEnds → ℕ
 shares_in (Whole table) = 0
 shares_in (Shared boxes) = length boxes.ends.items
 
+-- what is there for the share that has this node; d where there is none
+abbrev pub at_share : {A : Type 0} → List ℕ → List A → ℕ → A → A
+at_share share things node d = slice_index_or things (share_of share node) d
+
+-- the ends of that share
+abbrev pub node_ends : {Y : Type 0} → SharedEnds Y → ℕ → Y → Y
+node_ends shared node d = at_share shared.share.items shared.ends.items node d
+
+-- the fact holds of what that share sees
+abbrev pub SeenAt : {Y : Type 0} → (Y → View) → SharedEnds Y → ℕ → (View → Type 0) → Type 0
+SeenAt view shared node Fact = (d : _) → Fact (view (node_ends shared node d))
+
 -- Both ends of each of these edges are there, and have met.
 pub record AreThere (edges : List Edge) (all_ends : AllEnds) : Type 0 where
   pub whole : (table : Table) → all_ends ≡ Whole table → HasAllEnds (length edges) (ends_of table)

@@ -12,6 +12,8 @@ pub mod Driven
 pub mod Dealings
 pub mod Pumped
 pub mod Origins
+pub mod Waiting
+pub mod Tallies
 pub mod Texts
 -- what the public clauses cite of the crates below, and what the words above are made of: of networks and their runs
 pub use Rattle.kahn.specs.declared.outcome.Outcome

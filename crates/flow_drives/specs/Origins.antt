@@ -1,6 +1,9 @@
 -- What drives of several threads keep of a graph that they dealt out.
-use Rattle.std.specs.Prelude.{◌≡◌, ◌<◌, length}
+use Rattle.std.specs.Prelude.{◌≡◌, ℕ, ◌<◌, length}
 use Rattle.flow_base.specs.declared.transducer.Transducer.{Ghosts}
+use Rattle.flow_messages.specs.declared.ends.Ends.{Ghosts as EndsGhosts}
+use Rattle.flow_meetings.specs.declared.dealt.Dealt.{Dealt}
+use Rattle.flow_meetings.specs.Deals.{IsDealt}
 use Rattle.flow_meetings.specs.SharedNetworks.{SharedNetwork, shared_network}
 use Rattle.flow_drives.specs.declared.origin.Origin.{Origin}
 
@@ -15,3 +18,7 @@ module _ {X : Type 0} {t : Ghosts X} where
     pub nodes : origin.nodes ≡ length network.nodes
     pub share : origin.share.items ≡ network.share
     pub capacity : origin.capacity ≡ network.capacity
+
+  -- the graph was dealt out to so many shares as this was kept of it
+  abbrev pub IsDealtFrom : {Y : Type 0} {u : EndsGhosts Y} → (Y → Y → ℕ → Type 0) → (Y → ℕ → ℕ) → Origin X t → ℕ → Dealt X Y t u → Type 0
+  IsDealtFrom joins slots origin threads dealt = IsDealt joins slots origin.graph.value threads origin.share.items origin.capacity dealt

@@ -54,6 +54,6 @@ module _ {X : Type 0} {t : Ghosts X} where
   shares_at (Apart shares) = length shares.shares.items
 
   -- the nodes stayed in shares, over rings
-  abbrev pub AreApart : Parts X t → Type 0
-  AreApart (Together gathered) = ⊥
-  AreApart (Apart shares) = Unit {0}
+  abbrev pub StayInShares : Parts X t → Type 0
+  StayInShares (Together gathered) = ⊥
+  StayInShares (Apart shares) = Unit {0}

@@ -12,7 +12,7 @@ use Rattle.flow_meetings.specs.Deals.{nodes_in, ends_in}
 use Rattle.flow_meetings.specs.SharedNetworks.{AreFed}
 use Rattle.flow_drives.specs.Apart.{HaveSlots, HaveStates, traffic_apart}
 use Rattle.flow_drives.specs.Edges.{AreJoined, moves_over}
-use Rattle.flow_drives.specs.Parts.{states_at, edges_at, traffic_at, capacity_at, share_at, shares_at, AreApart}
+use Rattle.flow_drives.specs.Parts.{states_at, edges_at, traffic_at, capacity_at, share_at, shares_at, StayInShares}
 use Rattle.flow_drives.specs.declared.rested.Rested.{Rested}
 
 module _ {X : Type 0} {t : Ghosts X} where
@@ -46,7 +46,7 @@ module _ {X : Type 0} {t : Ghosts X} where
 
   -- it was driven over rings, and its nodes stayed in their shares
   abbrev pub IsOverRings : Rested X t → Type 0
-  IsOverRings rested = AreApart rested.parts
+  IsOverRings rested = StayInShares rested.parts
 
   -- which share had each of its nodes, and with it the ends of the edges there, where it was dealt out
   abbrev pub rested_share : Rested X t → List ℕ

@@ -1,12 +1,8 @@
 // The edges of graphs at rest whose nodes were gathered.
-ghost use Rattle.std.specs.Prelude.{◌≡◌, ◌<◌, true, length, slice_index_or};
-ghost use Rattle.std.specs.Io.Iter.{u64_saturate};
-ghost use Rattle.flow_shares.specs.Deals.{share_of};
+ghost use Rattle.std.specs.Prelude.{◌≡◌, ◌<◌, length};
 
 use flow_boxes::Boxes;
-use flow_messages::{CountedEnds, Table};
-use flow_networks::Edge;
-use flow_shares::share_of;
+use flow_messages::Table;
 
 /// The edges of a graph at rest: what was sent and received on them, and what they hold.
 #[derive(Drop)]
@@ -42,38 +38,5 @@ impl<E> SharedEnds<E> {
             ends,
             capacity,
         }
-    }
-
-    /// The ends of the share that has this node.
-    pub fn of_node(&self, node: usize) -> &E
-        requires { share_of self.now.share.items node < length self.now.ends.items }
-        ensures { (d : _) → result.now ≡ slice_index_or self.now.ends.items
-            (share_of self.now.share.items node) d }
-    {
-        &self.ends[share_of(&self.share, node)]
-    }
-}
-
-impl<E: CountedEnds> SharedEnds<E> {
-    /// How many messages were sent on the edge that has this number, and how many were received from it, as the shares of
-    /// its two nodes count.
-    pub fn counts(&self, edge: Edge, number: usize) -> (u64, u64)
-        requires writer { share_of self.now.share.items edge.writer < length self.now.ends.items }
-        requires reader { share_of self.now.share.items edge.reader < length self.now.ends.items }
-        requires writes { (d : _) → (E.view (slice_index_or self.now.ends.items
-            (share_of self.now.share.items edge.writer) d)).writes number ≡ true }
-        requires reads { (d : _) → (E.view (slice_index_or self.now.ends.items
-            (share_of self.now.share.items edge.reader) d)).reads number ≡ true }
-        ensures sent { (d : _) → result.0 ≡ u64_saturate
-            (length ((E.view (slice_index_or self.now.ends.items
-            (share_of self.now.share.items edge.writer) d)).sent number)) }
-        ensures received { (d : _) → result.1 ≡ u64_saturate
-            (length ((E.view (slice_index_or self.now.ends.items
-            (share_of self.now.share.items edge.reader) d)).received number)) }
-    {
-        (
-            self.of_node(edge.writer).sent_count(number),
-            self.of_node(edge.reader).received_count(number),
-        )
     }
 }

@@ -1,16 +1,12 @@
 // Drives of graphs.
 ghost use Rattle.std.specs.Prelude.{◌≡◌, ◌↔◌, ◌⊎◌, Err, IfOk};
-ghost use Rattle.flow_networks.specs.Graphs.{states_of, edges_of};
+ghost use Rattle.flow_networks.specs.Graphs.{states_of};
 ghost use Rattle.flow_networks.specs.Networks.{AreOpened};
-ghost use Rattle.flow_networks.specs.Shapes.{IsSameNetwork};
 ghost use Rattle.flow_drives.specs.Configs.{IsLawful, StartsThreads, IsInSteps};
-ghost use Rattle.flow_drives.specs.Driven.{HasNetworkOf, EndsRunOf};
-ghost use Rattle.flow_drives.specs.Drives.{EndsMaximalRun};
-ghost use Rattle.flow_drives.specs.Epochs.{TookRounds, TookEpochs};
-ghost use Rattle.flow_drives.specs.Led.{LedBy};
-ghost use Rattle.flow_drives.specs.Starts.{AskedBy};
+ghost use Rattle.flow_drives.specs.Driven.{HasNetworkOf, EndsRunOf, TookItsRounds, TookItsEpochs, LedUnder, NamesSharesOf, HasThreadsOf};
+ghost use Rattle.flow_drives.specs.Starts.{DriveAsks};
 ghost use Rattle.flow_drives.specs.Refusals.{drive_error_of};
-ghost use Rattle.flow_drives.specs.Resteds.{rested_states, rested_edges, rested_capacity, rested_rounds, rested_epochs, rested_share, rested_shares, moves_of, traffic_of, IsOverRings};
+ghost use Rattle.flow_drives.specs.Resteds.{rested_capacity, rested_rounds, rested_epochs, IsOverRings};
 ghost use Rattle.flow_drives.specs.declared.config.Drive.TheVariants.{Rings};
 ghost use Rattle.flow_drives.specs.declared.driver.DriveError.TheVariants.{BadConfig, NoMemory, NoThread, Short};
 
@@ -103,19 +99,13 @@ pub fn drive<
     ensures whole { result ≡ Err Short → ⊥ }
     ensures network { IfOk result (λ rested. HasNetworkOf graph rested) }
     ensures capacity { IfOk result (λ rested. rested_capacity rested ≡ config.now.capacity) }
-    ensures run { IsInSteps config.now.drive
-        → IfOk result (λ rested. EndsRunOf graph config.now rested) }
-    ensures rounds { IfOk result (λ rested.
-        TookRounds config.now.drive (rested_rounds rested) (moves_of rested)) }
-    ensures epochs { IfOk result (λ rested.
-        TookEpochs config.now.drive (rested_epochs rested) (moves_of rested)) }
-    ensures led { IfOk result (λ rested. LedBy ⟦<Boxes as Ends>⟧ ⟦<RingEnds as Ends>⟧
-        config.now.drive graph config.now rested) }
+    ensures run { IsInSteps config.now.drive → IfOk result (EndsRunOf graph config.now) }
+    ensures rounds { IfOk result (TookItsRounds config.now.drive) }
+    ensures epochs { IfOk result (TookItsEpochs config.now.drive) }
+    ensures led { IfOk result (LedUnder ⟦<Boxes as Ends>⟧ ⟦<RingEnds as Ends>⟧ graph config.now) }
     ensures rings { IfOk result (λ rested. IsOverRings rested ↔ (config.now.drive ≡ Rings)) }
-    ensures share { StartsThreads config.now.drive
-        → IfOk result (λ rested. rested_share rested ≡ config.now.share.items) }
-    ensures shares { StartsThreads config.now.drive
-        → IfOk result (λ rested. rested_shares rested ≡ config.now.threads) }
+    ensures share { StartsThreads config.now.drive → IfOk result (NamesSharesOf config.now) }
+    ensures shares { StartsThreads config.now.drive → IfOk result (HasThreadsOf config.now) }
 {
     drive_with(rt, alloc, graph, config, gate, &mut AlwaysStart::new())
 }
@@ -141,21 +131,14 @@ pub fn drive_with<
     ensures whole { result ≡ Err Short → ⊥ }
     ensures network { IfOk result (λ rested. HasNetworkOf graph rested) }
     ensures capacity { IfOk result (λ rested. rested_capacity rested ≡ config.now.capacity) }
-    ensures run { IsInSteps config.now.drive
-        → IfOk result (λ rested. EndsRunOf graph config.now rested) }
-    ensures rounds { IfOk result (λ rested.
-        TookRounds config.now.drive (rested_rounds rested) (moves_of rested)) }
-    ensures epochs { IfOk result (λ rested.
-        TookEpochs config.now.drive (rested_epochs rested) (moves_of rested)) }
-    ensures led { IfOk result (λ rested. LedBy ⟦<Boxes as Ends>⟧ ⟦<RingEnds as Ends>⟧
-        config.now.drive graph config.now rested) }
+    ensures run { IsInSteps config.now.drive → IfOk result (EndsRunOf graph config.now) }
+    ensures rounds { IfOk result (TookItsRounds config.now.drive) }
+    ensures epochs { IfOk result (TookItsEpochs config.now.drive) }
+    ensures led { IfOk result (LedUnder ⟦<Boxes as Ends>⟧ ⟦<RingEnds as Ends>⟧ graph config.now) }
     ensures rings { IfOk result (λ rested. IsOverRings rested ↔ (config.now.drive ≡ Rings)) }
-    ensures share { StartsThreads config.now.drive
-        → IfOk result (λ rested. rested_share rested ≡ config.now.share.items) }
-    ensures shares { StartsThreads config.now.drive
-        → IfOk result (λ rested. rested_shares rested ≡ config.now.threads) }
-    ensures asked { IfOk result (λ rested. AskedBy config.now.drive (rested_rounds rested)
-        (rested_epochs rested) config.now.threads (S.asked start.old) (S.asked start.new)) }
+    ensures share { StartsThreads config.now.drive → IfOk result (NamesSharesOf config.now) }
+    ensures shares { StartsThreads config.now.drive → IfOk result (HasThreadsOf config.now) }
+    ensures asked { IfOk result (DriveAsks S.asked start.old start.new config.now) }
     ensures refused { S.refused start.new → S.refused start.old ⊎ (result ≡ Err NoThread) }
 {
     if !config.lawful() {
@@ -176,11 +159,9 @@ fn drive_serial<T: Transducer + Drop>(
 ) -> Result<Rested<T>, AllocError>
     requires opened { AreOpened T.behaviour (states_of graph) }
     requires lawful { IsLawful config.now }
-    ensures network { IfOk result (λ rested. IsSameNetwork T.behaviour (states_of graph)
-        (edges_of graph) (rested_states rested) (rested_edges rested)) }
+    ensures network { IfOk result (λ rested. HasNetworkOf graph rested) }
     ensures capacity { IfOk result (λ rested. rested_capacity rested ≡ config.now.capacity) }
-    ensures run { IfOk result (λ rested. EndsMaximalRun T.behaviour config.now.capacity
-        (states_of graph) (edges_of graph) (rested_states rested) (traffic_of rested)) }
+    ensures run { IfOk result (λ rested. EndsRunOf graph config.now rested) }
     ensures rounds { IfOk result (λ rested. rested_rounds rested ≡ 0) }
     ensures epochs { IfOk result (λ rested. rested_epochs rested ≡ 0) }
     ensures rings { IfOk result (λ rested. IsOverRings rested → ⊥) }

@@ -1,6 +1,6 @@
 // Epochs as configurations say.
-ghost use Rattle.std.specs.Prelude.{◌≡◌, ◌⊎◌, length, Err, IfOk, IfErr, OnOk};
-ghost use Rattle.flow_shares.specs.Starts.{AskedForEach};
+ghost use Rattle.std.specs.Prelude.{◌≡◌, ◌⊎◌, Err, IfOk, IfErr, OnOk};
+ghost use Rattle.flow_shares.specs.Starts.{AsksForEach};
 ghost use Rattle.flow_meetings.specs.SharedNetworks.{SharedNetwork, AreFed};
 ghost use Rattle.flow_rounds.specs.Epochs.{AreOfOneGraph, IsEpoch};
 ghost use Rattle.flow_drives.specs.Configs.{IsLawful};
@@ -62,8 +62,7 @@ pub fn epoch_with<
     requires fed { AreFed shares.items }
     ensures epoch { IfOk result (λ back. IsEpoch network shares.items back.items) }
     ensures refused { IfErr result (λ error. (error ≡ NoMemory) ⊎ (error ≡ NoThread)) }
-    ensures asked { OnOk result (AskedForEach (length shares.items) (S.asked start.old)
-        (S.asked start.new)) }
+    ensures asked { OnOk result (AsksForEach S.asked start.old start.new shares.items) }
     ensures start { S.refused start.new → S.refused start.old ⊎ (result ≡ Err NoThread) }
 {
     let owners = owners_of_shares(alloc, &shares)?;

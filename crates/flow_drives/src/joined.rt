@@ -1,19 +1,18 @@
 // The drive of several threads over rings.
 ghost use Rattle.std.specs.Prelude.{◌≡◌, ◌<◌, ◌≤◌, ◌⊎◌, length, Err, IfOk};
-ghost use Rattle.flow_networks.specs.Graphs.{states_of, edges_of};
+ghost use Rattle.flow_networks.specs.Graphs.{states_of};
 ghost use Rattle.flow_networks.specs.Skeletons.{edges_in};
 ghost use Rattle.flow_networks.specs.Networks.{AreOpened};
-ghost use Rattle.flow_networks.specs.Places.{states_in};
-ghost use Rattle.flow_networks.specs.Shapes.{IsSameNetwork};
 ghost use Rattle.flow_meetings.specs.Open.{AreOwners};
 ghost use Rattle.flow_meetings.specs.SharedNetworks.{SharedNetwork, AreFed};
-ghost use Rattle.flow_shares.specs.Starts.{AskedAtEach};
 ghost use Rattle.flow_shares.specs.declared.error.WorkError.TheVariants.{NoThread};
 ghost use Rattle.flow_rounds.specs.Epochs.{moved_in, AreOfOneGraph};
 ghost use Rattle.flow_drives.specs.Configs.{IsLawful};
 ghost use Rattle.flow_drives.specs.Led.{EpochsLed, LedInEpochs};
 ghost use Rattle.flow_drives.specs.Origins.{IsOriginOf};
-ghost use Rattle.flow_drives.specs.Resteds.{rested_states, rested_edges, rested_capacity, rested_rounds, rested_epochs, rested_share, rested_shares, moves_of, IsOverRings};
+ghost use Rattle.flow_drives.specs.Resteds.{rested_capacity, rested_rounds, rested_epochs, rested_share, rested_shares, moves_of, IsOverRings};
+ghost use Rattle.flow_drives.specs.Driven.{HasNetworkOf, HasSharedNetwork};
+ghost use Rattle.flow_drives.specs.Starts.{EpochsAsk};
 
 use crate::config::Config;
 use crate::origin::{Origin, deal_out};
@@ -51,8 +50,7 @@ pub fn drive_rings<
 ) -> Result<Rested<T>, WorkError>
     requires opened { AreOpened T.behaviour (states_of graph) }
     requires lawful { IsLawful config.now }
-    ensures network { IfOk result (λ rested. IsSameNetwork T.behaviour (states_of graph)
-        (edges_of graph) (rested_states rested) (rested_edges rested)) }
+    ensures network { IfOk result (λ rested. HasNetworkOf graph rested) }
     ensures capacity { IfOk result (λ rested. rested_capacity rested ≡ config.now.capacity) }
     ensures rounds { IfOk result (λ rested. rested_rounds rested ≡ 0) }
     ensures least { IfOk result (λ rested. 0 < moves_of rested → 0 < rested_epochs rested) }
@@ -62,8 +60,7 @@ pub fn drive_rings<
     ensures rings { IfOk result (λ rested. IsOverRings rested) }
     ensures share { IfOk result (λ rested. rested_share rested ≡ config.now.share.items) }
     ensures shares { IfOk result (λ rested. rested_shares rested ≡ config.now.threads) }
-    ensures asked { IfOk result (λ rested. AskedAtEach (rested_epochs rested) config.now.threads
-        (S.asked start.old) (S.asked start.new)) }
+    ensures asked { IfOk result (EpochsAsk S.asked start.old start.new config.now.threads) }
     ensures refused { S.refused start.new → S.refused start.old ⊎ (result ≡ Err NoThread) }
 {
     let (origin, dealt) = deal_out(alloc, graph, config)?;
@@ -93,8 +90,7 @@ fn run_dealt<
     requires graph { AreOfOneGraph network dealt.shares.items }
     requires fed { AreFed dealt.shares.items }
     requires none { moved_in network dealt.shares.items ≡ 0 }
-    ensures network { IfOk result (λ rested. IsSameNetwork T.behaviour
-        (states_in network.nodes) network.edges (rested_states rested) (rested_edges rested)) }
+    ensures network { IfOk result (λ rested. HasSharedNetwork network rested) }
     ensures capacity { IfOk result (λ rested. rested_capacity rested ≡ network.capacity) }
     ensures rounds { IfOk result (λ rested. rested_rounds rested ≡ 0) }
     ensures least { IfOk result (λ rested. 0 < moves_of rested → 0 < rested_epochs rested) }
@@ -103,8 +99,8 @@ fn run_dealt<
     ensures rings { IfOk result (λ rested. IsOverRings rested) }
     ensures share { IfOk result (λ rested. rested_share rested ≡ network.share) }
     ensures shares { IfOk result (λ rested. rested_shares rested ≡ length dealt.shares.items) }
-    ensures asked { IfOk result (λ rested. AskedAtEach (rested_epochs rested) (length dealt.shares.items)
-        (S.asked start.old) (S.asked start.new)) }
+    ensures asked { IfOk result (
+        EpochsAsk S.asked start.old start.new (length dealt.shares.items)) }
     ensures refused { S.refused start.new → S.refused start.old ⊎ (result ≡ Err NoThread) }
 {
     let Dealt {

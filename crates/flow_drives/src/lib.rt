@@ -17,6 +17,7 @@ mod queries;
 mod rested;
 mod ring_shares;
 mod rounds;
+mod share_ends;
 mod theorems;
 
 pub use config::{Config, Drive, MAX_CHUNK, MAX_IDLE_TURNS, MAX_SHARE, MAX_THREADS};

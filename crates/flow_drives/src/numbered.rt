@@ -1,5 +1,5 @@
 // What graphs at rest have, by the numbers of nodes and edges.
-ghost use Rattle.std.specs.Prelude.{◌≡◌, ◌<◌, length, slice_index_or};
+ghost use Rattle.std.specs.Prelude.{◌≡◌, ◌<◌, length};
 ghost use Rattle.std.specs.Io.Iter.{u64_saturate};
 ghost use Rattle.flow_networks.specs.Edges.{edge_at};
 ghost use Rattle.flow_networks.specs.Graphs.{edges_of};
@@ -7,6 +7,7 @@ ghost use Rattle.flow_networks.specs.Skeletons.{edges_in};
 ghost use Rattle.flow_networks.specs.Networks.{state_at};
 ghost use Rattle.flow_shares.specs.Deals.{share_of};
 ghost use Rattle.flow_drives.specs.Parts.{gathered_traffic, shares_states, shares_traffic};
+ghost use Rattle.flow_drives.specs.Edges.{at_share};
 
 use crate::all_ends::AllEnds;
 use crate::parts::Gathered;
@@ -67,8 +68,8 @@ impl<T: Transducer> RingShares<T> {
     // The share that has this node.
     fn of_node(&self, node: usize) -> &Share<T, Rings>
         requires { share_of self.now.share.items node < length self.now.shares.items }
-        ensures { (d : _) → result.now
-            ≡ slice_index_or self.now.shares.items (share_of self.now.share.items node) d }
+        ensures { (d : _) → result.now ≡
+            at_share self.now.share.items self.now.shares.items node d }
     {
         &self.shares[share_of(&self.share, node)]
     }

@@ -2,9 +2,8 @@
 ghost use Rattle.std.specs.Prelude.{◌≡◌, IfOk};
 ghost use Rattle.flow_networks.specs.Graphs.{states_of};
 ghost use Rattle.flow_networks.specs.Networks.{AreOpened};
-ghost use Rattle.flow_meetings.specs.Deals.{IsDealt};
 ghost use Rattle.flow_drives.specs.Configs.{IsLawful};
-ghost use Rattle.flow_drives.specs.Origins.{network_in, IsOriginOf};
+ghost use Rattle.flow_drives.specs.Origins.{network_in, IsOriginOf, IsDealtFrom};
 
 use crate::config::Config;
 use flow_base::Transducer;
@@ -40,8 +39,8 @@ pub fn deal_out<T: Transducer + Drop, E: Opening + Drop>(
     ensures capacity { IfOk result (λ made. made.0.capacity ≡ config.now.capacity) }
     ensures share { IfOk result (λ made. made.0.share.items ≡ config.now.share.items) }
     ensures origin { IfOk result (λ made. IsOriginOf (network_in made.0) made.0) }
-    ensures dealt { IfOk result (λ made. IsDealt E.joins E.slots
-        made.0.graph.value config.now.threads made.0.share.items made.0.capacity made.1) }
+    ensures dealt { IfOk result (λ made.
+        IsDealtFrom E.joins E.slots made.0 config.now.threads made.1) }
 {
     let origin = Snapshot::of(&graph);
     let nodes = graph.nodes();

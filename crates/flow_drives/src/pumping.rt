@@ -1,9 +1,10 @@
 // Shares pumped as configurations say.
-ghost use Rattle.std.specs.Prelude.{◌≡◌, ◌<◌, ℕ, true, false, length};
+ghost use Rattle.std.specs.Prelude.{◌≡◌, true, false, length};
 ghost use Rattle.flow_shares.specs.Pumps.{IsPumped};
-ghost use Rattle.flow_shares.specs.Shares.{most_turns, TakesMemory};
+ghost use Rattle.flow_shares.specs.Shares.{TakesMemory};
 ghost use Rattle.flow_drives.specs.Configs.{IsLawful};
 ghost use Rattle.flow_drives.specs.Pumped.{HasMovedOften};
+ghost use Rattle.flow_shares.specs.Running.{HeardEachTurn};
 
 use crate::config::Config;
 use flow_base::Transducer;
@@ -26,8 +27,7 @@ pub fn pump<T: Transducer, E: Ends, G: Gate>(
     ensures starves { result.starved ≡ true → TakesMemory result.nodes.items }
     ensures spent { result.spent ≡ true → result.starved ≡ false }
     ensures often { result.spent ≡ true → HasMovedOften config.now.idle share result }
-    ensures heard { result.spent ≡ true → (turn : ℕ) → turn < most_turns →
-        G.heard gate.now share.number turn }
+    ensures heard { result.spent ≡ true → HeardEachTurn G.heard gate.now share.number }
     ensures none { length share.nodes.items ≡ 0 → result.spent ≡ false }
 {
     flow_shares::pump(share, config.chunk, config.idle, gate)

@@ -1,11 +1,11 @@
 // What can be asked of a graph at rest.
-ghost use Rattle.std.specs.Prelude.{◌≡◌, ◌<◌, ℕ, List, Option, length, MatchOption};
+ghost use Rattle.std.specs.Prelude.{◌≡◌, ◌<◌, length, MatchOption};
 ghost use Rattle.std.specs.Io.Iter.{u64_saturate};
 ghost use Rattle.flow_networks.specs.Edges.{edge_at};
 ghost use Rattle.flow_networks.specs.Networks.{state_at};
-ghost use Rattle.flow_drives.specs.Drives.{ComesOut};
-ghost use Rattle.flow_drives.specs.Resteds.{rested_states, rested_edges, rested_capacity, rested_rounds, rested_epochs, traffic_of, IsOverRings, AreTheShares};
-ghost use Rattle.flow_drives.specs.Texts.{last_text, IsTold};
+ghost use Rattle.flow_drives.specs.Resteds.{rested_states, rested_edges, rested_rounds, rested_epochs, traffic_of, AreTheShares};
+ghost use Rattle.flow_drives.specs.Texts.{IsLastText};
+ghost use Rattle.flow_drives.specs.Waiting.{RestedComesOut, IsGathered};
 
 use crate::outcome::{first_to_write, standing_fault};
 use crate::parts::Parts;
@@ -20,8 +20,7 @@ impl<T: Transducer> Rested<T> {
     /// How it came out: `Value` where each node has ended, the fault that is named where some node has faulted, and
     /// else `Stalled` with the least edge that holds its capacity while its writer waits to write to it.
     pub fn outcome(&self) -> Outcome
-        ensures { ComesOut T.behaviour (rested_states self.now) (rested_edges self.now)
-            (rested_capacity self.now) (traffic_of self.now) result }
+        ensures { RestedComesOut self.now result }
     {
         if let Some(fault) = standing_fault(self) {
             return Outcome::Fault(fault);
@@ -105,7 +104,7 @@ impl<T: Transducer> Rested<T> {
     /// The shares, in the order in which the configured list names them, with all nodes and both ends of every edge, at
     /// rest and met: of a graph that was driven over rings, and of no other.
     pub fn rings(&self) -> Option<&[Share<T, Rings>]>
-        ensures { MatchOption result (IsOverRings self.now → ⊥)
+        ensures { MatchOption result (IsGathered self.now)
             (λ shares. AreTheShares self.now shares.now) }
     {
         match &self.parts {
@@ -118,8 +117,7 @@ impl<T: Transducer> Rested<T> {
 impl<T: Printing> Rested<T> {
     /// The text that was gathered by the node of the greatest number that gathers one, and no text where none does.
     pub fn text(&self) -> &[u8]
-        ensures { (text_in : T.State → Option (List ℕ)) → IsTold T.state T.printed text_in →
-            result.now ≡ last_text text_in (rested_states self.now) }
+        ensures { IsLastText T.state T.printed (rested_states self.now) result.now }
     {
         let mut last: &[u8] = &[];
         for node in 0..self.nodes() {

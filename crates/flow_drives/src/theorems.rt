@@ -1,17 +1,12 @@
 // What holds of every graph at rest. The function does nothing: its contract is the theorem.
-ghost use Rattle.std.specs.Prelude.{◌+◌, ◌≤◌, ℕ, length};
-ghost use Rattle.flow_drives.specs.Drives.{IsSoundAt, RestsAt};
-ghost use Rattle.flow_drives.specs.Resteds.{rested_states, rested_edges, rested_capacity, traffic_of};
+ghost use Rattle.flow_drives.specs.Waiting.{RestsSound, RestsStill, KeepsCapacity};
 
 use crate::rested::Rested;
 use flow_base::Transducer;
 
 /// A graph at rest is sound, no node can step, and no edge holds more than its capacity.
 pub fn rested_is_sound<T: Transducer>(rested: &Rested<T>)
-    ensures sound { IsSoundAt T.behaviour (rested_states rested.now) (rested_edges rested.now)
-        (traffic_of rested.now) }
-    ensures rest { RestsAt T.behaviour (rested_states rested.now) (rested_edges rested.now)
-        (rested_capacity rested.now) (traffic_of rested.now) }
-    ensures fits { (e : ℕ) → length ((traffic_of rested.now).sent e) ≤
-        length ((traffic_of rested.now).received e) + rested_capacity rested.now }
+    ensures sound { RestsSound rested.now }
+    ensures rest { RestsStill rested.now }
+    ensures fits { KeepsCapacity rested.now }
 {}

@@ -8,6 +8,8 @@ use Rattle.snesl_data.specs.Integers.{greatest_integer, is_integer, IsInteger}
 use Rattle.flow_messages.specs.Cells.{int}
 use Rattle.flow_messages.specs.declared.message.Kind.TheVariants.{Bool as BoolKind, Int as IntKind}
 use Rattle.flow_base.specs.Machines.{Taking, on_flag, Move, begins, takes, gives, Machine, one_write}
+use Rattle.flow_base.specs.Members.{NodeOf, node_of}
+use Rattle.flow_base.specs.declared.node.Node.{Node}
 use Rattle.flow_folds.specs.OwnDialect.{InOwn}
 use Rattle.flow_folds.specs.Rows.{LengthRow}
 use Rattle.flow_folds.specs.declared.length.Count.{Count}
@@ -57,3 +59,7 @@ length_machine = record {
 -- what the machine sees of a worker
 abbrev pub length_view : Length → Dialect × Count
 length_view n = (n.dialect, n.count)
+
+-- the transducer that a node makes of it
+abbrev pub length_node : NodeOf (Node Length)
+length_node = node_of length_view length_machine

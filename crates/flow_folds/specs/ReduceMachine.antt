@@ -12,6 +12,8 @@ use Rattle.snesl_operators.specs.declared.operator.Reduction.TheVariants.{Sum}
 use Rattle.flow_messages.specs.declared.message.Kind.{Kind}
 use Rattle.flow_messages.specs.declared.message.Kind.TheVariants.{Bool as BoolKind}
 use Rattle.flow_base.specs.Machines.{Taking, on_flag, on_kind, Move, begins, takes, gives, one_write, Machine}
+use Rattle.flow_base.specs.Members.{NodeOf, node_of}
+use Rattle.flow_base.specs.declared.node.Node.{Node}
 use Rattle.flow_folds.specs.Scalars.{kind_of_type, cell_of_scalar, scalar_in}
 use Rattle.flow_folds.specs.OwnDialect.{InOwn}
 use Rattle.flow_folds.specs.Rows.{ReduceRow}
@@ -74,3 +76,7 @@ reduce_machine = record {
 -- what the machine sees of a worker
 abbrev pub reduce_view : Reduce → (Dialect × Reduction) × Stage
 reduce_view s = ((s.dialect, s.reduction), s.stage)
+
+-- the transducer that a node makes of it
+abbrev pub reduce_node : NodeOf (Node Reduce)
+reduce_node = node_of reduce_view reduce_machine

@@ -10,6 +10,8 @@ use Rattle.flow_messages.specs.Cells.{int}
 use Rattle.flow_messages.specs.declared.message.Kind.{Kind}
 use Rattle.flow_messages.specs.declared.message.Kind.TheVariants.{Bool as BoolKind, Int as IntKind}
 use Rattle.flow_base.specs.Machines.{Move, begins, takes, gives, on_flag, on_int, one_write, Machine}
+use Rattle.flow_base.specs.Members.{NodeOf, node_of}
+use Rattle.flow_base.specs.declared.node.Node.{Node}
 use Rattle.flow_folds.specs.OwnDialect.{InOwn}
 use Rattle.flow_folds.specs.Rows.{ScanAddRow}
 use Rattle.flow_folds.specs.declared.scan_add.Stage.{Stage}
@@ -58,3 +60,7 @@ scan_add_machine = record {
 -- what the machine sees of a worker
 abbrev pub scan_add_view : ScanAdd → Dialect × Stage
 scan_add_view s = (s.dialect, s.stage)
+
+-- the transducer that a node makes of it
+abbrev pub scan_add_node : NodeOf (Node ScanAdd)
+scan_add_node = node_of scan_add_view scan_add_machine

@@ -212,21 +212,6 @@ fn small_sums_along(
     (flags.len(), read, ended, reached)
 }
 
-// Where so many flags lead from a stage, where the elements since the last end add up to this.
-#[inline(always)]
-fn stage_of_sum(stage: Stage, flags: &[bool], passed: usize, total: i64) -> Stage
-    requires { passed ≤ length flags.now }
-    ensures { result ≡ stage_of_sum stage total (take passed flags.now) }
-{
-    if passed == 0 {
-        stage
-    } else if flags[passed - 1] {
-        Stage::Start
-    } else {
-        Stage::Flag(Some(Scalar::Int(total as i128)))
-    }
-}
-
 // How far a reduction went: how many flags and elements it read, how many values it wrote, and where these led.
 #[derive(Clone, Copy)]
 struct Reached {
@@ -379,35 +364,55 @@ impl Reduce {
         }
     }
 
-    // The same, where a sum that fits 64 bits goes another way: it carries one word of all that a stage may be, and looks
-    // once at each flag.
+    // Goes to where so many flags lead, where the elements since the last end add up to this. A stage is large, so only what
+    // changes of it is written.
+    #[inline(always)]
+    fn pass_sum(&mut self, flags: &[bool], passed: usize, total: i64)
+        requires { passed ≤ length flags.now }
+        ensures dialect { self.new.dialect ≡ self.old.dialect }
+        ensures reduction { self.new.reduction ≡ self.old.reduction }
+        ensures stage { self.new.stage ≡
+            stage_of_sum self.old.stage total (take passed flags.now) }
+    {
+        if passed == 0 {
+            return;
+        }
+        if flags[passed - 1] {
+            self.stage = Stage::Start;
+            return;
+        }
+        self.stage = Stage::Flag(Some(Scalar::Int(total as i128)));
+    }
+
+    // Goes along flags likewise, to the stage where they lead, but a sum that fits 64 bits goes another way: it carries one
+    // word of all that a stage may be, and looks once at each flag. How many flags, elements and values.
     #[inline(always)]
     fn segments_along(
-        &self,
+        &mut self,
         flags: &[bool],
         elements: &[i64],
         most: usize,
         values: &mut [i64],
-    ) -> Reached
+    ) -> (usize, usize, usize)
         requires block { most ≤ length values.old }
-        ensures flags { result.flags ≤ length flags.now }
-        ensures elements { result.elements ≤ length elements.now }
-        ensures most { result.values ≤ most }
-        ensures kind { 0 < result.values → reduced_kind self.now.reduction ≡ IntKind }
-        ensures along { Reduces (self.now.dialect, self.now.reduction) self.now.stage
-            (take result.flags flags.now) (take result.elements elements.now)
-            (take result.values values.new) result.stage }
+        ensures flags { result.0 ≤ length flags.now }
+        ensures elements { result.1 ≤ length elements.now }
+        ensures most { result.2 ≤ most }
+        ensures kind { 0 < result.2 → reduced_kind self.old.reduction ≡ IntKind }
+        ensures dialect { self.new.dialect ≡ self.old.dialect }
+        ensures reduction { self.new.reduction ≡ self.old.reduction }
+        ensures along { Reduces (self.old.dialect, self.old.reduction) self.old.stage
+            (take result.0 flags.now) (take result.1 elements.now)
+            (take result.2 values.new) self.new.stage }
     {
         let Some(total) = self.small_sum() else {
-            return self.reductions_along(flags, elements, most, values);
+            let reached = self.reductions_along(flags, elements, most, values);
+            self.stage = reached.stage;
+            return (reached.flags, reached.elements, reached.values);
         };
         let (passed, read, ended, more) = small_sums_along(total, flags, elements, most, values);
-        Reached {
-            flags: passed,
-            elements: read,
-            values: ended,
-            stage: stage_of_sum(self.stage, flags, passed, more),
-        }
+        self.pass_sum(flags, passed, more);
+        (passed, read, ended)
     }
 }
 
@@ -503,15 +508,19 @@ impl Worker for Reduce {
         let flags = first.flags();
         let elements = second.ints();
         let ahead = flags.len().min(most / 2);
-        let reached = self.segments_along(&flags[..ahead], elements, space, &mut block.ints);
-        self.stage = reached.stage;
+        let (passed, read, ended) = self.segments_along(
+            &flags[..ahead],
+            elements,
+            space,
+            &mut block.ints,
+        );
         Moved {
-            first: reached.flags,
-            second: reached.elements,
+            first: passed,
+            second: read,
             units: 0,
             flags: 0,
-            ints: reached.values,
-            steps: 2 * reached.flags,
+            ints: ended,
+            steps: 2 * passed,
         }
     }
 }

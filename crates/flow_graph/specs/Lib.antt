@@ -4,7 +4,7 @@ pub use Rattle.flow_networks.specs.declared.edge.Edge
 pub use Rattle.flow_networks.specs.declared.graph.Graph
 pub use Rattle.flow_networks.specs.declared.graph.GraphBuilder
 pub use Rattle.flow_networks.specs.declared.settled.Settled
-pub use Rattle.flow_networks.specs.declared.step.Moved
+pub use Rattle.flow_networks.specs.declared.step.Stepped
 pub use Rattle.flow_networks.specs.Alike
 pub use Rattle.flow_networks.specs.Blocks
 pub use Rattle.flow_networks.specs.Edges

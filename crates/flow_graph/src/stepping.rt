@@ -9,7 +9,7 @@ ghost use Rattle.flow_nodes.specs.StreamNodes.{node_behaviour};
 
 use crate::graphs::Graph;
 use flow_messages::Ends;
-use flow_networks::Moved;
+use flow_networks::Stepped;
 use std::alloc::AllocError;
 
 /// One turn of a node, over ends that need not be those of all its edges: it reads one message or
@@ -20,7 +20,11 @@ use std::alloc::AllocError;
 ///
 /// An error where memory was refused. Then the states are as they were, and a message that the node
 /// was to read is lost.
-pub fn step_once<E: Ends>(graph: &mut Graph, ends: &mut E, node: usize) -> Result<Moved, AllocError>
+pub fn step_once<E: Ends>(
+    graph: &mut Graph,
+    ends: &mut E,
+    node: usize,
+) -> Result<Stepped, AllocError>
     requires inside { node < length (states_of graph.old) }
     requires ends { HasEnds node_behaviour (states_of graph.old) (edges_of graph.old) node
         (E.view ends.old) }

@@ -17,7 +17,7 @@ use Rattle.flow_inputs.specs.declared.turns.Mode.{Mode}
 use Rattle.flow_inputs.specs.declared.turns.Mode.TheVariants.{Passing, Counting, Within}
 use Rattle.flow_inputs.specs.declared.turns.State.{State}
 use Rattle.flow_inputs.specs.declared.turns.Piece.{Piece}
-use Rattle.flow_inputs.specs.Turns.{Turn, turn, state, writes_nothing, wrote, passed, made}
+use Rattle.flow_inputs.specs.Turns.{Transition, turn, state, writes_nothing, wrote, passed, made}
 use Rattle.snesl_values.specs.Marks.{mark_of}
 use Rattle.flow_inputs.specs.Left.{left, cell}
 use Rattle.snesl_values.proofs.Spots.{unread}
@@ -49,11 +49,11 @@ cells vector text way leaf at s = map (cell vector) (left text way leaf at s)
 -- by what the turn does
 pub then_moved : {text : List ℕ} {from end : ℕ} {t : Token} {ts : List Token} (vector : ℕ → Value) (way : List Component) (leaf : Leaf) (s : State) (level : ℕ) (mode : Mode) (w : Turned text from t ts end)
     → turn way leaf s (mark_of t) from ≡ writes_nothing level mode → cells vector text way leaf from s ≡ cells vector text way leaf w.at (state level mode)
-then_moved {text = text} vector way leaf s level mode w e = ap (map (cell vector)) (w.turns way leaf s ∙ ap (λ (u : Turn). after_turn text way leaf u w.at) e)
+then_moved {text = text} vector way leaf s level mode w e = ap (map (cell vector)) (w.turns way leaf s ∙ ap (λ (u : Transition). after_turn text way leaf u w.at) e)
 
 pub then_wrote : {text : List ℕ} {from end : ℕ} {t : Token} {ts : List Token} (vector : ℕ → Value) (way : List Component) (leaf : Leaf) (s : State) (piece : Piece) (level : ℕ) (mode : Mode) (w : Turned text from t ts end)
     → turn way leaf s (mark_of t) from ≡ wrote piece level mode → cells vector text way leaf from s ≡ cell vector piece ∷ cells vector text way leaf w.at (state level mode)
-then_wrote {text = text} vector way leaf s piece level mode w e = ap (map (cell vector)) (w.turns way leaf s ∙ ap (λ (u : Turn). after_turn text way leaf u w.at) e)
+then_wrote {text = text} vector way leaf s piece level mode w e = ap (map (cell vector)) (w.turns way leaf s ∙ ap (λ (u : Transition). after_turn text way leaf u w.at) e)
 
 number_passes : {way : List Component} {leaf : Leaf} {level : ℕ} {mode : ℕ → Mode} → Passes way leaf level mode → (depth place : ℕ) (n : ℤ) → turn way leaf (state level (mode depth)) (mark_of (integer n)) place ≡ writes_nothing level (mode depth)
 number_passes {way = way} {leaf = leaf} {level = level} {mode = mode} p depth place n = by_range (is_integer Two n)
@@ -149,7 +149,7 @@ passed_other (Some Elements) level = refl
 passed_other (Some First) level = refl
 passed_other (Some Second) level = refl
 
-stays : (level depth : ℕ) (u : Turn) → u ≡ writes_nothing level (Passing 0) → cond (eqb depth 0) u (writes_nothing level (Passing depth)) ≡ writes_nothing level (Passing depth)
+stays : (level depth : ℕ) (u : Transition) → u ≡ writes_nothing level (Passing 0) → cond (eqb depth 0) u (writes_nothing level (Passing depth)) ≡ writes_nothing level (Passing depth)
 stays level depth u e = by_test (eqb depth 0) refl
   where
     by_test : (b : Bool) → eqb depth 0 ≡ b → cond b u (writes_nothing level (Passing depth)) ≡ writes_nothing level (Passing depth)

@@ -2,7 +2,7 @@
 use Rattle.std.proofs.Common.{◌≡◌, ℕ, ◌+◌, ◌≤◌, Bool, true, false, cond, List, [], ◌∷◌, ◌++◌, length, Option, Some, None, refl, ap, ◌∙◌, arith}
 use Rattle.std.specs.Prelude.{option_to_list, ◌==◌}
 use Rattle.std.proofs.lemmas.Bool.{eqb-true}
-use Rattle.snesl_values.specs.InputTokens.{SizedToken, next_at, next}
+use Rattle.snesl_values.specs.InputTokens.{SizedToken, next_at, next_lexeme}
 use Rattle.snesl_values.specs.declared.marks.Found.{Found}
 use Rattle.snesl_values.specs.declared.marks.Bracket.TheVariants.{Round, Square, Curly}
 use Rattle.snesl_values.specs.declared.marks.Mark.{Mark}
@@ -15,22 +15,22 @@ use Rattle.flow_inputs.specs.declared.turns.Mode.{Mode}
 use Rattle.flow_inputs.specs.declared.turns.Mode.TheVariants.{Value, Opened, Behind, Passing, Flagging, Counting, Within, Lost}
 use Rattle.flow_inputs.specs.declared.turns.State.{State}
 use Rattle.flow_inputs.specs.declared.turns.Piece.{Piece}
-use Rattle.flow_inputs.specs.Turns.{Turn, turn, turn_by, state, at_leaf, at_value, at_opened, turn_after_value, passed, passing, flagging, counting, inside_vector, made, depth_of, is_done, is_done_by}
+use Rattle.flow_inputs.specs.Turns.{Transition, turn, turn_by, state, at_leaf, at_value, at_opened, turn_after_value, passed, passing, flagging, counting, inside_vector, made, depth_of, is_done, is_done_by}
 use Rattle.snesl_values.specs.Marks.{mark_of, Spot, spots, found_from}
 use Rattle.flow_inputs.specs.Left.{written_from, left}
 use Rattle.snesl_values.proofs.Spots.{spots_none, spots_some}
 
 -- what is written by a turn and after it
-abbrev pub after_turn : List ℕ → List Component → Leaf → Turn → ℕ → List Piece
+abbrev pub after_turn : List ℕ → List Component → Leaf → Transition → ℕ → List Piece
 after_turn text way leaf u end = option_to_list u.0 ++ left text way leaf end u.1
 
 -- at the next token, and where there is none
-pub left_turn : (text : List ℕ) (way : List Component) (leaf : Leaf) (at : ℕ) (s : State) (l : SizedToken) → at ≤ length text → next text at ≡ Some l
+pub left_turn : (text : List ℕ) (way : List Component) (leaf : Leaf) (at : ℕ) (s : State) (l : SizedToken) → at ≤ length text → next_lexeme text at ≡ Some l
     → left text way leaf at s ≡ after_turn text way leaf (turn way leaf s (mark_of l.0) at) (next_at text at + l.1)
 unfolding left
 left_turn text way leaf at s l inside_vector e = ap (written_from way leaf s) (spots_some text at l inside_vector e)
 
-pub left_none : (text : List ℕ) (way : List Component) (leaf : Leaf) (at : ℕ) (s : State) → next text at ≡ None → left text way leaf at s ≡ []
+pub left_none : (text : List ℕ) (way : List Component) (leaf : Leaf) (at : ℕ) (s : State) → next_lexeme text at ≡ None → left text way leaf at s ≡ []
 unfolding left
 left_none text way leaf at s e = ap (written_from way leaf s) (spots_none text at e)
 
@@ -57,26 +57,26 @@ left_done text way leaf at s done = by_mode s.mode s.level done
     by_mode _ level e = absurd (cc)
 
 -- by what was found
-pub left_found : (text : List ℕ) (way : List Component) (leaf : Leaf) (at : ℕ) (s : State) (f : Found) → at ≤ length text → Some f ≡ found_from (next_at text at) (next text at)
+pub left_found : (text : List ℕ) (way : List Component) (leaf : Leaf) (at : ℕ) (s : State) (f : Found) → at ≤ length text → Some f ≡ found_from (next_at text at) (next_lexeme text at)
     → left text way leaf at s ≡ after_turn text way leaf (turn way leaf s f.mark at) f.end
-left_found text way leaf at s f inside_vector e = by_next (next text at) refl e
+left_found text way leaf at s f inside_vector e = by_next (next_lexeme text at) refl e
   where
-    by_next : (o : Option SizedToken) → next text at ≡ o → Some f ≡ found_from (next_at text at) o → left text way leaf at s ≡ after_turn text way leaf (turn way leaf s f.mark at) f.end
+    by_next : (o : Option SizedToken) → next_lexeme text at ≡ o → Some f ≡ found_from (next_at text at) o → left text way leaf at s ≡ after_turn text way leaf (turn way leaf s f.mark at) f.end
     by_next None is e = absurd (cc)
     by_next (Some l) is e =
         let g : Found = record { mark = mark_of l.0; end = next_at text at + l.1 } in
         let same : g ≡ f = cc in
         left_turn text way leaf at s l inside_vector is ∙ ap (λ (f : Found). after_turn text way leaf (turn way leaf s f.mark at) f.end) same
 
-pub left_unfound : (text : List ℕ) (way : List Component) (leaf : Leaf) (at : ℕ) (s : State) → None ≡ found_from (next_at text at) (next text at) → left text way leaf at s ≡ []
-left_unfound text way leaf at s e = by_next (next text at) refl e
+pub left_unfound : (text : List ℕ) (way : List Component) (leaf : Leaf) (at : ℕ) (s : State) → None ≡ found_from (next_at text at) (next_lexeme text at) → left text way leaf at s ≡ []
+left_unfound text way leaf at s e = by_next (next_lexeme text at) refl e
   where
-    by_next : (o : Option SizedToken) → next text at ≡ o → None ≡ found_from (next_at text at) o → left text way leaf at s ≡ []
+    by_next : (o : Option SizedToken) → next_lexeme text at ≡ o → None ≡ found_from (next_at text at) o → left text way leaf at s ≡ []
     by_next None is e = left_none text way leaf at s is
     by_next (Some l) is e = absurd (cc)
 
 -- a turn opens one bracket more at most
-abbrev OneDeeper : ℕ → Turn → Type 0
+abbrev OneDeeper : ℕ → Transition → Type 0
 OneDeeper depth u = depth_of u.1.mode ≤ depth + 1
 
 leaf_deeper : (leaf : Leaf) (level : ℕ) (mark : Mark) (place : ℕ) → OneDeeper 0 (at_leaf leaf level mark place)
@@ -109,7 +109,7 @@ passed_deeper (Some Second) level Comma = refl
 passed_deeper (Some First) level (Close Round) = refl
 passed_deeper _ level mark = refl
 
-by_depth : (depth n : ℕ) (at_ground in_brackets : Turn) → OneDeeper n at_ground → OneDeeper n in_brackets → (b : Bool) → OneDeeper n (cond b at_ground in_brackets)
+by_depth : (depth n : ℕ) (at_ground in_brackets : Transition) → OneDeeper n at_ground → OneDeeper n in_brackets → (b : Bool) → OneDeeper n (cond b at_ground in_brackets)
 by_depth depth n at_ground in_brackets h k true = h
 by_depth depth n at_ground in_brackets h k false = k
 

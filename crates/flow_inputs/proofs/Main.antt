@@ -21,7 +21,7 @@ use Rattle.flow_inputs.specs.declared.turns.Leaf.{Leaf}
 use Rattle.flow_inputs.specs.declared.turns.Leaf.TheVariants.{Flags, Bools, Ints, Vectors}
 use Rattle.flow_inputs.specs.declared.turns.Mode.TheVariants.{Value as ValueNext, Opened, Behind, Passing, Flagging, Counting, Within}
 use Rattle.flow_inputs.specs.declared.turns.Piece.TheVariants.{Flag, Int, VectorAt}
-use Rattle.flow_inputs.specs.Turns.{Turn, turn, state, writes_nothing, at_leaf, at_value, turn_after_value, passed, made}
+use Rattle.flow_inputs.specs.Turns.{Transition, turn, state, writes_nothing, at_leaf, at_value, turn_after_value, passed, made}
 use Rattle.snesl_values.specs.Marks.{mark_of}
 use Rattle.flow_inputs.specs.Left.{left, elements_in, cell}
 use Rattle.flow_inputs.specs.Ways.{items_on_edge, LeadsToEdge, to_int, to_bool, to_vector, to_flags, by_elements, by_first, by_second, Ahead, TellsValues}
@@ -47,7 +47,7 @@ first_opened vector {text = text} way leaf level v ts {from = from} {end = end} 
         → cells vector text way leaf from (state level Opened) ≡ cells vector text way leaf from (state level ValueNext)
     alike r e =
         let w = turned inside r in
-        ap (map (cell vector)) (w.turns way leaf (state level Opened) ∙ ap (λ (u : Turn). after_turn text way leaf u w.at) (e _) ∙ sym (w.turns way leaf (state level ValueNext)))
+        ap (map (cell vector)) (w.turns way leaf (state level Opened) ∙ ap (λ (u : Transition). after_turn text way leaf u w.at) (e _) ∙ sym (w.turns way leaf (state level ValueNext)))
 
     of_number : (n : ℤ) (place : ℕ) (b : Bool) → turn way leaf (state level Opened) (cond b (Number n) Other) place ≡ turn way leaf (state level ValueNext) (cond b (Number n) Other) place
     of_number n place true = refl
@@ -70,7 +70,7 @@ first_flagged vector {text = text} way level v ts {from = from} {end = end} insi
         → cells vector text way Flags from (state level Flagging) ≡ F ∷ cells vector text way Flags from (state level (Counting 0))
     alike {t = t} r e f =
         let w = turned inside r in
-        let one = ap (map (cell vector)) (w.turns way Flags (state level Flagging) ∙ ap (λ (u : Turn). after_turn text way Flags u w.at) (e from)) in
+        let one = ap (map (cell vector)) (w.turns way Flags (state level Flagging) ∙ ap (λ (u : Transition). after_turn text way Flags u w.at) (e from)) in
         let two = ap (map (cell vector)) (w.turns way Flags (state level (Counting 0)) ∙ ap (λ o. option_to_list o ++ left text way Flags w.at (turn way Flags (state level (Counting 0)) (mark_of t) from).1) (f from)) in
         one ∙ ap (λ l. F ∷ l) (sym two)
 

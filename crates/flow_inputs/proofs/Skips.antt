@@ -13,7 +13,7 @@ use Rattle.snesl_data.specs.Blanks.{is_blank}
 use Rattle.snesl_data.specs.Characters.{is_word, value_from}
 use Rattle.snesl_data.specs.declared.dialect.Dialect.TheVariants.{Two}
 use Rattle.snesl_data.specs.Integers.{is_integer}
-use Rattle.snesl_values.specs.InputTokens.{SizedToken, word, integer, sign, bad, is_sign, negated, minus_lexeme, first, next, next_at}
+use Rattle.snesl_values.specs.InputTokens.{SizedToken, word, integer, sign, bad, is_sign, negated, minus_lexeme, first, next_lexeme, next_at}
 use Rattle.snesl_values.specs.declared.marks.Mark.{Mark}
 use Rattle.snesl_values.specs.declared.marks.Mark.TheVariants.{Truth, Number, Open, Close, Comma, Other}
 use Rattle.snesl_values.specs.Marks.{found_from, mark_of, sign_mark, word_mark}
@@ -24,7 +24,7 @@ use Rattle.flow_inputs.specs.declared.turns.Component.{Component}
 use Rattle.flow_inputs.specs.declared.turns.Leaf.{Leaf}
 use Rattle.flow_inputs.specs.declared.turns.Mode.{Mode}
 use Rattle.flow_inputs.specs.declared.turns.Piece.{Piece}
-use Rattle.flow_inputs.specs.Turns.{Turn, turn, state, writes_nothing}
+use Rattle.flow_inputs.specs.Turns.{Transition, turn, state, writes_nothing}
 use Rattle.flow_inputs.specs.Passing.{Passes, PassesParts, depth_after, SameLeft}
 use Rattle.flow_inputs.specs.Left.{left}
 use Rattle.flow_inputs.proofs.Lefts.{after_turn, left_turn, left_none}
@@ -143,20 +143,20 @@ plain_first b bs plain = by_class (is_ascii_alphabetic b) (is_ascii_digit b) (eq
     by_class false false false false = record { token = (bad, 1); is = refl; most = omega (arith, some); calm = tt }
 
 -- what comes next ends in the text
-comes_is : (text : List ℕ) (at : ℕ) (l : SizedToken) → at ≤ length text → next text at ≡ Some l → Comes text at l
-comes_is text at l within e = by_next (next text at) (next_is text at within) e
+comes_is : (text : List ℕ) (at : ℕ) (l : SizedToken) → at ≤ length text → next_lexeme text at ≡ Some l → Comes text at l
+comes_is text at l within e = by_next (next_lexeme text at) (next_is text at within) e
   where
     by_next : (o : Option SizedToken) → Next text at o → o ≡ Some l → Comes text at l
     by_next None nothing f = absurd (cc)
     by_next (Some x) (lexeme _ there) f = let same : x ≡ l = cc in subst (Comes text at) same there
 
 -- the same token comes next where the same byte is next that is no blank
-next-same : (text : List ℕ) (at other : ℕ) → next_at text at ≡ next_at text other → next text at ≡ next text other
-unfolding next
+next-same : (text : List ℕ) (at other : ℕ) → next_at text at ≡ next_at text other → next_lexeme text at ≡ next_lexeme text other
+unfolding next_lexeme
 next-same text at other e = ap (λ n. first (drop n text)) e
 
-next-first : (text : List ℕ) (at : ℕ) → next_at text at ≡ at → next text at ≡ first (drop at text)
-unfolding next
+next-first : (text : List ℕ) (at : ℕ) → next_at text at ≡ at → next_lexeme text at ≡ first (drop at text)
+unfolding next_lexeme
 next-first text at e = ap (λ n. first (drop n text)) e
 
 module _ (text : List ℕ) (way : List Component) (leaf : Leaf) (level : ℕ) (mode : ℕ → Mode) (passes : Passes way leaf level mode) (depth : ℕ) where
@@ -176,23 +176,23 @@ module _ (text : List ℕ) (way : List Component) (leaf : Leaf) (level : ℕ) (m
 
   -- the same is left where the same token is next
   left_same : (at other : ℕ) → at ≤ length text → other ≤ length text → next_at text at ≡ next_at text other → left_from at ≡ left_from other
-  left_same at other within inside e = by_next (next text at) refl
+  left_same at other within inside e = by_next (next_lexeme text at) refl
     where
-      by_next : (o : Option SizedToken) → next text at ≡ o → left_from at ≡ left_from other
+      by_next : (o : Option SizedToken) → next_lexeme text at ≡ o → left_from at ≡ left_from other
       by_next None f =
           left_none text way leaf at (state level (mode depth)) f
           ∙ sym (left_none text way leaf other (state level (mode depth)) (sym (next-same text at other e) ∙ f))
       by_next (Some l) f =
           left_turn text way leaf at (state level (mode depth)) l within f
-          ∙ ap (λ (u : Turn). after_turn text way leaf u (next_at text at + l.1)) (passes.anywhere depth at other (mark_of l.0))
+          ∙ ap (λ (u : Transition). after_turn text way leaf u (next_at text at + l.1)) (passes.anywhere depth at other (mark_of l.0))
           ∙ ap (λ n. after_turn text way leaf (turn way leaf (state level (mode depth)) (mark_of l.0) other) (n + l.1)) e
           ∙ sym (left_turn text way leaf other (state level (mode depth)) l inside (sym (next-same text at other e) ∙ f))
 
   -- after a token that is passed over
-  left_after : (at : ℕ) (l : SizedToken) → at ≤ length text → next_at text at ≡ at → next text at ≡ Some l → Calm (mark_of l.0) → left_from at ≡ left_from (at + l.1)
+  left_after : (at : ℕ) (l : SizedToken) → at ≤ length text → next_at text at ≡ at → next_lexeme text at ≡ Some l → Calm (mark_of l.0) → left_from at ≡ left_from (at + l.1)
   left_after at l within here e calm =
       left_turn text way leaf at (state level (mode depth)) l within e
-      ∙ ap (λ (u : Turn). after_turn text way leaf u (next_at text at + l.1)) (calm_turn (mark_of l.0) calm at)
+      ∙ ap (λ (u : Transition). after_turn text way leaf u (next_at text at + l.1)) (calm_turn (mark_of l.0) calm at)
       ∙ ap (λ n. left_from (n + l.1)) here
 
   -- where no blank stands, token by token
@@ -208,7 +208,7 @@ module _ (text : List ℕ) (way : List Component) (leaf : Leaf) (level : ℕ) (m
       by_byte b bs e true h =
           let w = plain_first b bs h in
           let l : SizedToken = w.token in
-          let is : next text at ≡ Some l = next-first text at here ∙ ap first e ∙ w.is in
+          let is : next_lexeme text at ≡ Some l = next-first text at here ∙ ap first e ∙ w.is in
           let comes = comes_is text at l within is in
           let most : l.1 ≤ prefix_len is_plain (drop at text) = subst (λ bytes. l.1 ≤ prefix_len is_plain bytes) (sym e) w.most in
           left_after at l within here is w.calm
@@ -278,7 +278,7 @@ end_at text at over = omega (arith, next_at-is text at, prefix_len-le-length is_
 
 -- what is found where such a byte stands
 pub sign_found : (text : List ℕ) (at : ℕ) → at < length text → (sign_mark (get_or text at 0) ≡ Other → ⊥)
-    → Some (record { mark = sign_mark (get_or text at 0); end = at + 1 }) ≡ found_from (next_at text at) (next text at)
+    → Some (record { mark = sign_mark (get_or text at 0); end = at + 1 }) ≡ found_from (next_at text at) (next_lexeme text at)
 sign_found text at inside other = by_test (is_plain b) refl
   where
     b : ℕ
@@ -287,7 +287,7 @@ sign_found text at inside other = by_test (is_plain b) refl
     here : drop at text ≡ b ∷ drop (at + 1) text
     here = drop_more text at 0 inside
 
-    by_test : (t : Bool) → is_plain b ≡ t → Some (record { mark = sign_mark b; end = at + 1 }) ≡ found_from (next_at text at) (next text at)
+    by_test : (t : Bool) → is_plain b ≡ t → Some (record { mark = sign_mark b; end = at + 1 }) ≡ found_from (next_at text at) (next_lexeme text at)
     by_test true plain = absurd (other (other_sign b plain))
     by_test false h =
         found_some text at at (sign_mark b, 1) (sym (none_blank text at b (drop (at + 1) text) here (not_blank b h)))
@@ -347,7 +347,7 @@ byte_past text commas at depth deeper inside e way leaf level mode p q = by_test
         let blanks : next_at text at ≡ at = none_blank text at b bs here (not_blank b h) in
         left_turn text way leaf at (state level (mode depth)) w.token (omega arith) (next-first text at blanks ∙ ap first here ∙ w.is)
         ∙ ap (λ m. after_turn text way leaf (turn way leaf (state level (mode depth)) m at) (next_at text at + w.token.1)) w.mark
-        ∙ ap (λ (u : Turn). after_turn text way leaf u (next_at text at + w.token.1)) (turn_past way leaf level mode p commas q (sign_mark b) depth deeper at (sym e))
+        ∙ ap (λ (u : Transition). after_turn text way leaf u (next_at text at + w.token.1)) (turn_past way leaf level mode p commas q (sign_mark b) depth deeper at (sym e))
         ∙ ap (λ n. left text way leaf n (state level (mode deeper))) (omega (arith, blanks, w.one))
 
 -- such a byte opens one bracket at most

@@ -19,7 +19,7 @@ use Rattle.flow_inputs.specs.declared.turns.Mode.{Mode}
 use Rattle.flow_inputs.specs.declared.turns.Mode.TheVariants.{Value as ValueNext, Opened, Behind, Passing, Flagging, Counting, Within, Lost}
 use Rattle.flow_inputs.specs.declared.turns.State.{State}
 use Rattle.flow_inputs.specs.declared.turns.Piece.{Piece}
-use Rattle.flow_inputs.specs.Turns.{Turn, turn, turn_by, state, at_leaf, at_value, at_opened, turn_after_value, passed, passing, flagging, counting, inside_vector, made}
+use Rattle.flow_inputs.specs.Turns.{Transition, turn, turn_by, state, at_leaf, at_value, at_opened, turn_after_value, passed, passing, flagging, counting, inside_vector, made}
 use Rattle.snesl_values.specs.Marks.{Spot, spots}
 use Rattle.flow_inputs.specs.Left.{written_from, left, cell}
 use Rattle.snesl_values.specs.Places.{value_at}
@@ -39,7 +39,7 @@ FlagsOnly leaf _ = Unit {0}
 
 module _ (vector : ℕ → Value) where
   -- what a turn writes is of the edge's kind, and the scanner stands where the edge lets it
-  abbrev Fine : Leaf → Turn → Type 0
+  abbrev Fine : Leaf → Transition → Type 0
   Fine leaf u = FlagsOnly leaf u.1.mode × AllOf (leaf_kind leaf) (map (cell vector) (option_to_list u.0))
 
   -- so it is at the end of the way
@@ -78,7 +78,7 @@ module _ (vector : ℕ → Value) where
   passed_fine _ leaf level mark = (tt, tt)
 
   -- of two turns, whichever is made
-  either_fine : (leaf : Leaf) (u v : Turn) → Fine leaf u → Fine leaf v → (b : Bool) → Fine leaf (cond b u v)
+  either_fine : (leaf : Leaf) (u v : Transition) → Fine leaf u → Fine leaf v → (b : Bool) → Fine leaf (cond b u v)
   either_fine leaf u v h k true = h
   either_fine leaf u v h k false = k
 

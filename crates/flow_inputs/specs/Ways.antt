@@ -32,13 +32,13 @@ leaf_at (seq a) zero = Flags
 leaf_at (seq a) (suc edge) = leaf_at a edge
 
 -- the type that is kept of the elements of the vectors there
-abbrev pub kept_at : Ty → ℕ → Option Ty
-kept_at int edge = None
-kept_at bool edge = None
-kept_at (vec a) edge = kept_type a
-kept_at (pair a b) edge = cond (nat_lt edge (width a)) (kept_at a edge) (kept_at b (edge - width a))
-kept_at (seq a) zero = None
-kept_at (seq a) (suc edge) = kept_at a edge
+abbrev pub kept_type_at : Ty → ℕ → Option Ty
+kept_type_at int edge = None
+kept_type_at bool edge = None
+kept_type_at (vec a) edge = kept_type a
+kept_type_at (pair a b) edge = cond (nat_lt edge (width a)) (kept_type_at a edge) (kept_type_at b (edge - width a))
+kept_type_at (seq a) zero = None
+kept_type_at (seq a) (suc edge) = kept_type_at a edge
 
 -- what a value puts on the edge at the end of the way
 abbrev pub items_on_edge : List Component → Leaf → Value → List Cell

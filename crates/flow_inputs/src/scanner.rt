@@ -1,7 +1,7 @@
 // The items of one edge, scanned from a text.
 
 ghost use Rattle.std.specs.Prelude.{◌≡◌, ℕ, ◌+◌, ◌<◌, ◌≤◌, false, IsTrue, List, ◌∷◌, ◌++◌, [], length, map, take, IfSome, IfNone, option_to_list};
-ghost use Rattle.snesl_values.specs.InputTokens.{next, next_at};
+ghost use Rattle.snesl_values.specs.InputTokens.{next_lexeme, next_at};
 ghost use Rattle.snesl_values.specs.Marks.{found_from};
 ghost use Rattle.flow_inputs.specs.declared.turns.Piece.TheVariants.{Flag, Int};
 ghost use Rattle.flow_inputs.specs.declared.turns.Component.{Component};
@@ -37,7 +37,7 @@ pub(crate) struct Ahead {
 #[inline(always)]
 fn next_mark(text: &[u8], at: usize) -> Option<Found>
     requires { at ≤ length text.now }
-    ensures next { result ≡ found_from (next_at text.now at) (next text.now at) }
+    ensures next { result ≡ found_from (next_at text.now at) (next_lexeme text.now at) }
     ensures moves { IfSome result (λ found. at < found.end) }
     ensures within { IfSome result (λ found. found.end ≤ length text.now) }
 {

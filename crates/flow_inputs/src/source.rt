@@ -22,7 +22,7 @@ ghost use Rattle.flow_inputs.specs.Sends.{Sends};
 
 use crate::scanner::{BLOCK, flags_ahead, ints_ahead, scan};
 use crate::turns::{Component, Leaf, Mode, Piece, State};
-use crate::ways::{add_way, kept_at};
+use crate::ways::{add_way, kept_type_at};
 use flow_base::{Port, Side, Transducer, put_in_space};
 use flow_messages::{Ends, Item, Msg};
 use flow_values::item_of_type;
@@ -86,7 +86,7 @@ impl TextSource {
     {
         let mut way = Vec::new(alloc);
         let leaf = add_way(&mut way, ty, edge)?;
-        let of = kept_at(alloc, ty, edge)?;
+        let of = kept_type_at(alloc, ty, edge)?;
         Ok(TextSource {
             alloc,
             text,

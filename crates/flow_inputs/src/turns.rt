@@ -85,11 +85,11 @@ pub enum Piece {
 }
 
 // What is written at a token, if anything is, and the state after it.
-pub(crate) type Turn = (Option<Piece>, State);
+pub(crate) type Transition = (Option<Piece>, State);
 
 // Nothing is written.
 #[inline(always)]
-fn writes_nothing(level: usize, mode: Mode) -> Turn
+fn writes_nothing(level: usize, mode: Mode) -> Transition
     ensures { result ≡ writes_nothing level mode }
 {
     (None, State { level, mode })
@@ -97,7 +97,7 @@ fn writes_nothing(level: usize, mode: Mode) -> Turn
 
 // This is written.
 #[inline(always)]
-fn wrote(piece: Piece, level: usize, mode: Mode) -> Turn
+fn wrote(piece: Piece, level: usize, mode: Mode) -> Transition
     ensures { result ≡ wrote piece level mode }
 {
     (Some(piece), State { level, mode })
@@ -105,7 +105,7 @@ fn wrote(piece: Piece, level: usize, mode: Mode) -> Turn
 
 // No value of the type is spelled here, and nothing is written any more.
 #[inline(always)]
-fn lost() -> Turn
+fn lost() -> Transition
     ensures { result ≡ lost }
 {
     writes_nothing(0, Mode::Lost)
@@ -113,7 +113,7 @@ fn lost() -> Turn
 
 // A token at the end of the way.
 #[inline(always)]
-fn at_leaf(leaf: Leaf, level: usize, mark: Mark, place: usize) -> Turn
+fn at_leaf(leaf: Leaf, level: usize, mark: Mark, place: usize) -> Transition
     ensures { result ≡ at_leaf leaf level mark place }
 {
     match (leaf, mark) {
@@ -129,7 +129,13 @@ fn at_leaf(leaf: Leaf, level: usize, mark: Mark, place: usize) -> Turn
 
 // A token where a value comes next, by the next step of the way.
 #[inline(always)]
-fn at_value(step: Option<Component>, leaf: Leaf, level: usize, mark: Mark, place: usize) -> Turn
+fn at_value(
+    step: Option<Component>,
+    leaf: Leaf,
+    level: usize,
+    mark: Mark,
+    place: usize,
+) -> Transition
     requires { IfSome step (λ _. level < usize.MAX) }
     ensures { result ≡ at_value step leaf level mark place }
 {
@@ -153,7 +159,7 @@ fn at_value(step: Option<Component>, leaf: Leaf, level: usize, mark: Mark, place
 
 // A token after a value, by the innermost step that was made.
 #[inline(always)]
-fn turn_after_value(step: Option<Component>, level: usize, mark: Mark) -> Turn
+fn turn_after_value(step: Option<Component>, level: usize, mark: Mark) -> Transition
     ensures { result ≡ turn_after_value step level mark }
 {
     match (step, mark) {
@@ -169,7 +175,13 @@ fn turn_after_value(step: Option<Component>, level: usize, mark: Mark) -> Turn
 
 // A token where a sequence was opened on the way.
 #[inline(always)]
-fn at_opened(step: Option<Component>, leaf: Leaf, level: usize, mark: Mark, place: usize) -> Turn
+fn at_opened(
+    step: Option<Component>,
+    leaf: Leaf,
+    level: usize,
+    mark: Mark,
+    place: usize,
+) -> Transition
     requires { IfSome step (λ _. level < usize.MAX) }
     ensures { result ≡ at_opened step leaf level mark place }
 {
@@ -182,7 +194,7 @@ fn at_opened(step: Option<Component>, leaf: Leaf, level: usize, mark: Mark, plac
 // A token in a part that is passed over, outside its brackets: the comma after a first part, and
 // the end of a pair.
 #[inline(always)]
-fn passed(step: Option<Component>, level: usize, mark: Mark) -> Turn
+fn passed(step: Option<Component>, level: usize, mark: Mark) -> Transition
     ensures { result ≡ passed step level mark }
 {
     match (step, mark) {
@@ -196,7 +208,7 @@ fn passed(step: Option<Component>, level: usize, mark: Mark) -> Turn
 
 // A token in a part that is passed over.
 #[inline(always)]
-fn passing(step: Option<Component>, level: usize, depth: usize, mark: Mark) -> Turn
+fn passing(step: Option<Component>, level: usize, depth: usize, mark: Mark) -> Transition
     requires { depth + 1 < 2 ^ 64 }
     ensures { result ≡ passing step level depth mark }
 {
@@ -221,7 +233,7 @@ fn passing(step: Option<Component>, level: usize, depth: usize, mark: Mark) -> T
 
 // A token where a sequence was opened whose flags are written.
 #[inline(always)]
-fn flagging(level: usize, mark: Mark) -> Turn
+fn flagging(level: usize, mark: Mark) -> Transition
     ensures { result ≡ flagging level mark }
 {
     match mark {
@@ -233,7 +245,7 @@ fn flagging(level: usize, mark: Mark) -> Turn
 
 // A token in the elements of that sequence.
 #[inline(always)]
-fn counting(level: usize, depth: usize, mark: Mark) -> Turn
+fn counting(level: usize, depth: usize, mark: Mark) -> Transition
     requires { depth + 1 < 2 ^ 64 }
     ensures { result ≡ counting level depth mark }
 {
@@ -259,7 +271,7 @@ fn counting(level: usize, depth: usize, mark: Mark) -> Turn
 
 // A token in a vector.
 #[inline(always)]
-fn inside_vector(level: usize, depth: usize, mark: Mark) -> Turn
+fn inside_vector(level: usize, depth: usize, mark: Mark) -> Transition
     requires { depth + 1 < 2 ^ 64 }
     ensures { result ≡ inside_vector level depth mark }
 {
@@ -302,7 +314,13 @@ pub(crate) fn made(way: &[Component], level: usize) -> Option<Component>
 
 // What a token makes of a state. The token was looked for from the offset `place` on.
 #[inline(always)]
-pub(crate) fn turn(way: &[Component], leaf: Leaf, state: State, mark: Mark, place: usize) -> Turn
+pub(crate) fn turn(
+    way: &[Component],
+    leaf: Leaf,
+    state: State,
+    mark: Mark,
+    place: usize,
+) -> Transition
     requires { depth_of state.mode + 1 < 2 ^ 64 }
     ensures { result ≡ turn way.now leaf state mark place }
 {

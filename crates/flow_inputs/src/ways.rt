@@ -4,10 +4,10 @@ ghost use Rattle.std.specs.Prelude.{◌≡◌, ◌<◌, ◌^◌, ◌++◌, IfOk,
 ghost use Rattle.snesl_data.specs.Types.{ty_of};
 ghost use Rattle.flow_values.specs.Flats.{width};
 ghost use Rattle.flow_values.specs.Shapes.{shared_type};
-ghost use Rattle.flow_inputs.specs.Ways.{way_to, leaf_at, kept_at};
+ghost use Rattle.flow_inputs.specs.Ways.{way_to, leaf_at, kept_type_at};
 
 use crate::turns::{Component, Leaf};
-use flow_values::kept;
+use flow_values::kept_type;
 use snesl_data::Ty;
 use std::alloc::{AllocError, Global};
 use std::sync::Arc;
@@ -55,26 +55,30 @@ pub(crate) fn add_way(way: &mut Vec<Component>, ty: &Ty, edge: usize) -> Result<
 }
 
 // The type of the elements of the vectors at the edge of this number, shared, where it is kept.
-pub(crate) fn kept_at(alloc: Global, ty: &Ty, edge: usize) -> Result<Option<Arc<Ty>>, AllocError>
+pub(crate) fn kept_type_at(
+    alloc: Global,
+    ty: &Ty,
+    edge: usize,
+) -> Result<Option<Arc<Ty>>, AllocError>
     requires { width (ty_of ty.now) < 2 ^ 64 }
-    ensures { IfOk result (λ of. shared_type of ≡ kept_at (ty_of ty.now) edge) }
+    ensures { IfOk result (λ of. shared_type of ≡ kept_type_at (ty_of ty.now) edge) }
 {
     match ty {
         Ty::Int | Ty::Bool => Ok(None),
-        Ty::Vec(element) => kept(alloc, element),
+        Ty::Vec(element) => kept_type(alloc, element),
         Ty::Pair(first, second) => {
             let edges = edge_count(first);
             if edge < edges {
-                kept_at(alloc, first, edge)
+                kept_type_at(alloc, first, edge)
             } else {
-                kept_at(alloc, second, edge - edges)
+                kept_type_at(alloc, second, edge - edges)
             }
         }
         Ty::Seq(item) => {
             if edge == 0 {
                 return Ok(None);
             }
-            kept_at(alloc, item, edge - 1)
+            kept_type_at(alloc, item, edge - 1)
         }
     }
 }

@@ -1,5 +1,4 @@
 pub mod Lists
-pub mod Coming
 pub mod Came
 pub mod InTurn
 pub mod Followed

@@ -1,12 +1,9 @@
 -- Sums of what messages say, and what begins with what.
-use Rattle.std.proofs.Common.{◌≡◌, ℕ, ◌+◌, ◌<◌, ◌≤◌, List, [], ◌∷◌, ◌++◌, length, take, get_or, refl, sym, ap, ◌∙◌, arith, add-one, append_assoc, append-nil}
-use Rattle.std.proofs.Math.Seq.{take-suc}
-use Rattle.std.proofs.lemmas.List.{map-append}
+use Rattle.std.proofs.Common.{◌≡◌, ◌+◌, ◌<◌, ◌≤◌, List, [], ◌∷◌, ◌++◌, length, refl, sym, ap, ◌∙◌, arith, append_assoc, append-nil, length-append}
 use mathlib.Core.List.{IsPrefix}
 use Rattle.flow_messages.specs.declared.message.Msg.{Msg}
-use Rattle.flow_messages.specs.declared.flat.Flat.{Flat}
 use Rattle.flow_messages.specs.Signals.{signals}
-use Rattle.flow_messages.specs.Flats.{message_of, messages_of, scalar_first}
+use Rattle.flow_messages.specs.Flats.{scalar_first}
 use Rattle.flow_lanes.specs.Credits.{credit}
 
 pub credit-append : (xs ys : List Msg) → credit (xs ++ ys) ≡ credit xs + credit ys
@@ -31,17 +28,16 @@ prefix-more xs ys zs p = (p.0 ++ zs, sym (append_assoc xs p.0 zs) ∙ ap (λ l. 
 pub prefix-after : {A : Type 0} (xs ys zs : List A) → IsPrefix ys zs → IsPrefix (xs ++ ys) (xs ++ zs)
 prefix-after xs ys zs p = (p.0, append_assoc xs ys p.0 ∙ ap (λ l. xs ++ l) p.1)
 
--- one more message of these was put after those so far
-pub messages_next : (all before : List Msg) (xs : List Flat) (i : ℕ) (d : Flat) (m : Msg) → i < length xs → all ≡ before ++ messages_of (take i xs) → m ≡ message_of (get_or xs i d) → all ++ m ∷ [] ≡ before ++ messages_of (take (i + 1) xs)
-messages_next all before xs i d m low is m_is =
-    ap (λ l. l ++ m ∷ []) is ∙ append_assoc before (messages_of (take i xs)) (m ∷ []) ∙ ap (λ x. before ++ (messages_of (take i xs) ++ x ∷ [])) m_is
-    ∙ ap (λ l. before ++ l) (sym (ap (λ k. messages_of (take k xs)) (add-one i) ∙ ap messages_of (take-suc xs i d low) ∙ map-append message_of (take i xs) (get_or xs i d ∷ [])))
-
--- what is held with a block that came, where more may be certain since
-pub filled : {A : Type 0} (c d ms h i j : List A) → IsPrefix h i → IsPrefix i (ms ++ j) → d ≡ c ++ ms → IsPrefix (c ++ h) (d ++ j)
-filled c d ms h i j p q is =
-    let all = prefix-after c h (ms ++ j) (prefix-trans h i (ms ++ j) p q) in
+-- what is held with messages that came, where more may be certain since
+pub filled : {A : Type 0} (c d ms h j : List A) → IsPrefix h (ms ++ j) → d ≡ c ++ ms → IsPrefix (c ++ h) (d ++ j)
+filled c d ms h j p is =
+    let all = prefix-after c h (ms ++ j) p in
     (all.0, all.1 ∙ sym (append_assoc c ms j) ∙ ap (λ l. l ++ j) (sym is))
+
+-- where the first part is the whole, nothing is left
+pub no_rest : {A : Type 0} (xs ys zs : List A) → xs ++ ys ≡ zs → xs ≡ zs → ys ≡ []
+no_rest xs [] zs all same = refl
+no_rest xs (y ∷ ys) zs all same = absurd (omega (arith, ap length all, ap length same, length-append xs (y ∷ ys)))
 
 -- what a pocket holds comes first, if it holds any where some is certain
 pub pocket_first : (c k : List Msg) → (0 < length (c ++ k) → 0 < length c) → scalar_first (signals c) ≡ scalar_first (signals (c ++ k))

@@ -12,7 +12,7 @@ use Rattle.flow_messages.proofs.Signals.{signals-nil, signals-cons, signals-snoc
 use Rattle.flow_messages.proofs.Tables.{at_line-here, at_line-same, at_line-other, at_line-kept}
 use Rattle.flow_lanes.specs.declared.ends.LaneWriter.{LaneWriter}
 use Rattle.flow_lanes.specs.declared.ends.LaneReader.{LaneReader}
-use Rattle.flow_lanes.specs.Followed.{followed_unless_ended}
+use Rattle.flow_words.specs.Edge.{followed_unless_ended}
 use Rattle.flow_lanes.proofs.Followed.{followed_shut, followed_free}
 use Rattle.flow_lanes.specs.Lane.{sent, received, certain_room, certain_held, kind_of, SameWriter}
 use Rattle.flow_lanes.specs.SameLanes.{same_kind}

@@ -7,6 +7,7 @@ use Rattle.flow_history.proofs.History.TheSendSync as history
 use Rattle.snesl_data.proofs.Sends.{elements_sends}
 use Rattle.flow_messages.proofs.Sends.{typed_sends}
 use Rattle.flow_rings.proofs.Sends.{writer_sends, reader_sends}
+use Rattle.flow_words.proofs.Sends as words
 use Rattle.flow_lanes.specs.contracts.counted.CountedWriter as counted
 use Rattle.flow_lanes.specs.contracts.pocket.Pocket as pocket
 use Rattle.flow_lanes.specs.contracts.ends.LaneWriter as writer
@@ -16,10 +17,10 @@ use Rattle.flow_lanes.specs.contracts.rings.Rings as rings
 ruleset parts = (elements_sends, typed_sends, history.the_send, heap.the_field_send, crossing.frees, crosses, sendable)
 
 counted_sends : IsSend counted.the_field.row
-counted_sends = search (writer_sends, reader_sends, crosses, sendable) depth 60 fits 20000
+counted_sends = search (words.writer_sends, reader_sends, crosses, sendable) depth 60 fits 20000
 
 pocket_sends : IsSend pocket.the_field.row
-pocket_sends = search (writer_sends, reader_sends, parts) depth 60 fits 20000
+pocket_sends = search (writer_sends, words.reader_sends, parts) depth 60 fits 20000
 
 lane_writer_sends : IsSend writer.the_field.row
 lane_writer_sends = search (writer_sends, counted_sends, crosses, sendable) depth 60 fits 20000

@@ -1,9 +1,10 @@
 -- What a contract sees of the two ends of a lane.
-use Rattle.std.specs.Prelude.{ℕ, List, [], Option, min}
+use Rattle.std.specs.Prelude.{◌≡◌, ℕ, ◌≤◌, List, [], Option, Some, min}
 use Rattle.flow_messages.specs.declared.message.Kind.{Kind}
 use Rattle.flow_messages.specs.declared.message.Msg.{Msg}
 use Rattle.flow_messages.specs.Stores.{content_of}
 use Rattle.flow_rings.specs.Edge as ring
+use Rattle.flow_words.specs.Edge as words
 use Rattle.flow_lanes.specs.declared.ends.LaneWriter.{LaneWriter}
 use Rattle.flow_lanes.specs.declared.ends.LaneWriter.TheVariants.{Messages as MessagesTo, Scalars as ScalarsTo}
 use Rattle.flow_lanes.specs.declared.ends.LaneReader.{LaneReader}
@@ -13,27 +14,27 @@ use Rattle.flow_lanes.specs.Taken.{taken_from, held_in}
 -- every message put so far, the oldest first
 abbrev pub sent : LaneWriter → List Msg
 sent (MessagesTo w) = ring.sent w
-sent (ScalarsTo w) = ring.sent w.edge
+sent (ScalarsTo w) = words.sent w.edge
 
 -- how many puts are certain of room
 abbrev pub certain_room : LaneWriter → ℕ
 certain_room (MessagesTo w) = ring.certain_room w
-certain_room (ScalarsTo w) = min w.room (ring.certain_room w.edge)
+certain_room (ScalarsTo w) = min w.room (words.certain_room w.edge)
 
 -- how many messages the lane holds at most
 abbrev pub edge_capacity : LaneWriter → ℕ
 edge_capacity (MessagesTo w) = ring.edge_capacity w
-edge_capacity (ScalarsTo w) = ring.edge_capacity w.edge
+edge_capacity (ScalarsTo w) = words.edge_capacity w.edge
 
 -- the kind of the items that this writer may put, or none where each may be put
 abbrev pub kind_of : LaneWriter → Option Kind
 kind_of (MessagesTo w) = ring.kind_of w
-kind_of (ScalarsTo w) = ring.kind_of w.edge
+kind_of (ScalarsTo w) = Some (words.kind_of w.edge)
 
 -- the kind of the items that this reader takes, or none where they may be of any
 abbrev pub reader_kind : LaneReader → Option Kind
 reader_kind (MessagesFrom r) = ring.reader_kind r
-reader_kind (ScalarsFrom p) = ring.reader_kind p.edge
+reader_kind (ScalarsFrom p) = Some (words.reader_kind p.edge)
 
 -- every message taken so far, the oldest first
 abbrev pub received : LaneReader → List Msg
@@ -45,33 +46,33 @@ abbrev pub certain_held : LaneReader → List Msg
 certain_held (MessagesFrom r) = ring.certain_held r
 certain_held (ScalarsFrom p) = held_in p
 
--- what the reader's ring states as received: over a lane of scalars, all that the pocket took over, given since or not
+-- what the reader's edge states as received: over a lane of scalars, all that the pocket took over, given since or not
 abbrev pub taken_over : LaneReader → List Msg
 taken_over (MessagesFrom r) = ring.received r
-taken_over (ScalarsFrom p) = ring.received p.edge
+taken_over (ScalarsFrom p) = words.received p.edge
 
 -- what the pocket holds of it
 abbrev pub in_pocket : LaneReader → List Msg
 in_pocket (MessagesFrom r) = []
 in_pocket (ScalarsFrom p) = content_of p.inbox.store
 
--- the two are the ends of one lane
+-- the two are the ends of one lane, and the pocket has room for all that a lane of scalars may hold
 abbrev pub IsLane : LaneWriter → LaneReader → Type 0
 IsLane (MessagesTo w) (MessagesFrom r) = ring.IsEdge w r
 IsLane (MessagesTo w) (ScalarsFrom p) = ⊥
 IsLane (ScalarsTo w) (MessagesFrom r) = ⊥
-IsLane (ScalarsTo w) (ScalarsFrom p) = ring.IsEdge w.edge p.edge × ring.IsEdge p.back w.back
+IsLane (ScalarsTo w) (ScalarsFrom p) = words.IsEdge w.edge p.edge × ring.IsEdge p.back w.back × (words.edge_capacity w.edge ≤ p.inbox.store.capacity)
 
 -- the writer of one lane, before and after
 abbrev pub SameWriter : LaneWriter → LaneWriter → Type 0
 SameWriter (MessagesTo a) (MessagesTo b) = ring.SameWriter a b
 SameWriter (MessagesTo a) (ScalarsTo b) = ⊥
 SameWriter (ScalarsTo a) (MessagesTo b) = ⊥
-SameWriter (ScalarsTo a) (ScalarsTo b) = ring.SameWriter a.edge b.edge × ring.SameReader a.back b.back
+SameWriter (ScalarsTo a) (ScalarsTo b) = words.SameWriter a.edge b.edge × ring.SameReader a.back b.back
 
 -- the reader of one lane, before and after
 abbrev pub SameReader : LaneReader → LaneReader → Type 0
 SameReader (MessagesFrom a) (MessagesFrom b) = ring.SameReader a b
 SameReader (MessagesFrom a) (ScalarsFrom q) = ⊥
 SameReader (ScalarsFrom p) (MessagesFrom b) = ⊥
-SameReader (ScalarsFrom p) (ScalarsFrom q) = ring.SameReader p.edge q.edge × ring.SameWriter p.back q.back
+SameReader (ScalarsFrom p) (ScalarsFrom q) = words.SameReader p.edge q.edge × ring.SameWriter p.back q.back × (q.inbox.store.capacity ≡ p.inbox.store.capacity)

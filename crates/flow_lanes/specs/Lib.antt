@@ -1,4 +1,3 @@
-pub mod Came
 pub mod Credits
 pub mod Taken
 pub mod Followed

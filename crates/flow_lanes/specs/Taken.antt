@@ -3,7 +3,7 @@ use Rattle.std.specs.Prelude.{List, ◌++◌}
 use Rattle.flow_messages.specs.declared.message.Msg.{Msg}
 use Rattle.flow_messages.specs.Stores.{content_of}
 use Rattle.flow_boxes.specs.Received.{received_of}
-use Rattle.flow_rings.specs.Edge as ring
+use Rattle.flow_words.specs.Edge as words
 use Rattle.flow_lanes.specs.declared.pocket.Pocket.{Pocket}
 
 -- every message taken so far, the oldest first
@@ -12,4 +12,4 @@ taken_from p = received_of p.inbox
 
 -- what the next takes are certain to give: what the pocket holds, and then what the edge does
 abbrev pub held_in : Pocket → List Msg
-held_in p = content_of p.inbox.store ++ ring.certain_held p.edge
+held_in p = content_of p.inbox.store ++ words.certain_held p.edge

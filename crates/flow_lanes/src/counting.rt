@@ -1,9 +1,12 @@
 // What is called at the end that puts scalars.
-ghost use Rattle.std.specs.Prelude.{◌≡◌, ◌+◌, ◌<◌, ◌≤◌, ◌↔◌, true, false, [], ◌∷◌, ◌++◌, length, min, IsTrue, IsOk, OnOk, IfErr, IsErrAnd};
+ghost use Rattle.std.specs.Prelude.{◌≡◌, ◌+◌, ◌<◌, ◌≤◌, ◌↔◌, true, false, [], ◌∷◌, ◌++◌, Some, length, min, IsTrue, IsOk, OnOk, IfErr, IsErrAnd};
 ghost use Rattle.flow_messages.specs.Signals.{signals, signal_of, ended};
 ghost use Rattle.flow_messages.specs.Kinds.{FitsEdge};
 ghost use Rattle.flow_messages.specs.declared.ends.Why.TheVariants.{Full, Closed};
-ghost use Rattle.flow_rings.specs.Edge.{sent, received, certain_room, kind_of, SameWriter, SameReader};
+ghost use Rattle.flow_messages.specs.Contents.{unit_messages, flag_messages, int_messages};
+ghost use Rattle.flow_messages.specs.declared.message.Kind.TheVariants.{Unit as UnitKind, Bool as BoolKind, Int as IntKind};
+ghost use Rattle.flow_rings.specs.Edge.{received, SameReader};
+ghost use Rattle.flow_words.specs.Edge.{sent, certain_room, kind_of, SameWriter, followed_unless_ended};
 ghost use Rattle.flow_lanes.specs.Credits.{credit, number_in};
 
 use crate::counted::CountedWriter;
@@ -53,7 +56,7 @@ impl CountedWriter {
     // Puts a message after all others, or gives it back.
     #[inline(always)]
     pub(crate) fn put(&mut self, message: Msg) -> Result<(), Refused>
-        requires fits { FitsEdge (kind_of self.old.edge) (signal_of message) }
+        requires fits { FitsEdge (Some (kind_of self.old.edge)) (signal_of message) }
         ensures edge { SameWriter self.old.edge self.new.edge }
         ensures back { SameReader self.old.back self.new.back }
         ensures ok { OnOk result ((sent self.new.edge ≡ sent self.old.edge ++ message ∷ []) ×
@@ -84,6 +87,54 @@ impl CountedWriter {
         self.edge.put(message)?;
         self.room -= 1;
         Ok(())
+    }
+
+    // Puts so many units where room is certain. They are dropped where `End` was put before.
+    #[inline(always)]
+    pub(crate) fn put_units(&mut self, count: usize)
+        requires kind { kind_of self.old.edge ≡ UnitKind }
+        requires certain { count ≤ min self.old.room (certain_room self.old.edge) }
+        ensures edge { SameWriter self.old.edge self.new.edge }
+        ensures back { self.new.back ≡ self.old.back }
+        ensures put { sent self.new.edge ≡
+            followed_unless_ended (sent self.old.edge) (unit_messages count) }
+        ensures room { min self.old.room (certain_room self.old.edge) ≤
+            min self.new.room (certain_room self.new.edge) + count }
+    {
+        self.room -= count;
+        self.edge.put_units(count);
+    }
+
+    // Puts these truth values where room is certain. They are dropped where `End` was put before.
+    #[inline(always)]
+    pub(crate) fn put_flags(&mut self, flags: &[bool])
+        requires kind { kind_of self.old.edge ≡ BoolKind }
+        requires certain { length flags.now ≤ min self.old.room (certain_room self.old.edge) }
+        ensures edge { SameWriter self.old.edge self.new.edge }
+        ensures back { self.new.back ≡ self.old.back }
+        ensures put { sent self.new.edge ≡
+            followed_unless_ended (sent self.old.edge) (flag_messages flags.now) }
+        ensures room { min self.old.room (certain_room self.old.edge) ≤
+            min self.new.room (certain_room self.new.edge) + length flags.now }
+    {
+        self.room -= flags.len();
+        self.edge.put_flags(flags);
+    }
+
+    // Puts these integers where room is certain. They are dropped where `End` was put before.
+    #[inline(always)]
+    pub(crate) fn put_ints(&mut self, ints: &[i64])
+        requires kind { kind_of self.old.edge ≡ IntKind }
+        requires certain { length ints.now ≤ min self.old.room (certain_room self.old.edge) }
+        ensures edge { SameWriter self.old.edge self.new.edge }
+        ensures back { self.new.back ≡ self.old.back }
+        ensures put { sent self.new.edge ≡
+            followed_unless_ended (sent self.old.edge) (int_messages ints.now) }
+        ensures room { min self.old.room (certain_room self.old.edge) ≤
+            min self.new.room (certain_room self.new.edge) + length ints.now }
+    {
+        self.room -= ints.len();
+        self.edge.put_ints(ints);
     }
 
     // Whether one message more is certain of room.

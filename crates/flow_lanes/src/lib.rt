@@ -1,23 +1,22 @@
 //! Lanes: edges between threads whose messages go many at once.
 //!
-//! A lane of messages is an edge of flow_rings. A lane of scalars of one kind is two: over the first go the messages, and the
-//! reader takes as many as it finds into a pocket, with one look. Over the second it tells the writer how many it took out
-//! of the pocket. So the writer never puts more than the lane may hold, the pocket counted.
+//! A lane of messages is an edge of flow_rings. A lane of scalars of one kind is two. Over the first, an edge of flow_words, go
+//! the messages, and the reader takes as many as it finds into a pocket, with one look. Over the second it tells the writer how
+//! many it took out of the pocket. So the writer never puts more than the lane may hold, the pocket counted.
 //!
 //! [`Rings`] owns the ends that a share of a network has, each at the number of its lane.
 #![tactic(auto)]
 
-mod blocks;
 mod counted;
 mod counting;
 mod ends;
-mod keeping;
 mod making;
 mod meeting;
 mod pocket;
 mod reader;
 mod rings;
 mod rings_ends;
+mod scalars;
 mod taking;
 mod theorems;
 mod writer;

@@ -4,7 +4,6 @@ ghost use Rattle.flow_messages.specs.Kinds.{TakesKind};
 ghost use Rattle.flow_messages.specs.Limits.{greatest_capacity};
 ghost use Rattle.flow_lanes.specs.Lane.{sent, received, certain_room, certain_held, edge_capacity, kind_of, IsLane};
 
-use crate::blocks::PLACES;
 use crate::counted::CountedWriter;
 use crate::counting::NUMBERS;
 use crate::ends::{LaneReader, LaneWriter};
@@ -12,7 +11,8 @@ use crate::pocket::Pocket;
 use flow_boxes::Inbox;
 use flow_history::History;
 use flow_messages::Kind;
-use flow_rings::{Flat, edge, scalar_edge};
+use flow_rings::{edge, scalar_edge};
+use flow_words::word_edge;
 use std::alloc::{AllocError, Global};
 
 /// The two ends of a lane for items of this kind, which holds at most `capacity` messages. Nothing was put on it.
@@ -35,7 +35,7 @@ pub fn lane(
         let (writer, reader) = edge(alloc, capacity)?;
         return Ok((LaneWriter::Messages(writer), LaneReader::Messages(reader)));
     }
-    let (writer, reader) = scalar_edge(alloc, kind, capacity)?;
+    let (writer, reader) = word_edge(alloc, kind, capacity)?;
     // What the reader cannot tell it goes on to owe.
     let (teller, back) = scalar_edge(alloc, Kind::Int, capacity.min(NUMBERS))?;
     let inbox = Inbox::new(alloc, capacity)?;
@@ -44,14 +44,12 @@ pub fn lane(
         back,
         room: capacity,
         capacity,
-        block: [Flat::End; PLACES],
     };
     let reader = Pocket {
         edge: reader,
         inbox,
         back: teller,
         owed: 0,
-        block: [Flat::End; PLACES],
         came: History::new(),
     };
     Ok((LaneWriter::Scalars(writer), LaneReader::Scalars(reader)))

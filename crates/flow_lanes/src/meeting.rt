@@ -1,8 +1,11 @@
 // Both ends of a lane at once.
-ghost use Rattle.std.specs.Prelude.{◌≡◌, ◌+◌, ◌-◌, ◌^◌, ◌<◌, ◌≤◌, ℕ, ◌++◌, Some, length, take};
+ghost use Rattle.std.specs.Prelude.{◌≡◌, ◌+◌, ◌-◌, ◌^◌, ◌<◌, ◌≤◌, ℕ, [], ◌++◌, Some, length, take};
 ghost use Rattle.flow_messages.specs.declared.message.Kind.TheVariants.{Int as IntKind};
 ghost use mathlib.Core.List.{IsPrefix};
+ghost use Rattle.flow_messages.specs.Stores.{content_of};
+ghost use Rattle.flow_boxes.specs.Coming.{HasCome};
 ghost use Rattle.flow_rings.specs.Edge as ring;
+ghost use Rattle.flow_words.specs.Edge as words;
 ghost use Rattle.flow_lanes.specs.Credits.{credit, Owes};
 ghost use Rattle.flow_lanes.specs.Taken.{taken_from, held_in};
 ghost use Rattle.flow_lanes.specs.Lane.{sent, received, certain_room, certain_held, edge_capacity, IsLane, SameWriter, SameReader};
@@ -11,7 +14,10 @@ use crate::counted::CountedWriter;
 use crate::ends::{LaneReader, LaneWriter};
 use crate::pocket::Pocket;
 use crate::taking::{take_each, tell};
+use flow_boxes::Inbox;
+use flow_history::History;
 use flow_rings::{EdgeReader, EdgeWriter, Held, meet};
+use flow_words::{WordReader, WordWriter, meet as look};
 
 /// Has both ends of a lane see each other: how many messages the lane holds, and how many more it has
 /// room for. What was taken and what the lane holds are what was put.
@@ -35,33 +41,57 @@ pub fn meet_lane(writer: &mut LaneWriter, reader: &mut LaneReader) -> Held
     }
 }
 
-// The two ends of a lane of scalars see each other.
+// The two ends of a lane of scalars see each other. All that the edge holds goes into the pocket, where it is counted.
 fn meet_pocket(writer: &mut CountedWriter, reader: &mut Pocket) -> Held
-    requires edge { ring.IsEdge writer.old.edge reader.old.edge }
+    requires edge { words.IsEdge writer.old.edge reader.old.edge }
     requires back { ring.IsEdge reader.old.back writer.old.back }
-    ensures edge { ring.SameWriter writer.old.edge writer.new.edge ×
-        ring.SameReader reader.old.edge reader.new.edge }
+    requires places { words.edge_capacity writer.old.edge ≤ reader.old.inbox.store.capacity }
+    ensures edge { words.SameWriter writer.old.edge writer.new.edge ×
+        words.SameReader reader.old.edge reader.new.edge }
     ensures back { ring.SameReader writer.old.back writer.new.back ×
         ring.SameWriter reader.old.back reader.new.back }
-    ensures sent { ring.sent writer.new.edge ≡ ring.sent writer.old.edge }
+    ensures places { reader.new.inbox.store.capacity ≡ reader.old.inbox.store.capacity }
+    ensures sent { words.sent writer.new.edge ≡ words.sent writer.old.edge }
     ensures received { taken_from reader.new ≡ taken_from reader.old }
     ensures room { (writer.old.room ≤ writer.new.room) ×
-        (ring.certain_room writer.old.edge ≤ ring.certain_room writer.new.edge) }
+        (words.certain_room writer.old.edge ≤ words.certain_room writer.new.edge) }
     ensures held { IsPrefix (held_in reader.old) (held_in reader.new) }
-    ensures fifo { taken_from reader.new ++ held_in reader.new ≡ ring.sent writer.new.edge }
+    ensures fifo { taken_from reader.new ++ held_in reader.new ≡ words.sent writer.new.edge }
     ensures count { result.count ≡ length (held_in reader.new) }
     ensures free { (result.room ≡ writer.new.room) ×
-        (result.room ≤ ring.certain_room writer.new.edge) }
-    ensures whole { result.count + result.room ≡ ring.edge_capacity writer.new.edge }
+        (result.room ≤ words.certain_room writer.new.edge) }
+    ensures whole { result.count + result.room ≡ words.edge_capacity writer.new.edge }
 {
-    let found = meet(&mut writer.edge, &mut reader.edge);
+    look(&mut writer.edge, &mut reader.edge);
     reader.owed = settle(&mut reader.back, &mut writer.back, reader.owed);
-    let count = reader.inbox.store.len() + found.count;
+    gather(&mut writer.edge, &mut reader.edge, &mut reader.inbox);
+    reader.came = History::new().followed_by(&reader.inbox.arrived);
+    let count = reader.inbox.store.len();
     writer.room = writer.capacity - count;
     Held {
         count,
         room: writer.room,
     }
+}
+
+// All that the ends of an edge saw it to hold goes into an inbox, and the writer sees that the edge holds nothing.
+fn gather(writer: &mut WordWriter, reader: &mut WordReader, inbox: &mut Inbox)
+    requires edge { words.IsEdge writer.old reader.old }
+    requires fifo { words.received reader.old ++ words.certain_held reader.old ≡
+        words.sent writer.old }
+    requires room { length (content_of inbox.old.store) +
+        length (words.certain_held reader.old) ≤ inbox.old.store.capacity }
+    ensures writer { words.SameWriter writer.old writer.new ×
+        (words.sent writer.new ≡ words.sent writer.old) }
+    ensures reader { words.SameReader reader.old reader.new ×
+        (words.received reader.new ≡ words.sent writer.old) }
+    ensures none { words.certain_held reader.new ≡ [] }
+    ensures come { HasCome (words.certain_held reader.old) inbox.old inbox.new }
+    ensures room { (words.certain_room writer.old ≤ words.certain_room writer.new) ×
+        (words.edge_capacity writer.new ≤ words.certain_room writer.new) }
+{
+    reader.take_certain(inbox);
+    look(writer, reader);
 }
 
 // The writer reads all that it is told of what was taken. How many are still untold.

@@ -6,25 +6,23 @@ ghost use Rattle.flow_messages.specs.declared.message.Msg.TheVariants.{Item as I
 ghost use Rattle.flow_messages.specs.declared.message.Item.TheVariants.{Int as IntItem};
 ghost use Rattle.flow_messages.specs.Stores.{content_of};
 ghost use Rattle.flow_boxes.specs.Received.{received_of};
-ghost use Rattle.flow_rings.specs.Edge.{certain_held, certain_room, kind_of, reader_kind, received, SameReader, SameWriter};
+ghost use Rattle.flow_rings.specs.Edge.{certain_held, certain_room, kind_of, received, SameReader, SameWriter};
+ghost use Rattle.flow_words.specs.Edge as words;
 ghost use Rattle.flow_messages.specs.Kinds.{FitsEdge};
 ghost use Rattle.flow_messages.specs.Signals.{signals, signal_of, ended};
-ghost use Rattle.flow_messages.specs.Flats.{messages_of};
 ghost use Rattle.flow_lanes.specs.Credits.{Owes};
 ghost use Rattle.flow_lanes.specs.Taken.{taken_from, held_in};
 
-use crate::blocks::PLACES;
-use crate::keeping::keep;
 use crate::pocket::Pocket;
 use flow_history::History;
 use flow_messages::{Item, Msg};
-use flow_rings::{EdgeReader, EdgeWriter, Flat};
+use flow_rings::{EdgeReader, EdgeWriter};
 
 // After so many messages the writer is told at once.
 const MANY: u64 = 64;
 
-// So many times a block is taken over in one look at most.
-const TIMES: usize = 8;
+// So many times messages are taken over in one look at most.
+const TIMES: usize = 4;
 
 // The message that says a number.
 #[inline(always)]
@@ -67,65 +65,64 @@ pub(crate) fn take_each(reader: &mut EdgeReader, count: usize)
 }
 
 impl Pocket {
-    // Messages that came are held, as many as some blocks have places for. Where none came the writer may wait for room, so it is
+    // Messages that came are held, as many as some takes over give. Where none is held then the writer may wait for room, so it is
     // told how many were taken.
     #[inline(never)]
     pub(crate) fn fill(&mut self)
-        ensures edge { SameReader self.old.edge self.new.edge }
+        ensures edge { words.SameReader self.old.edge self.new.edge }
         ensures back { SameWriter self.old.back self.new.back }
+        ensures places { self.new.inbox.store.capacity ≡ self.old.inbox.store.capacity }
         ensures taken { taken_from self.new ≡ taken_from self.old }
         ensures more { IsPrefix (held_in self.old) (held_in self.new) }
         ensures some { 0 < length (held_in self.new) →
             0 < length (content_of self.new.inbox.store) }
     {
-        if self.edge.ready() {
-            self.take_over();
-        } else {
+        self.take_over();
+        if self.inbox.store.len() == 0 {
             self.owed = tell(&mut self.back, self.owed);
         }
     }
 
-    // Messages are taken over from the edge, some times as many as a block holds.
+    // Messages are taken over from the edge, some times.
     #[inline(always)]
     fn take_over(&mut self)
-        ensures edge { SameReader self.old.edge self.new.edge }
+        ensures edge { words.SameReader self.old.edge self.new.edge }
         ensures back { self.new.back ≡ self.old.back }
+        ensures places { self.new.inbox.store.capacity ≡ self.old.inbox.store.capacity }
         ensures taken { taken_from self.new ≡ taken_from self.old }
         ensures more { IsPrefix (held_in self.old) (held_in self.new) }
-        ensures some { 0 < length (certain_held self.old.edge) →
+        ensures some { 0 < length (held_in self.new) →
             0 < length (content_of self.new.inbox.store) }
     {
         for _ in 0..TIMES {
-            if !self.take_block() {
+            if !self.take_some() {
                 return;
             }
         }
     }
 
-    // Messages are taken over by way of the block. Whether they filled it: then there may be more.
+    // Messages are taken over from the edge. Whether there may be more, and there is room for them.
     #[inline(always)]
-    fn take_block(&mut self) -> bool
-        ensures edge { SameReader self.old.edge self.new.edge }
+    fn take_some(&mut self) -> bool
+        ensures edge { words.SameReader self.old.edge self.new.edge }
         ensures back { self.new.back ≡ self.old.back }
+        ensures places { self.new.inbox.store.capacity ≡ self.old.inbox.store.capacity }
         ensures taken { taken_from self.new ≡ taken_from self.old }
         ensures more { IsPrefix (held_in self.old) (held_in self.new) }
-        ensures some { 0 < length (certain_held self.old.edge) →
+        ensures some { 0 < length (held_in self.new) →
             0 < length (content_of self.new.inbox.store) }
-        ensures held { length (content_of self.old.inbox.store) ≤
-            length (content_of self.new.inbox.store) }
     {
-        let places = self.inbox.store.capacity - self.inbox.store.len();
-        let count = self.edge.take_slice(&mut self.block, places);
-        keep(&mut self.inbox, &self.block[..count]);
+        let more = self.edge.take_into(&mut self.inbox);
         self.came = History::new().followed_by(&self.inbox.arrived);
-        count == PLACES
+        more & (self.inbox.store.len() < self.inbox.store.capacity)
     }
 
     // Messages that came are held, where none is.
     #[inline(always)]
     pub(crate) fn fill_if_empty(&mut self)
-        ensures edge { SameReader self.old.edge self.new.edge }
+        ensures edge { words.SameReader self.old.edge self.new.edge }
         ensures back { SameWriter self.old.back self.new.back }
+        ensures places { self.new.inbox.store.capacity ≡ self.old.inbox.store.capacity }
         ensures taken { taken_from self.new ≡ taken_from self.old }
         ensures more { IsPrefix (held_in self.old) (held_in self.new) }
         ensures some { 0 < length (held_in self.new) →
@@ -152,14 +149,15 @@ impl Pocket {
     // Takes the oldest message, if there is one.
     #[inline(always)]
     pub(crate) fn take(&mut self) -> Option<Msg>
-        ensures edge { SameReader self.old.edge self.new.edge }
+        ensures edge { words.SameReader self.old.edge self.new.edge }
         ensures back { SameWriter self.old.back self.new.back }
+        ensures places { self.new.inbox.store.capacity ≡ self.old.inbox.store.capacity }
         ensures some { IfSome result (λ m. (taken_from self.new ≡ taken_from self.old ++ m ∷ []) ×
             IsPrefix (held_in self.old) (m ∷ held_in self.new)) }
         ensures none { IfNone result ((taken_from self.new ≡ taken_from self.old) ×
             (held_in self.old ≡ []) × (held_in self.new ≡ [])) }
         ensures open { IfSome result (λ _. ended (signals (taken_from self.old)) ≡ false) }
-        ensures fits { IfSome result (λ m. FitsEdge (reader_kind self.old.edge) (signal_of m)) }
+        ensures fits { IfSome result (λ m. FitsEdge (Some (words.reader_kind self.old.edge)) (signal_of m)) }
         ensures succeeds { 0 < length (held_in self.old) → IsSome result }
     {
         self.fill_if_empty();
@@ -173,8 +171,9 @@ impl Pocket {
     #[inline(always)]
     pub(crate) fn take_many(&mut self, count: usize)
         requires { count ≤ length (held_in self.old) }
-        ensures edge { SameReader self.old.edge self.new.edge }
+        ensures edge { words.SameReader self.old.edge self.new.edge }
         ensures back { SameWriter self.old.back self.new.back }
+        ensures places { self.new.inbox.store.capacity ≡ self.old.inbox.store.capacity }
         ensures taken { taken_from self.new ≡
             taken_from self.old ++ take count (held_in self.old) }
         ensures ahead { IsPrefix (held_in self.old)
@@ -190,8 +189,9 @@ impl Pocket {
     // Takes so many messages, one after another.
     fn take_one_by_one(&mut self, count: usize)
         requires { count ≤ length (held_in self.old) }
-        ensures edge { SameReader self.old.edge self.new.edge }
+        ensures edge { words.SameReader self.old.edge self.new.edge }
         ensures back { SameWriter self.old.back self.new.back }
+        ensures places { self.new.inbox.store.capacity ≡ self.old.inbox.store.capacity }
         ensures taken { taken_from self.new ≡
             taken_from self.old ++ take count (held_in self.old) }
         ensures ahead { IsPrefix (held_in self.old)
@@ -208,6 +208,7 @@ impl Pocket {
         requires { count ≤ length (content_of self.old.inbox.store) }
         ensures edge { self.new.edge ≡ self.old.edge }
         ensures back { SameWriter self.old.back self.new.back }
+        ensures places { self.new.inbox.store.capacity ≡ self.old.inbox.store.capacity }
         ensures taken { taken_from self.new ≡
             taken_from self.old ++ take count (content_of self.old.inbox.store) }
         ensures rest { content_of self.new.inbox.store ≡

@@ -9,8 +9,8 @@ ghost use Rattle.flow_lanes.specs.declared.rings.Rings.{Rings};
 ghost use Rattle.flow_lanes.specs.Lane.{received, in_pocket, taken_over};
 ghost use Rattle.flow_lanes.specs.Rings.{ends_of, writer_at, reader_at, capacity_at, SameRings, Joins, RingsHaveMet};
 
-/// What was received over a lane, and what its pocket holds and has not given yet, are together all that `rtrb` states as
-/// received of the reader's ring. A lane of messages has no pocket: there the two are the same.
+/// What was received over a lane, and what its pocket holds and has not given yet, are together all that the reader's edge
+/// states as received. A lane of messages has no pocket: there the two are the same.
 pub fn received_came_over_the_ring()
     ensures { (reader : LaneReader) → received reader ++ in_pocket reader ≡ taken_over reader }
 {}

@@ -6,15 +6,12 @@ ghost use Rattle.flow_messages.specs.Kinds.{FitsEdge, TakesKind};
 ghost use Rattle.flow_messages.specs.Contents.{unit_messages, flag_messages, int_messages};
 ghost use Rattle.flow_messages.specs.declared.message.Kind.TheVariants.{Unit as UnitKind, Bool as BoolKind, Int as IntKind};
 ghost use Rattle.flow_messages.specs.declared.ends.Why.TheVariants.{Full, Closed};
-ghost use Rattle.flow_lanes.specs.Followed.{followed_unless_ended, item_messages};
+ghost use Rattle.flow_words.specs.Edge.{followed_unless_ended};
 ghost use Rattle.flow_lanes.specs.Lane.{sent, certain_room, kind_of, SameWriter};
 
-use crate::blocks::{PLACES, Scalar, put_each};
 use crate::ends::LaneWriter;
+use crate::scalars::{put_each, put_units_each};
 use flow_messages::{Kind, Msg, Refused};
-
-// What is put where a block of units is.
-const UNITS: [(); PLACES] = [(); PLACES];
 
 impl LaneWriter {
     /// Puts a message after all others.
@@ -42,23 +39,8 @@ impl LaneWriter {
         }
     }
 
-    // Puts these where room is certain. They are dropped where `End` was put on the lane before.
-    #[inline(always)]
-    fn put_all<T: Scalar>(&mut self, values: &[T])
-        requires takes { TakesKind (kind_of self.old) T.kind }
-        requires certain { length values.now ≤ certain_room self.old }
-        ensures same { SameWriter self.old self.new }
-        ensures put { sent self.new ≡
-            followed_unless_ended (sent self.old) (item_messages T.item values.now) }
-        ensures room { certain_room self.old ≤ certain_room self.new + length values.now }
-    {
-        match self {
-            LaneWriter::Messages(edge) => put_each(edge, values),
-            LaneWriter::Scalars(writer) => writer.put_all(values),
-        }
-    }
-
     /// Puts so many units where room is certain. They are dropped where `End` was put on the lane before.
+    #[inline(always)]
     pub fn put_units(&mut self, count: usize)
         requires takes { TakesKind (kind_of self.old) UnitKind }
         requires certain { count ≤ certain_room self.old }
@@ -67,11 +49,9 @@ impl LaneWriter {
             followed_unless_ended (sent self.old) (unit_messages count) }
         ensures room { certain_room self.old ≤ certain_room self.new + count }
     {
-        let mut put = 0;
-        while put < count {
-            let some = (count - put).min(PLACES);
-            self.put_all(&UNITS[..some]);
-            put += some;
+        match self {
+            LaneWriter::Messages(edge) => put_units_each(edge, count),
+            LaneWriter::Scalars(writer) => writer.put_units(count),
         }
     }
 
@@ -85,7 +65,10 @@ impl LaneWriter {
             followed_unless_ended (sent self.old) (flag_messages flags.now) }
         ensures room { certain_room self.old ≤ certain_room self.new + length flags.now }
     {
-        self.put_all(flags);
+        match self {
+            LaneWriter::Messages(edge) => put_each(edge, flags),
+            LaneWriter::Scalars(writer) => writer.put_flags(flags),
+        }
     }
 
     /// Puts these integers of 64 bits where room is certain. They are dropped where `End` was put on the lane before.
@@ -98,7 +81,10 @@ impl LaneWriter {
             followed_unless_ended (sent self.old) (int_messages ints.now) }
         ensures room { certain_room self.old ≤ certain_room self.new + length ints.now }
     {
-        self.put_all(ints);
+        match self {
+            LaneWriter::Messages(edge) => put_each(edge, ints),
+            LaneWriter::Scalars(writer) => writer.put_ints(ints),
+        }
     }
 
     /// Whether the lane takes items of this kind: any, or those of its own.

@@ -1,12 +1,12 @@
 -- Boxes that meet at an edge.
-use Rattle.std.proofs.Common.{◌≡◌, ◌≢◌, ℕ, true, refl, ◌∙◌}
+use Rattle.std.proofs.Common.{◌≡◌, ◌≢◌, ℕ, ◌+◌, length, true, refl, ◌∙◌}
 use Rattle.flow_boxes.specs.declared.boxes.Boxes.{Boxes}
 use Rattle.flow_boxes.specs.Contents.{Contents, contents, view_of}
 use Rattle.flow_boxes.specs.Rounds.{SameBoxes, IsLinked, KeepsRound, CarriesAt}
 use Rattle.flow_boxes.specs.RoundLaws.{same_boxes_refl}
 use Rattle.flow_boxes.proofs.Linking.{writer-linked, reader-linked, writer-elsewhere, reader-elsewhere}
 use Rattle.flow_lanes.specs.Rings.{Kept}
-use Rattle.flow_meetings.specs.Met.{kept_refl}
+use Rattle.flow_meetings.specs.Met.{Met, kept_refl}
 
 -- the writer's box, which is in a, and the reader's, which is in b, are the two of edge e
 abbrev pub BoxesJoin : Boxes → Boxes → ℕ → Type 0
@@ -20,6 +20,14 @@ box_slots a e = (contents a).capacity
 pub record BoxesMeet (e : ℕ) (a b : Boxes) : Type 0 where
   pub carries : CarriesAt e (contents a) (contents b)
   pub kept : Kept (view_of a) (view_of b)
+
+-- what is not held is room
+abbrev pub RoomIsRest : Boxes → Boxes → ℕ → Type 0
+RoomIsRest a b e = (view_of a).room e + length ((view_of b).coming e) ≡ box_slots a e
+
+-- the fact holds wherever the two boxes of an edge have met
+abbrev pub WhereBoxesMet : (Boxes → Boxes → ℕ → Type 0) → Type 0
+WhereBoxesMet Fact = (a b : Boxes) (e : ℕ) → BoxesJoin a b e → Met (view_of a) (view_of b) (box_slots a e) e → Fact a b e
 
 -- the same boxes are there, with the same capacity
 abbrev pub BoxesStay : Boxes → Boxes → Type 0

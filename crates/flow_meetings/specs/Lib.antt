@@ -5,6 +5,7 @@ pub mod Joints
 pub mod RoundTheorems
 pub mod EndTheorems
 pub mod Deals
+pub mod Everywhere
 pub mod Open
 pub mod Opens
 pub mod BoxOpenings

@@ -16,6 +16,22 @@ pub record Met (a b : View) (slots e : ℕ) : Type 0 where
   -- it holds no more than its slots
   pub fits : length (a.sent e) ≤ length (b.received e) + slots
 
+-- what was received and what is certain to the reader are all that was sent
+abbrev pub HasArrived : View → View → ℕ → Type 0
+HasArrived a b e = b.received e ++ b.coming e ≡ a.sent e
+
+-- no more is certain to the reader than was sent
+abbrev pub ComesOfSent : View → View → ℕ → Type 0
+ComesOfSent a b e = length (b.received e) + held b e ≤ length (a.sent e)
+
+-- so many messages at least were sent and not received
+abbrev pub HoldsAtLeast : View → View → ℕ → ℕ → Type 0
+HoldsAtLeast a b count e = count + length (b.received e) ≤ length (a.sent e)
+
+-- the fact holds wherever the two ends of an edge have met
+abbrev pub WhereMet : (View → View → ℕ → ℕ → Type 0) → Type 0
+WhereMet Fact = (a b : View) (slots e : ℕ) → Met a b slots e → Fact a b slots e
+
 -- no more messages were sent than were received and are certain
 pub met_held : (a b : View) (slots e : ℕ) → Met a b slots e → length (a.sent e) ≤ length (b.received e) + held b e
 met_held a b slots e m = omega (arith, ap length m.arrives.1, length-append (a.sent e) m.arrives.0, length-append (b.received e) (b.coming e))

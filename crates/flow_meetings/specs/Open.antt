@@ -1,5 +1,6 @@
 -- Fresh ends of all edges, each in the share that its owner names.
 use Rattle.std.specs.Prelude.{◌≡◌, ◌==◌, ℕ, ◌<◌, true, false, List, [], length, map, slice_index_or}
+use Rattle.std.specs.declared.vec.Vec.{Vec}
 use Rattle.flow_messages.specs.declared.message.Kind.{Kind}
 use Rattle.flow_messages.specs.declared.message.Kind.TheVariants.{Unit as UnitKind}
 use Rattle.flow_messages.specs.Kinds.{TakesKind}
@@ -8,6 +9,9 @@ use Rattle.flow_messages.specs.Tables.{at_line}
 use Rattle.flow_base.specs.Transducers.{Behaviour}
 use Rattle.flow_networks.specs.declared.edge.Edge.{Edge}
 use Rattle.flow_networks.specs.Edges.{edge_at}
+use Rattle.flow_base.specs.declared.transducer.Transducer.{Ghosts}
+use Rattle.flow_networks.specs.declared.graph.Graph.{Graph}
+use Rattle.flow_networks.specs.Graphs.{states_of, edges_of}
 use Rattle.flow_networks.specs.Networks.{state_at}
 use Rattle.flow_meetings.specs.declared.owners.EdgeOwners.{EdgeOwners}
 use Rattle.flow_meetings.specs.Met.{Met}
@@ -51,3 +55,11 @@ pub record AreFreshEnds {X : Type 0} (view : X → View) (joins : X → X → �
   pub places : (e : ℕ) (w : EdgeOwners) (d : X) → e < length owners → slots_of (slice_index_or ends (slice_index_or owners e w).writer d) e ≡ capacity
   -- the two ends of each edge stand as after a meeting
   pub met : (e : ℕ) (w : EdgeOwners) (d : X) → e < length owners → let owner = slice_index_or owners e w in Met (view (slice_index_or ends owner.writer d)) (view (slice_index_or ends owner.reader d)) capacity e
+
+-- the kinds of the edges of a graph
+abbrev pub graph_kinds : {X : Type 0} {t : Ghosts X} → Graph X t → List Kind
+graph_kinds {X} {t} graph = edge_kinds t.behaviour (states_of graph) (edges_of graph)
+
+-- the same as `AreFreshEnds`, of a vector
+abbrev pub AreOpenEnds : {X Z : Type 0} → (X → View) → (X → X → ℕ → Type 0) → (X → ℕ → ℕ) → List EdgeOwners → List Kind → ℕ → Vec X Z → Type 0
+AreOpenEnds view joins slots_of owners kinds capacity ends = AreFreshEnds view joins slots_of owners kinds capacity ends.items

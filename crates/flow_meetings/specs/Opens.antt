@@ -15,6 +15,14 @@ pub record ElsewhereSame (e : ℕ) (a b : View) : Type 0 where
   pub room : (k : ℕ) → k ≢ e → b.room k ≡ a.room k
   pub kind : (k : ℕ) → k ≢ e → b.kind k ≡ a.kind k
 
+-- no end is there
+abbrev pub IsWithoutEnds : View → Type 0
+IsWithoutEnds v = (e : ℕ) → (v.writes e ≡ false) × (v.reads e ≡ false)
+
+-- there is a place for ends of each edge with a number below this, if it is to hold so many messages at most
+abbrev pub HasPlaces : {X : Type 0} → (X → ℕ → ℕ → Type 0) → ℕ → ℕ → X → Type 0
+HasPlaces has_place edges capacity ends = (e : ℕ) → e < edges → has_place ends e capacity
+
 -- A fresh writer's end of edge e is there where `writer`, and a fresh reader's end where `reader`. Else all is as it was.
 pub record OpensAt (e : ℕ) (kind : Kind) (capacity : ℕ) (writer reader : Bool) (a b : View) : Type 0 where
   pub elsewhere : ElsewhereSame e a b
@@ -28,6 +36,17 @@ pub record OpensAt (e : ℕ) (kind : Kind) (capacity : ℕ) (writer reader : Boo
   pub reads : b.reads e ≡ cond reader true (a.reads e)
   pub received : b.received e ≡ cond reader [] (a.received e)
   pub coming : b.coming e ≡ cond reader [] (a.coming e)
+
+-- these ends are as after an opening of edge e, by which a fresh writer's end came, or a reader's, or both
+module _ {X : Type 0} (opens : ℕ → X → X → Type 0) (view : X → View) (e : ℕ) (kind : Kind) (capacity : ℕ) (old new : X) where
+  abbrev pub BringsWriter : Type 0
+  BringsWriter = opens e old new × OpensAt e kind capacity true false (view old) (view new)
+
+  abbrev pub BringsReader : Type 0
+  BringsReader = opens e old new × OpensAt e kind capacity false true (view old) (view new)
+
+  abbrev pub BringsBoth : Type 0
+  BringsBoth = opens e old new × OpensAt e kind capacity true true (view old) (view new)
 
 -- Edge e is opened among the ends of all shares: its ends come to the shares that its owner names.
 pub record OpensEdge {X : Type 0} (view : X → View) (joins : X → X → ℕ → Type 0) (slots_of : X → ℕ → ℕ) (opens_at : ℕ → X → X → Type 0) (owner : EdgeOwners) (e : ℕ) (kind : Kind) (capacity : ℕ) (old new : List X) : Type 0 where

@@ -8,12 +8,15 @@ use Rattle.flow_base.specs.declared.transducer.Transducer.{Ghosts}
 use Rattle.flow_networks.specs.declared.edge.Edge.{Edge}
 use Rattle.flow_networks.specs.declared.placed.Placed.{Placed}
 use Rattle.flow_networks.specs.declared.graph.Graph.{Graph}
-use Rattle.flow_networks.specs.Graphs.{edges_of}
+use Rattle.flow_networks.specs.Graphs.{states_of, edges_of}
+use Rattle.flow_networks.specs.Places.{states_in}
+use Rattle.flow_networks.specs.Shapes.{IsSameNetwork}
 use Rattle.flow_networks.specs.Skeletons.{nodes_of, FitTogether}
+use Rattle.flow_shares.specs.Deals.{AreDealt}
 use Rattle.flow_shares.specs.declared.share.Share.{Share}
 use Rattle.flow_shares.specs.Looks.{IsLookedAt}
 use Rattle.flow_shares.specs.Shares.{AreStuck}
-use Rattle.flow_meetings.specs.Joints.{no_ends, end_view}
+use Rattle.flow_meetings.specs.Joints.{no_ends, end_view, AreStates}
 
 -- What was dealt out, and to whom: the nodes and edges of a graph, the list that names a share for each node, and how
 -- many messages an edge holds at most.
@@ -40,6 +43,15 @@ module _ {X : Type 0} {t : Ghosts X} where
   moves_by network view_at =
       let view = end_view network.share network.edges view_at in
       total (λ e. length (view.sent e) + length (view.received e)) (length network.edges)
+
+  -- the nodes of this graph, in other states, and its edges make the network that was dealt out
+  abbrev pub IsGraphOf : SharedNetwork t → Graph X t → Type 0
+  IsGraphOf network graph = IsSameNetwork t.behaviour (states_in network.nodes) network.edges (states_of graph) (edges_of graph)
+
+  -- each node of this graph has the state that it has in its share
+  abbrev pub HasStatesOf : SharedNetwork t → List (List (Placed X t)) → Graph X t → Type 0
+  HasStatesOf network dealt graph =
+      (deals : AreDealt network.share network.nodes dealt) → AreStates network.share network.nodes dealt deals (states_of graph)
 
 module _ {X Y : Type 0} {t : Ghosts X} {u : EndsGhosts Y} where
   -- what share s sees

@@ -1,13 +1,9 @@
 // Shares gathered into a graph again.
 ghost use Rattle.std.specs.Prelude.{◌≡◌, ◌<◌, length, IfOk};
 ghost use Rattle.flow_shares.specs.Deals.{lists_in, AreDealt};
-ghost use Rattle.flow_networks.specs.Places.{states_in};
-ghost use Rattle.flow_networks.specs.Graphs.{states_of, edges_of};
 ghost use Rattle.flow_networks.specs.Skeletons.{edges_in};
-ghost use Rattle.flow_networks.specs.Shapes.{IsSameNetwork};
-ghost use Rattle.flow_meetings.specs.Joints.{AreStates};
 ghost use Rattle.flow_meetings.specs.Deals.{nodes_in, ends_in};
-ghost use Rattle.flow_meetings.specs.SharedNetworks.{SharedNetwork};
+ghost use Rattle.flow_meetings.specs.SharedNetworks.{SharedNetwork, IsGraphOf, HasStatesOf};
 
 use flow_base::Transducer;
 use flow_messages::Ends;
@@ -33,11 +29,8 @@ pub fn gather_graph<T: Transducer + Drop, E: Ends + Drop>(
     requires edges { edges_in skeleton ≡ network.edges }
     requires deals { AreDealt network.share network.nodes (nodes_in shares.items) }
     ensures ends { IfOk result (λ made. made.1.items ≡ ends_in shares.items) }
-    ensures network { IfOk result (λ made. IsSameNetwork T.behaviour
-        (states_in network.nodes) network.edges (states_of made.0) (edges_of made.0)) }
-    ensures states { IfOk result (λ made. (deals : AreDealt network.share network.nodes
-        (nodes_in shares.items)) → AreStates network.share network.nodes
-        (nodes_in shares.items) deals (states_of made.0)) }
+    ensures network { IfOk result (λ made. IsGraphOf network made.0) }
+    ensures states { IfOk result (λ made. HasStatesOf network (nodes_in shares.items) made.0) }
 {
     let (lists, ends) = split(alloc, shares)?;
     let nodes = gather(alloc, lists, count, share)?;

@@ -1,7 +1,6 @@
 // The kinds of the edges of a graph.
 ghost use Rattle.std.specs.Prelude.{◌≡◌, IfOk};
-ghost use Rattle.flow_networks.specs.Graphs.{states_of, edges_of};
-ghost use Rattle.flow_meetings.specs.Open.{edge_kinds};
+ghost use Rattle.flow_meetings.specs.Open.{graph_kinds};
 
 use flow_base::Transducer;
 use flow_messages::Kind;
@@ -12,8 +11,7 @@ use std::alloc::{AllocError, Global};
 ///
 /// Its only error is that memory was refused.
 pub fn kinds_of<T: Transducer>(alloc: Global, graph: &Graph<T>) -> Result<Vec<Kind>, AllocError>
-    ensures { IfOk result (λ kinds. kinds.items ≡
-        edge_kinds T.behaviour (states_of graph.now) (edges_of graph.now)) }
+    ensures { IfOk result (λ kinds. kinds.items ≡ graph_kinds graph.now) }
 {
     let mut kinds = Vec::with_capacity(alloc, graph.edges())?;
     for number in 0..graph.edges() {

@@ -4,9 +4,9 @@ use flow_messages::Ends;
 /// Some ends of some edges. Two of such sets, or one alone, can have both ends of an edge, and these
 /// then can meet. A meeting takes no memory, and sends and receives nothing.
 pub trait Meeting: Ends {
-    ghost use Rattle.std.specs.Prelude.{◌≡◌, ◌≢◌, ◌++◌, ℕ, true};
+    ghost use Rattle.std.specs.Prelude.{◌≡◌, ◌≢◌, ℕ, true};
     ghost use Rattle.flow_lanes.specs.Rings.{Kept};
-    ghost use Rattle.flow_meetings.specs.Met.{Met};
+    ghost use Rattle.flow_meetings.specs.Met.{Met, HasArrived};
 
     /// The writer's end of this edge, which is in the first, and the reader's, which is in the second,
     /// are the two of one edge.
@@ -28,8 +28,7 @@ pub trait Meeting: Ends {
         ensures reader { meets edge other.old other.new }
         ensures joined { joins self.new other.new edge }
         ensures met { Met (Self.view self.new) (Self.view other.new) (slots self.new edge) edge }
-        ensures arrived { let at = Self.view other.new in
-            at.received edge ++ at.coming edge ≡ (Self.view self.new).sent edge };
+        ensures arrived { HasArrived (Self.view self.new) (Self.view other.new) edge };
 
     /// Both ends of the edge, which are here, meet.
     fn meet_own(&mut self, edge: usize)
@@ -37,8 +36,7 @@ pub trait Meeting: Ends {
         ensures meets { meets edge self.old self.new }
         ensures joined { joins self.new self.new edge }
         ensures met { Met (Self.view self.new) (Self.view self.new) (slots self.new edge) edge }
-        ensures arrived { let at = Self.view self.new in
-            at.received edge ++ at.coming edge ≡ at.sent edge };
+        ensures arrived { HasArrived (Self.view self.new) (Self.view self.new) edge };
 
     /// Ends that join are there.
     ghost join_ends: { (a b : Self) (e : ℕ) → joins a b e →

@@ -1,7 +1,7 @@
 // The two ends of every edge meet.
-ghost use Rattle.std.specs.Prelude.{◌≡◌, ◌<◌, ℕ, length, slice_index_or};
+ghost use Rattle.std.specs.Prelude.{◌<◌, length};
 ghost use Rattle.flow_lanes.specs.Rings.{Kept};
-ghost use Rattle.flow_meetings.specs.Met.{Met};
+ghost use Rattle.flow_meetings.specs.Everywhere.{EachOwner, EachBecame, SlotsStay, JoinsAt, JoinsEverywhere, HaveMetAt, HaveMetEverywhere};
 
 use crate::meeting::Meeting;
 use crate::owners::EdgeOwners;
@@ -10,14 +10,10 @@ use crate::owners::EdgeOwners;
 fn meet_edge<E: Meeting>(ends: &mut [E], owner: EdgeOwners, edge: usize)
     requires writer { owner.writer < length ends.old }
     requires reader { owner.reader < length ends.old }
-    requires joined { (d : _) → E.joins (slice_index_or ends.old owner.writer d)
-        (slice_index_or ends.old owner.reader d) edge }
-    ensures meets { (k : ℕ) (d : _) → k < length ends.old →
-        E.meets edge (slice_index_or ends.old k d) (slice_index_or ends.new k d) }
-    ensures joined { (d : _) → E.joins (slice_index_or ends.new owner.writer d)
-        (slice_index_or ends.new owner.reader d) edge }
-    ensures met { (d : _) → let a = slice_index_or ends.new owner.writer d in
-        Met (E.view a) (E.view (slice_index_or ends.new owner.reader d)) (E.slots a edge) edge }
+    requires joined { JoinsAt E.joins ends.old owner edge }
+    ensures meets { EachBecame (E.meets edge) ends.old ends.new }
+    ensures joined { JoinsAt E.joins ends.new owner edge }
+    ensures met { HaveMetAt E.view E.slots ends.new owner edge }
 {
     if owner.writer == owner.reader {
         ends[owner.writer].meet_own(edge);
@@ -33,28 +29,14 @@ fn meet_edge<E: Meeting>(ends: &mut [E], owner: EdgeOwners, edge: usize)
 /// The two ends of every edge meet. The ends are those of the shares, by their numbers, and the owners
 /// say of each edge, by its number, in which two shares its ends are.
 pub fn meet_all<E: Meeting>(ends: &mut [E], owners: &[EdgeOwners])
-    requires writers { (e : ℕ) (w : _) → e < length owners.now →
-        (slice_index_or owners.now e w).writer < length ends.old }
-    requires readers { (e : ℕ) (w : _) → e < length owners.now →
-        (slice_index_or owners.now e w).reader < length ends.old }
-    requires joined { (e : ℕ) (w : _) (d : _) → e < length owners.now →
-        let owner = slice_index_or owners.now e w in
-        E.joins (slice_index_or ends.old owner.writer d)
-        (slice_index_or ends.old owner.reader d) e }
-    ensures kept { (k : ℕ) (d : _) → k < length ends.old →
-        Kept (E.view (slice_index_or ends.old k d)) (E.view (slice_index_or ends.new k d)) }
-    ensures same { (k : ℕ) (d : _) → k < length ends.old →
-        E.stays (slice_index_or ends.old k d) (slice_index_or ends.new k d) }
-    ensures places { (k e : ℕ) (d : _) → k < length ends.old →
-        E.slots (slice_index_or ends.new k d) e ≡ E.slots (slice_index_or ends.old k d) e }
-    ensures joined { (e : ℕ) (w : _) (d : _) → e < length owners.now →
-        let owner = slice_index_or owners.now e w in
-        E.joins (slice_index_or ends.new owner.writer d)
-        (slice_index_or ends.new owner.reader d) e }
-    ensures met { (e : ℕ) (w : _) (d : _) → e < length owners.now →
-        let owner = slice_index_or owners.now e w in let a = slice_index_or ends.new
-        owner.writer d in Met (E.view a) (E.view (slice_index_or ends.new owner.reader d))
-        (E.slots a e) e }
+    requires writers { EachOwner (λ owner. owner.writer < length ends.old) owners.now }
+    requires readers { EachOwner (λ owner. owner.reader < length ends.old) owners.now }
+    requires joined { JoinsEverywhere E.joins ends.old owners.now }
+    ensures kept { EachBecame (λ a b. Kept (E.view a) (E.view b)) ends.old ends.new }
+    ensures same { EachBecame E.stays ends.old ends.new }
+    ensures places { SlotsStay E.slots ends.old ends.new }
+    ensures joined { JoinsEverywhere E.joins ends.new owners.now }
+    ensures met { HaveMetEverywhere E.view E.slots ends.new owners.now }
 {
     for edge in 0..owners.len() {
         meet_edge(ends, owners[edge], edge);

@@ -5,9 +5,9 @@ use std::alloc::{AllocError, Global};
 
 /// Some ends of some edges. Both ends of an edge can be opened in one of such sets, or each in one of two.
 pub trait Opening: Meeting {
-    ghost use Rattle.std.specs.Prelude.{◌≡◌, ◌≢◌, ℕ, ◌<◌, ◌≤◌, true, false, IfOk, OnOk};
+    ghost use Rattle.std.specs.Prelude.{◌≡◌, ◌≢◌, ℕ, ◌<◌, ◌≤◌, false, IfOk, OnOk};
     ghost use Rattle.flow_messages.specs.Limits.{greatest_capacity};
-    ghost use Rattle.flow_meetings.specs.Opens.{OpensAt};
+    ghost use Rattle.flow_meetings.specs.Opens.{IsWithoutEnds, HasPlaces, BringsWriter, BringsReader, BringsBoth};
 
     /// Ends of this edge can be here, if it is to hold so many messages at most.
     ghost has_place: { Self → ℕ → ℕ → Type 0 };
@@ -18,9 +18,8 @@ pub trait Opening: Meeting {
     /// No end is there, and there is a place for those of each edge with a number below `edges` that is to hold
     /// `capacity` messages at most. Its only error is that memory was refused.
     fn none(alloc: Global, edges: usize, capacity: usize) -> Result<Self, AllocError>
-        ensures place { IfOk result (λ ends. (e : ℕ) → e < edges → has_place ends e capacity) }
-        ensures none { IfOk result (λ ends. (e : ℕ) → ((Self.view ends).writes e ≡ false) ×
-            ((Self.view ends).reads e ≡ false)) };
+        ensures place { IfOk result (HasPlaces has_place edges capacity) }
+        ensures none { IfOk result (λ ends. IsWithoutEnds (Self.view ends)) };
 
     /// Opens an edge, the writer's end here and the reader's there. It takes all items of the kind, and holds at most
     /// `capacity` messages.
@@ -40,10 +39,10 @@ pub trait Opening: Meeting {
         requires reader_place { has_place other.old edge capacity }
         requires no_writer { (Self.view self.old).writes edge ≡ false }
         requires no_reader { (Self.view other.old).reads edge ≡ false }
-        ensures writer { OnOk result (opens edge self.old self.new ×
-            OpensAt edge kind capacity true false (Self.view self.old) (Self.view self.new)) }
-        ensures reader { OnOk result (opens edge other.old other.new ×
-            OpensAt edge kind capacity false true (Self.view other.old) (Self.view other.new)) }
+        ensures writer { OnOk result (BringsWriter opens Self.view edge kind capacity
+            self.old self.new) }
+        ensures reader { OnOk result (BringsReader opens Self.view edge kind capacity
+            other.old other.new) }
         ensures joined { OnOk result (Self.joins self.new other.new edge) }
         ensures places { OnOk result (Self.slots self.new edge ≡ capacity) };
 
@@ -62,8 +61,8 @@ pub trait Opening: Meeting {
         requires place { has_place self.old edge capacity }
         requires no_writer { (Self.view self.old).writes edge ≡ false }
         requires no_reader { (Self.view self.old).reads edge ≡ false }
-        ensures both { OnOk result (opens edge self.old self.new ×
-            OpensAt edge kind capacity true true (Self.view self.old) (Self.view self.new)) }
+        ensures both { OnOk result (BringsBoth opens Self.view edge kind capacity
+            self.old self.new) }
         ensures joined { OnOk result (Self.joins self.new self.new edge) }
         ensures places { OnOk result (Self.slots self.new edge ≡ capacity) };
 

@@ -1,9 +1,9 @@
 // All edges are opened.
-ghost use Rattle.std.specs.Prelude.{◌≡◌, ◌==◌, ℕ, ◌<◌, ◌≤◌, false, length, slice_index_or, IfOk, OnOk};
+ghost use Rattle.std.specs.Prelude.{◌≡◌, ◌<◌, ◌≤◌, false, length, IfOk, OnOk};
 ghost use Rattle.std.specs.List.{All};
 ghost use Rattle.flow_messages.specs.Limits.{greatest_capacity};
-ghost use Rattle.flow_meetings.specs.Opens.{OpensEdge};
-ghost use Rattle.flow_meetings.specs.Open.{AreFreshEnds};
+ghost use Rattle.flow_meetings.specs.Opens.{OpensEdge, IsWithoutEnds, HasPlaces};
+ghost use Rattle.flow_meetings.specs.Open.{AreOpenEnds};
 
 use crate::opening::Opening;
 use crate::owners::EdgeOwners;
@@ -27,8 +27,8 @@ pub fn open_all<E: Opening + Drop>(
     requires readers { All (λ owner. owner.reader < threads) owners.now }
     requires kinds { length kinds.now ≡ length owners.now }
     ensures count { IfOk result (λ ends. length ends.items ≡ threads) }
-    ensures opened { IfOk result (λ ends.
-        AreFreshEnds E.view E.joins E.slots owners.now kinds.now capacity ends.items) }
+    ensures opened { IfOk result (AreOpenEnds E.view E.joins E.slots owners.now
+        kinds.now capacity) }
 {
     let mut ends = no_ends(alloc, threads, owners.len(), capacity)?;
     for edge in 0..owners.len() {
@@ -45,10 +45,8 @@ fn no_ends<E: Opening + Drop>(
     capacity: usize,
 ) -> Result<Vec<E>, AllocError>
     ensures count { IfOk result (λ ends. length ends.items ≡ threads) }
-    ensures place { IfOk result (λ ends. All (λ a. (e : ℕ) → e < edges →
-        E.has_place a e capacity) ends.items) }
-    ensures none { IfOk result (λ ends. All (λ a. (e : ℕ) → ((E.view a).writes e ≡ false) ×
-        ((E.view a).reads e ≡ false)) ends.items) }
+    ensures place { IfOk result (λ ends. All (HasPlaces E.has_place edges capacity) ends.items) }
+    ensures none { IfOk result (λ ends. All (λ a. IsWithoutEnds (E.view a)) ends.items) }
 {
     let mut ends = Vec::with_capacity(alloc, threads)?;
     for _ in 0..threads {

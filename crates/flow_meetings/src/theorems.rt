@@ -1,42 +1,31 @@
 // What follows where ends have met, and what holds of shares that go on side by side. The functions do nothing: their
 // contracts are the theorems.
-ghost use Rattle.std.specs.Prelude.{◌≡◌, ℕ, ◌+◌, ◌≤◌, ◌++◌, length};
+ghost use Rattle.std.specs.Prelude.{◌≡◌};
 ghost use mathlib.Core.List.{IsPrefix};
-ghost use Rattle.flow_messages.specs.Ends.{View, held};
-ghost use Rattle.flow_boxes.specs.declared.boxes.Boxes.{Boxes as TheBoxes};
-ghost use Rattle.flow_boxes.specs.Contents.{contents, view_of};
-ghost use Rattle.flow_meetings.specs.Met.{Met};
+ghost use Rattle.flow_messages.specs.Ends.{held};
+ghost use Rattle.flow_boxes.specs.Contents.{view_of};
+ghost use Rattle.flow_meetings.specs.Met.{HasArrived, ComesOfSent, HoldsAtLeast, WhereMet};
 ghost use Rattle.flow_meetings.specs.RoundTheorems.{FreshSharesStart, MeetingIsSound, RoundIsARun, CalmRoundsRest, CalmRoundLeadsToRest, CarryingKeepsTheConfiguration};
 ghost use Rattle.flow_meetings.specs.EndTheorems.{OwnSharesAreSound, StuckSharesRest};
+ghost use Rattle.flow_meetings.specs.BoxMeetings.{RoomIsRest, WhereBoxesMet};
 
-use crate::meeting::Meeting;
 use flow_base::Transducer;
-use flow_boxes::Boxes;
 
 /// Where both ends of an edge have met, what was received is a prefix of what was sent, and all of
 /// it where the edge holds nothing. What was received and what is coming are what was sent, where no
 /// more is coming than was sent. Where there is no room, the edge is full.
 pub fn met_is_in_order()
-    ensures begins { (a b : View) (places e : ℕ) → Met a b places e →
-        IsPrefix (b.received e) (a.sent e) }
-    ensures none { (a b : View) (places e : ℕ) → Met a b places e → held b e ≡ 0 →
-        b.received e ≡ a.sent e }
-    ensures whole { (a b : View) (places e : ℕ) → Met a b places e →
-        length (b.received e) + held b e ≤ length (a.sent e) →
-        b.received e ++ b.coming e ≡ a.sent e }
-    ensures full { (a b : View) (places e : ℕ) → Met a b places e → a.room e ≡ 0 →
-        places + length (b.received e) ≤ length (a.sent e) }
+    ensures begins { WhereMet (λ a b slots e. IsPrefix (b.received e) (a.sent e)) }
+    ensures none { WhereMet (λ a b slots e. held b e ≡ 0 → b.received e ≡ a.sent e) }
+    ensures whole { WhereMet (λ a b slots e. ComesOfSent a b e → HasArrived a b e) }
+    ensures full { WhereMet (λ a b slots e. a.room e ≡ 0 → HoldsAtLeast a b slots e) }
 {}
 
 /// Where the boxes of an edge have met, what was received and what is coming are what was sent, and
 /// what is not held is room.
 pub fn boxes_are_level()
-    ensures arrived { (a b : TheBoxes) (e : ℕ) → ⟦<Boxes as Meeting>⟧.joins a b e →
-        Met (view_of a) (view_of b) (⟦<Boxes as Meeting>⟧.slots a e) e →
-        (view_of b).received e ++ (view_of b).coming e ≡ (view_of a).sent e }
-    ensures room { (a b : TheBoxes) (e : ℕ) → ⟦<Boxes as Meeting>⟧.joins a b e →
-        Met (view_of a) (view_of b) (⟦<Boxes as Meeting>⟧.slots a e) e →
-        (view_of a).room e + length ((view_of b).coming e) ≡ (contents a).capacity }
+    ensures arrived { WhereBoxesMet (λ a b e. HasArrived (view_of a) (view_of b) e) }
+    ensures room { WhereBoxesMet RoomIsRest }
 {}
 
 /// Where the nodes are in their opening states and nothing was sent, the shares are where their network starts.

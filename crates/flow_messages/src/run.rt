@@ -1,8 +1,11 @@
 // Items of one kind, side by side.
 ghost use Rattle.std.specs.Prelude.{◌≡◌, ◌+◌, ◌<◌, ◌≤◌, ◌==◌, [], ◌∷◌, ◌++◌, length, drop, IfOk, IfSome, IfNone};
-ghost use Rattle.std.specs.Vec.{vec_capacity};
+ghost use Rattle.std.specs.Vec.{vec_len, vec_capacity};
 
 use std::alloc::{AllocError, Global};
+
+// So many items and fewer are put one by one: to copy them as a block costs more.
+const FEW: usize = 8;
 
 /// Items side by side, the oldest first, and room for as many as `most`. Those that were taken lie before the others until no
 /// other is left, or the others move to the front.
@@ -79,6 +82,10 @@ impl<T: Copy + Drop> Run<T> {
         if self.items.len() + items.len() > self.most + self.most {
             self.move_down();
         }
+        if items.len() <= FEW {
+            push_each(&mut self.items, items);
+            return;
+        }
         let _fits = self.items.extend_from_slice(items);
     }
 
@@ -123,5 +130,17 @@ impl<T: Copy + Drop> Run<T> {
         self.items.copy_within(self.taken.., 0);
         self.items.truncate(left);
         self.taken = 0;
+    }
+}
+
+// Puts these items after those of a vector, one by one, where their room is reserved.
+#[inline(always)]
+fn push_each<T: Copy + Drop>(items: &mut Vec<T>, more: &[T])
+    requires room { vec_len items.old + length more.now ≤ vec_capacity items.old }
+    ensures items { items.new.items ≡ items.old.items ++ more.now }
+    ensures capacity { vec_capacity items.new ≡ vec_capacity items.old }
+{
+    for at in 0..more.len() {
+        items.push_reserved(more[at]);
     }
 }

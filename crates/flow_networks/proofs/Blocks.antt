@@ -7,7 +7,7 @@ use Rattle.std.proofs.lemmas.List.Elements.{All-nil, All-cons}
 use mathlib.Core.List.{IsPrefix}
 use mathlib.Core.Logic.{∥∥₁_elim}
 use Rattle.kahn.specs.declared.want.Want.TheVariants.{Read, Write}
-use Rattle.kahn.specs.Processes.{Process, Event, Reads, Writes, Does, HasEnd, IsLawful, reads, writes}
+use Rattle.kahn.specs.Processes.{Process, Event, Reads, Writes, Does, HasEnd, IsLawfulProcess, reads, writes}
 use Rattle.kahn.proofs.History.{does_then, writes_push, writes_push_other, writes_push_read}
 use Rattle.flow_messages.specs.declared.flat.Flat.{Flat}
 use Rattle.flow_messages.specs.declared.flat.Flat.TheVariants.{Unit as UnitFlat, Bool as BoolFlat, Int as IntFlat, End as EndFlat}
@@ -155,7 +155,7 @@ module _ {S : Type 0} (b : Behaviour S) (laws : BehaviourLaws b) where
   abbrev InOrder : ℕ → List (Event Signal) → List (Event Signal) → Type 0
   InOrder q before h = (orderly (writes q h) ≡ true) × (ended (writes q before) ≡ true → writes q h ≡ [])
 
-  no_end_yet : (before : List (Event Signal)) (o s : S) (q : ℕ) → IsLawful b.process o (b.inputs o) (b.outputs o) → Does b.process o before s → b.process.want s ≡ Write q → ended (writes q before) ≡ true → ⊥
+  no_end_yet : (before : List (Event Signal)) (o s : S) (q : ℕ) → IsLawfulProcess b.process o (b.inputs o) (b.outputs o) → Does b.process o before s → b.process.want s ≡ Write q → ended (writes q before) ≡ true → ⊥
   no_end_yet before o s q lawful did wants shut = lawful.open_out before s q did wants (ended_has b.process laws.end (writes q before) shut)
 
   ends_with : (ms : List Signal) → ended (ms ++ stop ∷ []) ≡ true
@@ -175,7 +175,7 @@ module _ {S : Type 0} (b : Behaviour S) (laws : BehaviourLaws b) where
   orderly_one (carry x) ms rest last none = last
   orderly_one stop ms rest last none = ap (λ l. orderly (stop ∷ l)) (none (ends_with ms))
 
-  in_order_one : (q p : ℕ) (o : S) → IsLawful b.process o (b.inputs o) (b.outputs o) → (before : List (Event Signal)) (m : Signal) (h : List (Event Signal)) (s : S) → Does b.process o before s → b.process.want s ≡ Write p → InOrder q (before ++ Writes p m ∷ []) h → (q ≡ p) ⊎ (q ≢ p) → InOrder q before (Writes p m ∷ h)
+  in_order_one : (q p : ℕ) (o : S) → IsLawfulProcess b.process o (b.inputs o) (b.outputs o) → (before : List (Event Signal)) (m : Signal) (h : List (Event Signal)) (s : S) → Does b.process o before s → b.process.want s ≡ Write p → InOrder q (before ++ Writes p m ∷ []) h → (q ≡ p) ⊎ (q ≢ p) → InOrder q before (Writes p m ∷ h)
   in_order_one q p o lawful before m h s did wants more (inl same) =
       let pushed = writes_push q p m before same in
       let now : writes q (Writes p m ∷ h) ≡ m ∷ writes q h = ap (λ c. cond c (m ∷ writes q h) (writes q h)) (eq-eqb q p same) in
@@ -184,7 +184,7 @@ module _ {S : Type 0} (b : Behaviour S) (laws : BehaviourLaws b) where
       let now : writes q (Writes p m ∷ h) ≡ writes q h = ap (λ c. cond c (m ∷ writes q h) (writes q h)) (ne_eqb q p other) in
       (ap orderly now ∙ more.0, λ shut. now ∙ more.1 (ap ended (writes_push_other q p m before other) ∙ shut))
 
-  in_order : (q : ℕ) (o : S) → IsLawful b.process o (b.inputs o) (b.outputs o) → (before h : List (Event Signal)) (s t : S) → Does b.process o before s → Does b.process s h t → InOrder q before h
+  in_order : (q : ℕ) (o : S) → IsLawfulProcess b.process o (b.inputs o) (b.outputs o) → (before h : List (Event Signal)) (s t : S) → Does b.process o before s → Does b.process s h t → InOrder q before h
   unfolding orderly
   in_order q o lawful before [] s t did does = (refl, λ shut. refl)
   in_order q o lawful before (Reads p m ∷ h) s t did (wants, does) =

@@ -3,7 +3,7 @@ use Rattle.std.proofs.Common.{◌≡◌, ℕ, ◌<◌, Bool, false, cond, eqb, L
 use Rattle.std.specs.declared.alloc.AllocError.{AllocError}
 use Rattle.std.proofs.lemmas.Bool.{cases_eq, cases_Bool}
 use Rattle.kahn.specs.declared.want.Want.TheVariants.{Read, Write}
-use Rattle.kahn.specs.Processes.{Process, Event, Reads, Writes, Does, HasEnd, IsLawful, reads, writes}
+use Rattle.kahn.specs.Processes.{Process, Event, Reads, Writes, Does, HasEnd, IsLawfulProcess, reads, writes}
 use Rattle.kahn.specs.Networks.{Network, IsWired}
 use Rattle.kahn.proofs.History.{does_then, writes_push, writes_push_other, writes_push_read}
 use Rattle.flow_messages.specs.Signals.{Signal, stop, ended}
@@ -27,7 +27,7 @@ same_test e f p q to from = go (cases_eq e f)
     go (inl same) = eq-eqb e f same ∙ sym (eq-eqb p q (to same))
     go (inr other) = ne_eqb e f other ∙ sym (ne_eqb p q (λ h. other (from h)))
 
-module _ {S : Type 0} (P : Process S Signal) (is_end : P.end ≡ stop) (net : Network S) (wired : IsWired net) (k : ℕ) (inside : k < net.nodes) (lawful : IsLawful P (net.opening k) (net.inputs k) (net.outputs k))
+module _ {S : Type 0} (P : Process S Signal) (is_end : P.end ≡ stop) (net : Network S) (wired : IsWired net) (k : ℕ) (inside : k < net.nodes) (lawful : IsLawfulProcess P (net.opening k) (net.inputs k) (net.outputs k))
     (into from : ℕ → ℕ) (into_is : (p : ℕ) → p < net.inputs k → into p ≡ net.in_edge k p) (from_is : (q : ℕ) → q < net.outputs k → from q ≡ net.out_edge k q) where
   -- the edge at an input port that the node wants to read, and at an output port that it wants to write
   place_in : (before : List (Event Signal)) (s : S) (p : ℕ) → Does P (net.opening k) before s → P.want s ≡ Read p → (into p < net.edges) × (net.reader (into p) ≡ k) × (net.reader_port (into p) ≡ p)

@@ -5,7 +5,7 @@ use Rattle.std.proofs.lemmas.List.Elements.{All-get_or}
 use Rattle.kahn.specs.Processes.{Does, RunsToEnd, reads, writes}
 use Rattle.kahn.specs.Networks.{Network}
 use Rattle.kahn.specs.Configurations.{Configuration, IsReached, IsSound, IsComplete}
-use Rattle.kahn.specs.Traffic.{Carries, Completes}
+use Rattle.kahn.specs.Traffic.{IsTraffic, Completes}
 use Rattle.kahn.proofs.Conclusions.{carries_from_nodes, one_traffic, same_traffic, all_received, never_stalls, runs_are_sound}
 use Rattle.flow_messages.specs.Cells.{Cell}
 use Rattle.flow_messages.specs.Signals.{Signal, carry, stop}
@@ -144,7 +144,7 @@ module _ {S : Type 0} (b : Behaviour S) (laws : BehaviourLaws b) (states : List 
 
   pub one_flow : OneFlow b states edges
   one_flow one other flow flow' e inside =
-      let carried : Carries b.process net (λ f. closed (one f)) = flow_is_carried one flow in
+      let carried : IsTraffic b.process net (λ f. closed (one f)) = flow_is_carried one flow in
       same_bodies (one e) (other e) ((ended_has_flow other flow' (record { state = carried.0; sent = λ f. closed (one f); received = λ f. closed (one f) }) carried.1 e inside).0)
 
   module _ (c : Configuration S Signal) (all : IsComplete b.process net c) where

@@ -1,7 +1,7 @@
 -- A graph is a network of lawful processes.
 use Rattle.std.proofs.Common.{◌≡◌, ℕ, suc, List, [], ◌∷◌, length, map, Option, Some, refl, sym, ◌∙◌, ap, subst, arith}
 use Rattle.std.proofs.lemmas.List.{get_or-map}
-use Rattle.kahn.specs.Processes.{IsLawful}
+use Rattle.kahn.specs.Processes.{IsLawfulProcess}
 use Rattle.kahn.specs.Networks.{IsWired, AllLawful}
 use Rattle.kahn.specs.Configurations.{start}
 use Rattle.flow_messages.specs.Ends.{View}
@@ -51,8 +51,8 @@ module _ {S : Type 0} (b : Behaviour S) (states : List S) (edges : List Edge) wh
       let i : b.inputs (b.opening s) ≡ inputs_at b states k = laws.same_inputs s ∙ sym (get_or-map b.inputs states k b.sample 0 l) in
       let o : b.outputs (b.opening s) ≡ outputs_at b states k = laws.same_outputs s ∙ sym (get_or-map b.outputs states k b.sample 0 l) in
       let lawful = (laws.opened (b.opening s) (laws.same_opening s)).lawful in
-      let with_ports : IsLawful b.process (b.opening s) (inputs_at b states k) (outputs_at b states k) = subst (λ n. IsLawful b.process (b.opening s) n (outputs_at b states k)) i (subst (λ n. IsLawful b.process (b.opening s) (b.inputs (b.opening s)) n) o lawful) in
-      subst (λ t. IsLawful b.process t (inputs_at b states k) (outputs_at b states k)) (sym (get_or-map b.opening states k b.sample b.sample l)) with_ports
+      let with_ports : IsLawfulProcess b.process (b.opening s) (inputs_at b states k) (outputs_at b states k) = subst (λ n. IsLawfulProcess b.process (b.opening s) n (outputs_at b states k)) i (subst (λ n. IsLawfulProcess b.process (b.opening s) (b.inputs (b.opening s)) n) o lawful) in
+      subst (λ t. IsLawfulProcess b.process t (inputs_at b states k) (outputs_at b states k)) (sym (get_or-map b.opening states k b.sample b.sample l)) with_ports
 
 -- the same of a graph
 module _ {X : Type 0} {t : Ghosts X} (graph : Graph X t) where

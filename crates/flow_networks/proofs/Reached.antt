@@ -5,7 +5,7 @@ use mathlib.Core.Logic.{∥∥₁_elim, ∥∥₁_map}
 use native.Mathlib.Bridge.{le_prop}
 use Rattle.kahn.specs.declared.want.Want.{Want}
 use Rattle.kahn.specs.declared.want.Want.TheVariants.{Read, Write, Ended, Faulted}
-use Rattle.kahn.specs.Processes.{Event, Does, Reads, Writes, IsLawful}
+use Rattle.kahn.specs.Processes.{Event, Does, Reads, Writes, IsLawfulProcess}
 use Rattle.kahn.specs.Networks.{IsWired}
 use Rattle.kahn.proofs.History.{does_then}
 use Rattle.flow_messages.specs.Signals.{Signal}
@@ -56,7 +56,7 @@ module _ {S : Type 0} (b : Behaviour S) (laws : BehaviourLaws b) where
     subst (λ o. Does b.process o (h ++ Writes q (b.process.written s) ∷ []) s') (sym (opening_wrote s s' q wants is)) (does_then b.process (b.opening s) s s' h (Writes q (b.process.written s) ∷ []) does (wants, refl, sym is)),
   ))
 
-  lawful_at : (s : S) → IsLawful b.process (b.opening s) (b.inputs (b.opening s)) (b.outputs (b.opening s))
+  lawful_at : (s : S) → IsLawfulProcess b.process (b.opening s) (b.inputs (b.opening s)) (b.outputs (b.opening s))
   lawful_at s = (laws.opened (b.opening s) (laws.same_opening s)).lawful
 
   -- a node wants only ports that it has

@@ -11,7 +11,7 @@ use Rattle.flow_messages.specs.Ends.{View}
 use Rattle.flow_messages.specs.Signals.{Signal}
 use Rattle.flow_base.specs.declared.transducer.Transducer.{Ghosts}
 use Rattle.flow_networks.specs.declared.graph.Graph.{Graph}
-use Rattle.flow_networks.specs.declared.step.Moved.{Moved}
+use Rattle.flow_networks.specs.declared.step.Stepped.{Stepped}
 use Rattle.flow_networks.specs.Graphs.{states_of, edges_of}
 use Rattle.flow_networks.specs.MaximalRuns.{RunReaches}
 use Rattle.flow_networks.specs.Networks.{network_of, configuration_of}
@@ -27,7 +27,7 @@ turn_reaches P net limit k c d false turn = ([], sym turn.0)
 
 -- a run goes on by a turn of a node
 module _ {X Y : Type 0} {t : Ghosts X} (Same : Y → Y → Type 0) (view : Y → View) (capacity : Y → ℕ) (even : (x y : Y) → Same x y → capacity y ≡ capacity x) (g : Graph X t) (e : Y) (g' : Graph X t) (e' : Y) (g'' : Graph X t) (e'' : Y) where
-  pub turn_reached : KeepsShape Same view g e g' e' → RunReaches (capacity e) g g' (view e') → (node : ℕ) (moved : Moved) → TurnsNetwork view node g' e' g'' e'' (capacity e') moved → RunReaches (capacity e) g g'' (view e'')
+  pub turn_reached : KeepsShape Same view g e g' e' → RunReaches (capacity e) g g' (view e') → (node : ℕ) (moved : Stepped) → TurnsNetwork view node g' e' g'' e'' (capacity e') moved → RunReaches (capacity e) g g'' (view e'')
   turn_reached shape reached node moved turn =
       reaches_then P net (Some (capacity e)) (start net) c d reached goes
     where

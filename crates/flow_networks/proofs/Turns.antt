@@ -21,14 +21,14 @@ use Rattle.flow_base.specs.declared.transducer.Transducer.{Ghosts}
 use Rattle.std.specs.declared.alloc.AllocError.{AllocError}
 use Rattle.flow_networks.specs.declared.edge.Edge.{Edge}
 use Rattle.flow_networks.specs.declared.graph.Graph.{Graph}
-use Rattle.flow_networks.specs.declared.step.Moved.{Moved}
-use Rattle.flow_networks.specs.declared.step.Moved.TheVariants.{One, Nothing}
+use Rattle.flow_networks.specs.declared.step.Stepped.{Stepped}
+use Rattle.flow_networks.specs.declared.step.Stepped.TheVariants.{One, Nothing}
 use Rattle.flow_networks.specs.Edges.{in_edge, out_edge}
 use Rattle.flow_networks.specs.Networks.{state_at, inputs_at, outputs_at, SameBut, HasEnds, network_of, configuration_of}
 use Rattle.flow_networks.specs.Graphs.{states_of, edges_of}
 use Rattle.flow_networks.proofs.Nets.{graph_wired, graph_lawful}
 use Rattle.flow_networks.proofs.Looks.{put_looked}
-use Rattle.flow_networks.specs.Steps.{Moves, Stays, Steps, is_one}
+use Rattle.flow_networks.specs.Steps.{Moves, Stays, TurnAnswers, is_one}
 use Rattle.flow_networks.specs.Turns.{TakesTurn, TurnsNetwork}
 
 -- a list with a stop has the end
@@ -124,7 +124,7 @@ module _ {S : Type 0} (b : Behaviour S) (laws : BehaviourLaws b) (states : List 
     stays (Faulted fault) wants (is, same) =
         (same_as_before is (record { sent = λ k. ap (λ (x : View). x.sent k) same; received = λ k. ap (λ (x : View). x.received k) same }), idles (λ p h. let x : Faulted fault ≡ Read p = sym wants ∙ h in cc) (λ q h. let x : Faulted fault ≡ Write q = sym wants ∙ h in cc))
 
-    pub turn_of : (moved : Moved) → Steps b edges node s s' a v (Ok moved) → Turn b.process net (Some capacity) node c d (is_one moved)
+    pub turn_of : (moved : Stepped) → TurnAnswers b edges node s s' a v (Ok moved) → Turn b.process net (Some capacity) node c d (is_one moved)
     turn_of One h = moves (b.process.want s) refl h
     turn_of Nothing h = stays (b.process.want s) refl h
 
@@ -132,13 +132,13 @@ module _ {S : Type 0} (b : Behaviour S) (laws : BehaviourLaws b) (states : List 
     sound_turn true (event, at, can, is) = subst (IsSound b.process net) (sym is) (sound_next b.process net wired (Some capacity) c event sound can)
     sound_turn false (is, none) = subst (IsSound b.process net) (sym is) sound
 
-    pub sound_after : (moved : Moved) → Steps b edges node s s' a v (Ok moved) → IsSound b.process net d
+    pub sound_after : (moved : Stepped) → TurnAnswers b edges node s s' a v (Ok moved) → IsSound b.process net d
     sound_after moved h = sound_turn (is_one moved) (turn_of moved h)
 
 -- one turn over both ends of each edge, by its answer
 module _ {X Y : Type 0} {t : Ghosts X} (laws : BehaviourLaws t.behaviour) (view : Y → View) (node : ℕ) (graph : Graph X t) (ends : Y) (graph' : Graph X t) (ends' : Y) (inside : node < length (states_of graph)) (there : HasEnds t.behaviour (states_of graph) (edges_of graph) node (view ends))
     (capacity : ℕ) (whole : IsWhole capacity (view ends)) (whole' : IsWhole capacity (view ends')) where
-  pub turns_network : (r : Result Moved AllocError) → TakesTurn view node graph ends graph' ends' r → IfOk r (λ moved. TurnsNetwork view node graph ends graph' ends' capacity moved)
+  pub turns_network : (r : Result Stepped AllocError) → TakesTurn view node graph ends graph' ends' r → IfOk r (λ moved. TurnsNetwork view node graph ends graph' ends' capacity moved)
   turns_network (Err e) taken = tt
   turns_network (Ok moved) taken = record {
     turn = λ sound. turn_of t.behaviour laws (states_of graph) (edges_of graph) (graph_wired graph) (graph_lawful graph laws) node inside (states_of graph') capacity (view ends) (view ends') taken.others whole whole' there sound moved taken.step;

@@ -1,5 +1,5 @@
 -- What a block of scalar messages makes of a node and of the edges at its ports.
-use Rattle.std.specs.Prelude.{◌≡◌, ◌≢◌, ℕ, ◌<◌, ◌≤◌, true, cond, List, [], ◌++◌, length}
+use Rattle.std.specs.Prelude.{◌≡◌, ◌≢◌, ℕ, ◌<◌, ◌≤◌, true, cond, List, [], ◌++◌, length, Option}
 use Rattle.std.specs.List.{All}
 use mathlib.Core.List.{IsPrefix}
 use Rattle.kahn.specs.Processes.{Event, Does, reads, writes}
@@ -11,7 +11,7 @@ use Rattle.flow_messages.specs.Kinds.{FitsEdge}
 use Rattle.flow_messages.specs.Ends.{View, SameEnds}
 use Rattle.flow_base.specs.Transducers.{Behaviour}
 use Rattle.flow_base.specs.Passing.{MayCome}
-use Rattle.flow_base.specs.Visits.{edge_of, Went}
+use Rattle.flow_base.specs.Visits.{edge_of, LeavesAlone, Went}
 use Rattle.flow_networks.specs.declared.edge.Edge.{Edge}
 use Rattle.flow_networks.specs.Edges.{in_edge, out_edge}
 use Rattle.flow_networks.specs.Networks.{state_at, inputs_at, outputs_at, SameBut}
@@ -24,6 +24,22 @@ AreApart edges = (p q : ℕ) → p < length edges → q < length edges → edge_
 pub record ComeNext (k : Kind) (c ms : List Signal) : Type 0 where
   pub first : IsPrefix ms c
   pub may_come : MayCome k ms
+
+-- these come next where c is certain, at a port of whatever kind
+abbrev pub ComeNextAtAny : List Signal → List Signal → Type 0
+ComeNextAtAny c ms = (k : Kind) → ComeNext k c ms
+
+-- an edge of this kind takes each message of the block
+abbrev pub BlockFitsEdge : Option Kind → List Flat → Type 0
+BlockFitsEdge k block = All (λ x. FitsEdge k (signal_of (message_of x))) block
+
+-- each of these edges is certain to have room for so many messages
+abbrev pub HaveRoomFor : List ℕ → ℕ → View → Type 0
+HaveRoomFor edges n v = (q : ℕ) → q < length edges → n ≤ v.room (edge_of edges q)
+
+-- nothing was sent or received, and no end is certain of more but for room on these edges
+abbrev pub OnlySeesRoom : List ℕ → View → View → Type 0
+OnlySeesRoom edges a v = (inputs : List ℕ) → LeavesAlone inputs edges a v
 
 -- each edge takes all of the block, and is certain to have room for it
 pub record MayTake (edges : List ℕ) (block : List Flat) (v : View) : Type 0 where
@@ -41,6 +57,10 @@ pub record PutOnFirst (edges : List ℕ) (n : ℕ) (ms : List Signal) (a v : Vie
   pub received : (e : ℕ) → v.received e ≡ a.received e
   pub coming : (e : ℕ) → IsPrefix (a.coming e) (v.coming e)
 
+-- the block was put on each of these edges, unless it had ended
+abbrev pub PutOnAll : List ℕ → List Flat → View → View → Type 0
+PutOnAll edges block a v = PutOnFirst edges (length edges) (flat_signals block) a v
+
 module _ {S : Type 0} (b : Behaviour S) where
   -- From s to t it read these messages at its first port and none at another, and wrote these to each output, in so many steps.
   pub record InBlock (s : S) (read : List Signal) (t : S) (written : List Signal) (steps : ℕ) : Type 0 where
@@ -50,6 +70,10 @@ module _ {S : Type 0} (b : Behaviour S) where
     pub no_others : (p : ℕ) → p ≢ 0 → reads p history ≡ []
     pub writes_are : (q : ℕ) → q < b.outputs s → writes q history ≡ written
     pub counts : length history ≡ steps
+
+  -- from s to t it read nothing and wrote just this block, in as many steps as it has messages
+  abbrev pub DrawsBlock : S → S → List Flat → Type 0
+  DrawsBlock s t block = InBlock s [] t (flat_signals block) (length block)
 
   -- The node made just so many steps over the edges at its ports, and the other nodes stand where they stood.
   pub record MovesBlock (node : ℕ) (edges : List Edge) (states : List S) (view : View) (states' : List S) (view' : View) (steps : ℕ) : Type 0 where

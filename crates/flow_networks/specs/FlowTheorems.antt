@@ -5,7 +5,7 @@ use Rattle.kahn.specs.Processes.{Event}
 use Rattle.kahn.specs.Networks.{Network}
 use Rattle.kahn.specs.Configurations.{Configuration, start, IsSound, AllEnded, NoneFaulted, IsComplete}
 use Rattle.kahn.specs.Runs.{Run, AtRest, Maximal}
-use Rattle.kahn.specs.Traffic.{Carries}
+use Rattle.kahn.specs.Traffic.{IsTraffic}
 use Rattle.flow_messages.specs.Cells.{Cell}
 use Rattle.flow_messages.specs.Signals.{Signal}
 use Rattle.flow_base.specs.Transducers.{Behaviour, closed}
@@ -28,7 +28,7 @@ module _ {S : Type 0} (b : Behaviour S) (states : List S) (edges : List Edge) wh
 
   -- the network carries a lawful flow: on each edge the closed list of its body
   abbrev pub FlowIsCarried : Type 0
-  FlowIsCarried = (bodies : ℕ → List Cell) → IsLawfulFlow b states edges bodies → Carries b.process net (λ e. closed (bodies e))
+  FlowIsCarried = (bodies : ℕ → List Cell) → IsLawfulFlow b states edges bodies → IsTraffic b.process net (λ e. closed (bodies e))
 
   -- each sound configuration has prefixes of a lawful flow on all edges, and no fault
   abbrev pub FlowIsBegun : Type 0

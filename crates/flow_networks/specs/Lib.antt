@@ -5,7 +5,10 @@ pub mod Limits
 pub mod Places
 pub mod Laws
 pub mod Kept
+pub mod Wirings
 pub mod Graphs
+pub mod Standing
+pub mod InPlace
 pub mod Skeletons
 pub mod Steps
 pub mod Shapes
@@ -13,6 +16,7 @@ pub mod Turns
 pub mod Visits
 pub mod Blocks
 pub mod Over
+pub mod Dropping
 pub mod MaximalRuns
 pub mod Alike
 pub mod Schedules

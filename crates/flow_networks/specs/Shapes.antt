@@ -1,10 +1,12 @@
 -- What steps of a graph over the ends of its edges leave as it was.
-use Rattle.std.specs.Prelude.{◌≡◌, List, length}
+use Rattle.std.specs.Prelude.{◌≡◌, List, length, map}
 use Rattle.flow_messages.specs.Ends.{View, SameEnds}
 use Rattle.flow_base.specs.Transducers.{Behaviour}
 use Rattle.flow_base.specs.declared.transducer.Transducer.{Ghosts}
 use Rattle.flow_networks.specs.declared.edge.Edge.{Edge}
 use Rattle.flow_networks.specs.declared.graph.Graph.{Graph}
+use Rattle.flow_networks.specs.declared.placed.Placed.{Placed}
+use Rattle.flow_networks.specs.Places.{states_in}
 use Rattle.flow_networks.specs.Graphs.{states_of, edges_of}
 use Rattle.flow_networks.specs.Networks.{network_of}
 
@@ -16,6 +18,12 @@ pub record IsSameNetwork {S : Type 0} (b : Behaviour S) (states : List S) (edges
   pub same_edges : edges' ≡ edges
   -- and so is the network
   pub network : network_of b states' edges' ≡ network_of b states edges
+
+-- it makes the network of all nodes that opened as these did
+abbrev pub IsNetworkOfAlike : {X : Type 0} {t : Ghosts X} → List (Placed X t) → List Edge → Graph X t → Type 0
+IsNetworkOfAlike {X} {t} nodes edges graph =
+    (states : List t.State) → map t.behaviour.opening (states_in nodes) ≡ map t.behaviour.opening states
+    → IsSameNetwork t.behaviour states edges (states_of graph) (edges_of graph)
 
 -- A graph and its ends were left in shape: what changed is where the nodes stand, and what is on the edges.
 pub record KeepsShape {X Y : Type 0} {t : Ghosts X} (Same : Y → Y → Type 0) (view : Y → View) (graph : Graph X t) (before : Y) (graph' : Graph X t) (after : Y) : Type 0 where

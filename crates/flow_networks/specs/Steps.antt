@@ -7,8 +7,8 @@ use Rattle.flow_messages.specs.Signals.{Signal, ended}
 use Rattle.flow_messages.specs.Ends.{View, held, LookedForRoom, LookedForMessages, Put, Taken}
 use Rattle.flow_base.specs.Transducers.{Behaviour}
 use Rattle.flow_networks.specs.declared.edge.Edge.{Edge}
-use Rattle.flow_networks.specs.declared.step.Moved.{Moved}
-use Rattle.flow_networks.specs.declared.step.Moved.TheVariants.{One, Nothing}
+use Rattle.flow_networks.specs.declared.step.Stepped.{Stepped}
+use Rattle.flow_networks.specs.declared.step.Stepped.TheVariants.{One, Nothing}
 use Rattle.flow_networks.specs.Edges.{in_edge, out_edge}
 
 -- m was put on edge e, where room for it was certain
@@ -44,12 +44,12 @@ module _ {S : Type 0} (b : Behaviour S) (edges : List Edge) (node : ℕ) (s s' :
   Breaks (Faulted fault) = ⊥
 
   -- what came of the node's turn, by its answer. Memory is refused only where the step may take memory
-  abbrev pub Steps : Result Moved AllocError → Type 0
-  Steps (Ok One) = Moves (b.process.want s)
-  Steps (Ok Nothing) = Stays (b.process.want s)
-  Steps (Err error) = (b.takes_memory s ≡ true) × Breaks (b.process.want s)
+  abbrev pub TurnAnswers : Result Stepped AllocError → Type 0
+  TurnAnswers (Ok One) = Moves (b.process.want s)
+  TurnAnswers (Ok Nothing) = Stays (b.process.want s)
+  TurnAnswers (Err error) = (b.takes_memory s ≡ true) × Breaks (b.process.want s)
 
 -- whether something moved
-abbrev pub is_one : Moved → Bool
+abbrev pub is_one : Stepped → Bool
 is_one One = true
 is_one Nothing = false

@@ -1,18 +1,18 @@
 // Steps of nodes in blocks of scalar messages.
-ghost use Rattle.std.specs.Prelude.{◌≡◌, ◌≢◌, ℕ, List, [], ◌<◌, ◌≤◌, true, length};
+ghost use Rattle.std.specs.Prelude.{◌≡◌, ◌≢◌, ◌<◌, ◌≤◌, true, length};
 ghost use Rattle.std.specs.List.{All};
-ghost use Rattle.arrayvec.specs.ArrayVec.{array_vec_len};
 ghost use Rattle.flow_messages.specs.declared.message.Kind.TheVariants.{Vec as VecKind};
-ghost use Rattle.flow_messages.specs.Signals.{signal_of, orderly};
-ghost use Rattle.flow_messages.specs.Flats.{message_of, flat_signals};
-ghost use Rattle.flow_messages.specs.Kinds.{FitsEdge};
+ghost use Rattle.flow_messages.specs.Signals.{orderly};
+ghost use Rattle.flow_messages.specs.Flats.{flat_signals};
 ghost use Rattle.flow_messages.specs.Ends.{SameEnds, PutAll};
-ghost use Rattle.flow_base.specs.Visits.{edge_of, LeavesAlone, Went, TakeKinds, IsPlaced, IsReached};
-ghost use Rattle.flow_networks.specs.Blocks.{AreApart, MayTake, PutOnFirst, InBlock, MovesBlock};
-ghost use Rattle.flow_networks.specs.Networks.{HasEnds, EdgesTake};
-ghost use Rattle.flow_networks.specs.Graphs.{states_of, edges_of};
-ghost use Rattle.flow_networks.specs.Places.{placed_state, IsSamePlace};
+ghost use Rattle.flow_base.specs.Visits.{Went, IsPlaced, IsReached};
+ghost use Rattle.flow_networks.specs.Blocks.{AreApart, MayTake, BlockFitsEdge, HaveRoomFor, OnlySeesRoom, PutOnAll, DrawsBlock};
+ghost use Rattle.flow_networks.specs.Graphs.{states_of};
+ghost use Rattle.flow_networks.specs.Places.{IsSamePlace};
 ghost use Rattle.flow_networks.specs.Shapes.{KeepsShape};
+ghost use Rattle.flow_networks.specs.Standing.{NodeHasEnds, NodeEdgesTake};
+ghost use Rattle.flow_networks.specs.InPlace.{PlaceTakesKinds, PlaceWent};
+ghost use Rattle.flow_networks.specs.Turns.{MovesInBlock};
 
 use crate::graph::Graph;
 use crate::placed::Placed;
@@ -26,10 +26,8 @@ fn least_space<E: Ends>(ends: &mut E, edges: &[usize], most: usize) -> usize
     requires { All (λ e. (E.view ends.old).writes e ≡ true) edges.now }
     ensures same { E.same ends.old ends.new }
     ensures ends { SameEnds (E.view ends.old) (E.view ends.new) }
-    ensures looked { (inputs : List ℕ) →
-        LeavesAlone inputs edges.now (E.view ends.old) (E.view ends.new) }
-    ensures room { (q : ℕ) → q < length edges.now →
-        result ≤ (E.view ends.new).room (edge_of edges.now q) }
+    ensures looked { OnlySeesRoom edges.now (E.view ends.old) (E.view ends.new) }
+    ensures room { HaveRoomFor edges.now result (E.view ends.new) }
     ensures most { result ≤ most }
 {
     let mut least = most;
@@ -43,8 +41,7 @@ fn least_space<E: Ends>(ends: &mut E, edges: &[usize], most: usize) -> usize
 /// Puts a copy of the block on the edge, where room is certain. It is dropped where `End` was put there before.
 fn put_copy<E: Ends>(ends: &mut E, edge: usize, block: &Block)
     requires writes { (E.view ends.old).writes edge ≡ true }
-    requires fit { All (λ x. FitsEdge ((E.view ends.old).kind edge) (signal_of (message_of x)))
-        block.now.items }
+    requires fit { BlockFitsEdge ((E.view ends.old).kind edge) block.now.items }
     requires last { orderly (flat_signals block.now.items) ≡ true }
     requires certain { length block.now.items ≤ (E.view ends.old).room edge }
     ensures same { E.same ends.old ends.new }
@@ -60,8 +57,7 @@ fn put_each<E: Ends>(ends: &mut E, edges: &[usize], block: &Block)
     requires apart { AreApart edges.now }
     requires may { MayTake edges.now block.now.items (E.view ends.old) }
     ensures same { E.same ends.old ends.new }
-    ensures put { PutOnFirst edges.now (length edges.now) (flat_signals block.now.items)
-        (E.view ends.old) (E.view ends.new) }
+    ensures put { PutOnAll edges.now block.now.items (E.view ends.old) (E.view ends.new) }
 {
     for &edge in edges {
         put_copy(ends, edge, block);
@@ -112,8 +108,7 @@ fn draw<T: Transducer>(node: &mut T, most: usize) -> Block
     requires scalar { T.behaviour.kind_out (T.state node.old) 0 ≢ VecKind }
     requires room { most ≤ 64 }
     ensures most { length result.items ≤ most }
-    ensures drew { InBlock T.behaviour (T.state node.old) [] (T.state node.new)
-        (flat_signals result.items) (length result.items) }
+    ensures drew { DrawsBlock T.behaviour (T.state node.old) (T.state node.new) result.items }
 {
     let mut block = Block::new();
     for _ in 0..most {
@@ -190,16 +185,13 @@ impl<T: Transducer> Placed<T> {
     pub(crate) fn move_block<E: Ends>(&mut self, ends: &mut E, most: usize) -> usize
         requires reads { All (λ e. (E.view ends.old).reads e ≡ true) self.old.inputs.items }
         requires writes { All (λ e. (E.view ends.old).writes e ≡ true) self.old.outputs.items }
-        requires kinds { TakeKinds self.old.outputs.items
-            (T.behaviour.kind_out (placed_state self.old)) (E.view ends.old) }
+        requires kinds { PlaceTakesKinds self.old (E.view ends.old) }
         requires apart { AreApart self.old.outputs.items }
         ensures place { IsSamePlace self.old self.new }
         ensures same { E.same ends.old ends.new }
         ensures ends { SameEnds (E.view ends.old) (E.view ends.new) }
         ensures most { result ≤ most }
-        ensures went { Went self.old.inputs.items self.old.outputs.items T.behaviour
-            (placed_state self.old) (E.view ends.old) (placed_state self.new) (E.view ends.new)
-            result }
+        ensures went { PlaceWent E.view self.old ends.old self.new ends.new result }
     {
         move_node(&mut self.node, &self.inputs, &self.outputs, ends, most)
     }
@@ -218,14 +210,11 @@ pub fn step_block<T: Transducer, E: Ends>(
     most: usize,
 ) -> usize
     requires inside { node < length (states_of graph.old) }
-    requires ends { HasEnds T.behaviour (states_of graph.old) (edges_of graph.old) node
-        (E.view ends.old) }
-    requires kinds { EdgesTake T.behaviour (states_of graph.old) (edges_of graph.old) node
-        (E.view ends.old) }
+    requires ends { NodeHasEnds graph.old node (E.view ends.old) }
+    requires kinds { NodeEdgesTake graph.old node (E.view ends.old) }
     ensures shape { KeepsShape E.same E.view graph.old ends.old graph.new ends.new }
     ensures most { result ≤ most }
-    ensures moves { MovesBlock T.behaviour node (edges_of graph.old) (states_of graph.old)
-        (E.view ends.old) (states_of graph.new) (E.view ends.new) result }
+    ensures moves { MovesInBlock E.view node graph.old ends.old graph.new ends.new result }
 {
     graph.move_block(ends, node, most)
 }
@@ -234,14 +223,11 @@ impl<T: Transducer> Graph<T> {
     /// Moves scalar messages of one node in a block, as [`step_block`] says.
     fn move_block<E: Ends>(&mut self, ends: &mut E, node: usize, most: usize) -> usize
         requires inside { node < length (states_of self.old) }
-        requires ends { HasEnds T.behaviour (states_of self.old) (edges_of self.old) node
-            (E.view ends.old) }
-        requires kinds { EdgesTake T.behaviour (states_of self.old) (edges_of self.old) node
-            (E.view ends.old) }
+        requires ends { NodeHasEnds self.old node (E.view ends.old) }
+        requires kinds { NodeEdgesTake self.old node (E.view ends.old) }
         ensures shape { KeepsShape E.same E.view self.old ends.old self.new ends.new }
         ensures most { result ≤ most }
-        ensures moves { MovesBlock T.behaviour node (edges_of self.old) (states_of self.old)
-            (E.view ends.old) (states_of self.new) (E.view ends.new) result }
+        ensures moves { MovesInBlock E.view node self.old ends.old self.new ends.new result }
     {
         self.nodes[node].move_block(ends, most)
     }

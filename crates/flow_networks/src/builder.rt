@@ -2,8 +2,9 @@
 ghost use Rattle.std.specs.Prelude.{◌≡◌, ◌++◌, ◌∷◌, [], ◌↔◌, ◌⊎◌, IsTrue, IfOk, OnErr, IfErr, length};
 ghost use Rattle.snesl_data.specs.declared.refusal.Refusal.TheVariants.{TooBig, NoMemory};
 ghost use Rattle.flow_networks.specs.Limits.{most_nodes, most_edges};
-ghost use Rattle.flow_networks.specs.Networks.{AreOpened, MayJoin, IsJoined};
-ghost use Rattle.flow_networks.specs.Graphs.{states_of, edges_of, states_so_far, edges_so_far};
+ghost use Rattle.flow_networks.specs.Networks.{IsJoined};
+ghost use Rattle.flow_networks.specs.Graphs.{states_of, edges_of, states_so_far, edges_so_far, AddsNode, AcceptsEdge};
+ghost use Rattle.flow_networks.specs.Standing.{StayOpened};
 
 use crate::edge::{Edge, MAX_EDGES, MAX_NODES};
 use crate::graph::{Graph, GraphBuilder};
@@ -33,11 +34,9 @@ impl<T: Transducer + Drop> GraphBuilder<T> {
     pub fn node(&mut self, node: T) -> Result<usize, Refusal>
         requires { T.behaviour.opening (T.state node) ≡ T.state node }
         ensures number { IfOk result (λ number. number ≡ length (states_so_far self.old)) }
-        ensures nodes { IfOk result (λ _. states_so_far self.new ≡
-            states_so_far self.old ++ T.state node ∷ []) }
+        ensures nodes { IfOk result (λ _. AddsNode self.old (T.state node) self.new) }
         ensures edges { edges_so_far self.new ≡ edges_so_far self.old }
-        ensures opened { AreOpened T.behaviour (states_so_far self.old) →
-            AreOpened T.behaviour (states_so_far self.new) }
+        ensures opened { StayOpened T.behaviour (states_so_far self.old) (states_so_far self.new) }
         ensures err { OnErr result (states_so_far self.new ≡ states_so_far self.old) }
         ensures full { (result ≡ Err TooBig) ↔ (length (states_so_far self.old) ≡ most_nodes) }
         ensures memory { IfErr result (λ refusal. (refusal ≡ TooBig) ⊎ (refusal ≡ NoMemory)) }
@@ -72,8 +71,7 @@ impl<T: Transducer + Drop> GraphBuilder<T> {
 
     /// Whether the edge may be added.
     pub fn may_join(&self, edge: Edge) -> bool
-        ensures { IsTrue result ↔ MayJoin T.behaviour (states_so_far self.now)
-            (edges_so_far self.now) edge }
+        ensures { IsTrue result ↔ AcceptsEdge self.now edge }
     {
         if edge.writer >= edge.reader || edge.reader >= self.nodes.len() {
             return false;
@@ -93,7 +91,7 @@ impl<T: Transducer + Drop> GraphBuilder<T> {
     /// It is refused as `TooBig` exactly where there are `MAX_EDGES` already, and else only as
     /// `NoMemory`. Then the builder stays as it was.
     pub fn edge(&mut self, edge: Edge) -> Result<usize, Refusal>
-        requires { MayJoin T.behaviour (states_so_far self.old) (edges_so_far self.old) edge }
+        requires { AcceptsEdge self.old edge }
         ensures number { IfOk result (λ number. number ≡ length (edges_so_far self.old)) }
         ensures edges { IfOk result (λ _. edges_so_far self.new ≡
             edges_so_far self.old ++ edge ∷ []) }

@@ -1,8 +1,8 @@
 // Nodes that are over.
 ghost use Rattle.std.specs.Prelude.{◌≡◌, ◌<◌, length};
-ghost use Rattle.flow_networks.specs.Networks.{state_at};
 ghost use Rattle.flow_networks.specs.Graphs.{states_of};
 ghost use Rattle.flow_networks.specs.Over.{is_over};
+ghost use Rattle.flow_networks.specs.Standing.{wanted_at};
 
 use crate::graph::Graph;
 use flow_base::Transducer;
@@ -11,8 +11,7 @@ use kahn::Want;
 /// Whether the node makes no step again.
 pub fn is_over<T: Transducer>(graph: &Graph<T>, node: usize) -> bool
     requires { node < length (states_of graph.now) }
-    ensures { result ≡ is_over (T.behaviour.process.want
-        (state_at T.behaviour (states_of graph.now) node)) }
+    ensures { result ≡ is_over (wanted_at graph.now node) }
 {
     matches!(graph.node(node).want(), Want::Ended | Want::Faulted(_))
 }

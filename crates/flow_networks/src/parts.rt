@@ -2,8 +2,8 @@
 ghost use Rattle.std.specs.Prelude.{◌≡◌, ◌<◌, ◌↔◌, true, length, IsTrue};
 ghost use Rattle.std.specs.List.{All};
 ghost use Rattle.flow_networks.specs.Edges.{edge_at};
-ghost use Rattle.flow_networks.specs.Networks.{state_at, HasEnds, EdgesTake};
 ghost use Rattle.flow_networks.specs.Graphs.{states_of, edges_of};
+ghost use Rattle.flow_networks.specs.Standing.{stand_at, NodeHasEnds, NodeEdgesTake, NodeMayStep};
 
 use crate::edge::Edge;
 use crate::graph::Graph;
@@ -36,7 +36,7 @@ impl<T: Transducer> Graph<T> {
     /// The node of this number.
     pub fn node(&self, number: usize) -> &T
         requires { number < length (states_of self.now) }
-        ensures { T.state result.now ≡ state_at T.behaviour (states_of self.now) number }
+        ensures { T.state result.now ≡ stand_at self.now number }
     {
         &self.nodes[number].node
     }
@@ -44,8 +44,7 @@ impl<T: Transducer> Graph<T> {
     /// Whether the ends are there of all edges of the node.
     pub fn has_ends<E: Ends>(&self, ends: &E, node: usize) -> bool
         requires { node < length (states_of self.now) }
-        ensures { IsTrue result ↔ HasEnds T.behaviour (states_of self.now) (edges_of self.now) node
-            (E.view ends.now) }
+        ensures { IsTrue result ↔ NodeHasEnds self.now node (E.view ends.now) }
     {
         let placed = &self.nodes[node];
         has_readers(ends, &placed.inputs) && has_writers(ends, &placed.outputs)
@@ -55,9 +54,7 @@ impl<T: Transducer> Graph<T> {
     /// items of the port's kind.
     pub fn may_step<E: Ends>(&self, ends: &E, node: usize) -> bool
         requires { node < length (states_of self.now) }
-        ensures { IsTrue result ↔ (HasEnds T.behaviour (states_of self.now) (edges_of self.now)
-            node (E.view ends.now) ×
-            EdgesTake T.behaviour (states_of self.now) (edges_of self.now) node (E.view ends.now)) }
+        ensures { IsTrue result ↔ NodeMayStep self.now node (E.view ends.now) }
     {
         self.has_ends(ends, node) && self.edges_take(ends, node)
     }
@@ -65,10 +62,8 @@ impl<T: Transducer> Graph<T> {
     // Whether the edge at each output of the node takes items of the port's kind.
     fn edges_take<E: Ends>(&self, ends: &E, node: usize) -> bool
         requires inside { node < length (states_of self.now) }
-        requires ends { HasEnds T.behaviour (states_of self.now) (edges_of self.now) node
-            (E.view ends.now) }
-        ensures { IsTrue result ↔
-            EdgesTake T.behaviour (states_of self.now) (edges_of self.now) node (E.view ends.now) }
+        requires ends { NodeHasEnds self.now node (E.view ends.now) }
+        ensures { IsTrue result ↔ NodeEdgesTake self.now node (E.view ends.now) }
     {
         let placed = &self.nodes[node];
         for port in 0..placed.outputs.len() {

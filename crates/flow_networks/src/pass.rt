@@ -3,7 +3,8 @@ ghost use Rattle.std.specs.Prelude.{◌≡◌, ◌<◌, true, length, IfOk};
 ghost use Rattle.std.specs.List.{All};
 ghost use Rattle.flow_networks.specs.Graphs.{states_of, edges_of};
 ghost use Rattle.flow_networks.specs.Shapes.{KeepsShape};
-ghost use Rattle.flow_networks.specs.Visits.{HasAllEnds, Visits};
+ghost use Rattle.flow_networks.specs.Visits.{HasAllEnds};
+ghost use Rattle.flow_networks.specs.Turns.{VisitAll};
 
 use crate::graph::Graph;
 use flow_base::Transducer;
@@ -21,9 +22,8 @@ pub fn pass_over<T: Transducer, E: WholeEnds>(
     requires some { 0 < chunk }
     requires ends { HasAllEnds (length (edges_of graph.old)) (E.view ends.old) }
     ensures shape { KeepsShape E.same E.view graph.old ends.old graph.new ends.new }
-    ensures visits { IfOk result (λ moved. Visits T.behaviour (E.capacity ends.old) nodes.now
-        (edges_of graph.old) (states_of graph.old) (E.view ends.old) (states_of graph.new)
-        (E.view ends.new) moved) }
+    ensures visits { VisitAll E.capacity E.view nodes.now graph.old ends.old graph.new ends.new
+        result }
     ensures some { IfOk result (λ moved. moved ≡ true → 0 < length nodes.now) }
 {
     let mut moved = false;

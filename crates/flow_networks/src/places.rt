@@ -5,8 +5,8 @@ ghost use Rattle.kahn.specs.declared.want.Want.TheVariants.{Read};
 ghost use Rattle.flow_messages.specs.Signals.{signal_of};
 ghost use Rattle.flow_messages.specs.Ends.{SameEnds};
 ghost use Rattle.flow_base.specs.Transducers.{IsWrite};
-ghost use Rattle.flow_base.specs.Visits.{TakeKinds, LeavesAlone, IsStuck, Visited, BrokeOff};
 ghost use Rattle.flow_networks.specs.Places.{placed_state, IsSamePlace};
+ghost use Rattle.flow_networks.specs.InPlace.{placed_inputs, placed_outputs, PlaceTakesKinds, PlaceIsStuck, PlaceLeavesAlone, message_of_place, PlaceReads, PlaceWrites, PlaceVisited, PlaceBrokeOff};
 
 use crate::placed::Placed;
 use flow_base::Transducer;
@@ -35,10 +35,8 @@ impl<T: Transducer + Drop> Placed<T> {
     /// Puts a transducer in its opening state, which has as many ports, in its place.
     pub(crate) fn replace(&mut self, node: T)
         requires opened { T.behaviour.opening (T.state node) ≡ T.state node }
-        requires inputs { T.behaviour.inputs (T.state node) ≡
-            T.behaviour.inputs (placed_state self.old) }
-        requires outputs { T.behaviour.outputs (T.state node) ≡
-            T.behaviour.outputs (placed_state self.old) }
+        requires inputs { T.behaviour.inputs (T.state node) ≡ placed_inputs self.old }
+        requires outputs { T.behaviour.outputs (T.state node) ≡ placed_outputs self.old }
         ensures number { self.new.number ≡ self.old.number }
         ensures node { self.new.node ≡ node }
         ensures inputs { self.new.inputs.items ≡ self.old.inputs.items }
@@ -104,8 +102,7 @@ impl<T: Transducer> Placed<T> {
     pub(crate) fn give(&mut self, port: usize, message: Msg) -> Result<(), AllocError>
         requires { T.behaviour.process.want (placed_state self.old) ≡ Read port }
         ensures place { IsSamePlace self.old self.new }
-        ensures ok { OnOk result (placed_state self.new ≡
-            T.behaviour.process.read (placed_state self.old) (signal_of message)) }
+        ensures ok { OnOk result (PlaceReads self.old (signal_of message) self.new) }
         ensures err { OnErr result (placed_state self.new ≡ placed_state self.old) }
         ensures sure { T.behaviour.takes_memory (placed_state self.old) ≡ false → IsOk result }
     {
@@ -116,9 +113,8 @@ impl<T: Transducer> Placed<T> {
     pub(crate) fn emit(&mut self) -> Result<Msg, AllocError>
         requires { IsWrite (T.behaviour.process.want (placed_state self.old)) }
         ensures place { IsSamePlace self.old self.new }
-        ensures ok { IfOk result (λ message. (signal_of message ≡
-            T.behaviour.process.written (placed_state self.old)) ×
-            (placed_state self.new ≡ T.behaviour.process.wrote (placed_state self.old))) }
+        ensures message { IfOk result (λ message. signal_of message ≡ message_of_place self.old) }
+        ensures ok { OnOk result (PlaceWrites self.old self.new) }
         ensures err { OnErr result (placed_state self.new ≡ placed_state self.old) }
         ensures sure { T.behaviour.takes_memory (placed_state self.old) ≡ false → IsOk result }
     {
@@ -134,17 +130,13 @@ impl<T: Transducer> Placed<T> {
         requires some { 0 < chunk }
         requires reads { All (λ e. (E.view ends.old).reads e ≡ true) self.old.inputs.items }
         requires writes { All (λ e. (E.view ends.old).writes e ≡ true) self.old.outputs.items }
-        requires kinds { TakeKinds self.old.outputs.items
-            (T.behaviour.kind_out (placed_state self.old)) (E.view ends.old) }
+        requires kinds { PlaceTakesKinds self.old (E.view ends.old) }
         ensures place { IsSamePlace self.old self.new }
         ensures same { E.same ends.old ends.new }
         ensures ends { SameEnds (E.view ends.old) (E.view ends.new) }
-        ensures visited { IfOk result (λ any. Visited self.old.inputs.items self.old.outputs.items
-            T.behaviour (placed_state self.old) (E.view ends.old) (placed_state self.new)
-            (E.view ends.new) any) }
-        ensures broke { OnErr result (BrokeOff self.old.inputs.items self.old.outputs.items
-            T.behaviour (placed_state self.old) (E.view ends.old) (placed_state self.new)
-            (E.view ends.new)) }
+        ensures visited { IfOk result (λ any. PlaceVisited E.view self.old ends.old self.new
+            ends.new any) }
+        ensures broke { OnErr result (PlaceBrokeOff E.view self.old ends.old self.new ends.new) }
     {
         self.node.run(&self.inputs, &self.outputs, ends, chunk)
     }
@@ -156,10 +148,8 @@ impl<T: Transducer> Placed<T> {
         requires writes { All (λ e. (E.view ends.old).writes e ≡ true) self.now.outputs.items }
         ensures same { E.same ends.old ends.new }
         ensures ends { SameEnds (E.view ends.old) (E.view ends.new) }
-        ensures looked { LeavesAlone self.now.inputs.items self.now.outputs.items (E.view ends.old)
-            (E.view ends.new) }
-        ensures stuck { IsTrue result ↔ IsStuck self.now.inputs.items self.now.outputs.items
-            (E.view ends.new) (T.behaviour.process.want (placed_state self.now)) }
+        ensures looked { PlaceLeavesAlone self.now (E.view ends.old) (E.view ends.new) }
+        ensures stuck { IsTrue result ↔ PlaceIsStuck self.now (E.view ends.new) }
     {
         match self.node.want() {
             Want::Read(port) => !ends.ready(self.inputs[port]),

@@ -1,8 +1,8 @@
 // Other nodes in place of those of a graph.
 ghost use Rattle.std.specs.Prelude.{◌≡◌, slice_set};
-ghost use Rattle.flow_networks.specs.Networks.{AreOpened};
 ghost use Rattle.flow_networks.specs.Replacements.{MayReplace};
 ghost use Rattle.flow_networks.specs.Graphs.{states_of, edges_of};
+ghost use Rattle.flow_networks.specs.Standing.{StayOpened};
 
 use crate::graph::Graph;
 use flow_base::Transducer;
@@ -14,8 +14,7 @@ impl<T: Transducer + Drop> Graph<T> {
         requires { MayReplace T.behaviour (states_of self.old) number (T.state node) }
         ensures nodes { states_of self.new ≡ slice_set (states_of self.old) number (T.state node) }
         ensures edges { edges_of self.new ≡ edges_of self.old }
-        ensures opened { AreOpened T.behaviour (states_of self.old) →
-            AreOpened T.behaviour (states_of self.new) }
+        ensures opened { StayOpened T.behaviour (states_of self.old) (states_of self.new) }
     {
         self.nodes[number].replace(node);
     }

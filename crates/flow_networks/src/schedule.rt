@@ -52,8 +52,8 @@ fn step_named<T: Transducer, E: WholeEnds>(
     requires ends { HasAllEnds (length (edges_of graph.old)) (E.view ends.old) }
     requires reached { RunReaches (E.capacity ends.old) graph.old graph.old (E.view ends.old) }
     ensures shape { KeepsShape E.same E.view graph.old ends.old graph.new ends.new }
-    ensures reached { OnOk result (RunReaches (E.capacity ends.old) graph.old graph.new
-        (E.view ends.new)) }
+    ensures run { OnOk result (RunReaches (E.capacity ends.old) graph.old graph.new (E.view
+        ends.new)) }
 {
     for &number in numbers {
         if number < graph.nodes() {

@@ -1,12 +1,11 @@
 // Passes over all nodes of a graph, in one thread.
-ghost use Rattle.std.specs.Prelude.{◌≡◌, ◌<◌, ◌⊎◌, ℕ, true, length, IfOk, OnOk};
+ghost use Rattle.std.specs.Prelude.{◌<◌, ℕ, length, IfOk, OnOk};
 ghost use Rattle.std.specs.List.{All, Contains};
-ghost use Rattle.flow_networks.specs.Networks.{state_at};
 ghost use Rattle.flow_networks.specs.Graphs.{states_of, edges_of};
 ghost use Rattle.flow_networks.specs.Shapes.{KeepsShape};
 ghost use Rattle.flow_networks.specs.Visits.{HasAllEnds};
-ghost use Rattle.flow_networks.specs.Over.{is_over};
 ghost use Rattle.flow_networks.specs.MaximalRuns.{RunReaches, RunEndsAt};
+ghost use Rattle.flow_networks.specs.Dropping.{DropsOnlyOver};
 
 use crate::graph::Graph;
 use crate::over::is_over;
@@ -67,8 +66,7 @@ fn numbers_below(alloc: Global, end: usize) -> Result<Vec<usize>, AllocError>
 fn drop_over<T: Transducer>(graph: &Graph<T>, nodes: &mut Vec<usize>)
     requires { All (λ k. k < length (states_of graph.now)) nodes.old.items }
     ensures below { All (λ k. k < length (states_of graph.now)) nodes.new.items }
-    ensures others { (k : ℕ) → Contains nodes.old.items k → Contains nodes.new.items k ⊎
-        (is_over (T.behaviour.process.want (state_at T.behaviour (states_of graph.now) k)) ≡ true) }
+    ensures others { DropsOnlyOver graph.now nodes.old.items nodes.new.items }
 {
     let mut kept = 0;
     for i in 0..nodes.len() {

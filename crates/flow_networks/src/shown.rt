@@ -2,7 +2,7 @@
 ghost use Rattle.std.specs.Prelude.{◌≡◌, ◌<◌, ◌≤◌, true, length};
 ghost use Rattle.flow_messages.specs.Blocks.{unit_signals, flag_signals, int_signals};
 ghost use Rattle.flow_messages.specs.Flats.{flat_signals};
-ghost use Rattle.flow_networks.specs.Blocks.{ComeNext};
+ghost use Rattle.flow_networks.specs.Blocks.{ComeNext, ComeNextAtAny};
 
 use flow_messages::{Block, Ends, Flat, Kind, Msg};
 
@@ -46,8 +46,7 @@ fn items_ahead<E: Ends>(ends: &E, edge: usize, kind: Kind, most: usize) -> Block
 /// The end of the stream, where it is certain to come next and the ends show it.
 fn end_ahead<E: Ends>(ends: &E, edge: usize) -> Block
     requires { (E.view ends.now).reads edge ≡ true }
-    ensures next { (kind : Kind) →
-        ComeNext kind ((E.view ends.now).coming edge) (flat_signals result.items) }
+    ensures next { ComeNextAtAny ((E.view ends.now).coming edge) (flat_signals result.items) }
     ensures most { length result.items ≤ 1 }
 {
     let mut block = Block::new();

@@ -1,9 +1,9 @@
 // Graphs taken apart, and put together again.
-ghost use Rattle.std.specs.Prelude.{◌≡◌, List, map};
+ghost use Rattle.std.specs.Prelude.{◌≡◌};
 ghost use Rattle.flow_networks.specs.Places.{states_in};
 ghost use Rattle.flow_networks.specs.Graphs.{states_of, edges_of};
 ghost use Rattle.flow_networks.specs.Skeletons.{nodes_of, edges_in, FitTogether};
-ghost use Rattle.flow_networks.specs.Shapes.{IsSameNetwork};
+ghost use Rattle.flow_networks.specs.Shapes.{IsNetworkOfAlike};
 
 use crate::edge::Edge;
 use crate::graph::{Graph, Skeleton};
@@ -35,9 +35,7 @@ impl Skeleton {
         requires { FitTogether nodes.items (edges_in self) }
         ensures nodes { states_of result ≡ states_in nodes.items }
         ensures edges { edges_of result ≡ edges_in self }
-        ensures network { (states : List T.State) →
-            map T.behaviour.opening (states_in nodes.items) ≡ map T.behaviour.opening states →
-            IsSameNetwork T.behaviour states (edges_in self) (states_of result) (edges_of result) }
+        ensures network { IsNetworkOfAlike nodes.items (edges_in self) result }
     {
         Graph {
             nodes,

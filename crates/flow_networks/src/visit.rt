@@ -1,8 +1,9 @@
 // Visits of single nodes.
-ghost use Rattle.std.specs.Prelude.{◌<◌, ◌∷◌, [], length, IfOk, OnErr};
+ghost use Rattle.std.specs.Prelude.{◌<◌, ◌∷◌, [], length, OnErr};
 ghost use Rattle.flow_networks.specs.Graphs.{states_of, edges_of};
 ghost use Rattle.flow_networks.specs.Shapes.{KeepsShape};
-ghost use Rattle.flow_networks.specs.Visits.{HasAllEnds, Visits, VisitBrokeOff};
+ghost use Rattle.flow_networks.specs.Visits.{HasAllEnds};
+ghost use Rattle.flow_networks.specs.Turns.{BreaksOffVisit, VisitAll};
 
 use crate::graph::Graph;
 use flow_base::Transducer;
@@ -24,11 +25,10 @@ impl<T: Transducer> Graph<T> {
         requires some { 0 < chunk }
         requires ends { HasAllEnds (length (edges_of self.old)) (E.view ends.old) }
         ensures shape { KeepsShape E.same E.view self.old ends.old self.new ends.new }
-        ensures visits { IfOk result (λ any. Visits T.behaviour (E.capacity ends.old) (node ∷ [])
-            (edges_of self.old) (states_of self.old) (E.view ends.old) (states_of self.new)
-            (E.view ends.new) any) }
-        ensures broke { OnErr result (VisitBrokeOff T.behaviour node (edges_of self.old)
-            (states_of self.old) (E.view ends.old) (states_of self.new) (E.view ends.new)) }
+        ensures visits { VisitAll E.capacity E.view (node ∷ []) self.old ends.old self.new ends.new
+            result }
+        ensures broke { OnErr result (BreaksOffVisit E.view node self.old ends.old self.new
+            ends.new) }
     {
         self.nodes[node].run(ends, chunk)
     }

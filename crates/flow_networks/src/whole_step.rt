@@ -1,12 +1,12 @@
 // Single steps over both ends of each edge.
-ghost use Rattle.std.specs.Prelude.{◌<◌, length, IfOk};
-ghost use Rattle.flow_networks.specs.Networks.{HasEnds};
-ghost use Rattle.flow_networks.specs.Graphs.{states_of, edges_of};
+ghost use Rattle.std.specs.Prelude.{◌<◌, length};
+ghost use Rattle.flow_networks.specs.Graphs.{states_of};
 ghost use Rattle.flow_networks.specs.Shapes.{KeepsShape};
-ghost use Rattle.flow_networks.specs.Turns.{TakesTurn, TurnsNetwork};
+ghost use Rattle.flow_networks.specs.Turns.{TakesTurn, MakesTurn};
+ghost use Rattle.flow_networks.specs.Standing.{NodeHasEnds};
 
 use crate::graph::Graph;
-use crate::step::{Moved, step_once};
+use crate::step::{Stepped, step_once};
 use flow_base::Transducer;
 use flow_messages::WholeEnds;
 use std::alloc::AllocError;
@@ -20,14 +20,13 @@ pub fn step_whole<T: Transducer, E: WholeEnds>(
     graph: &mut Graph<T>,
     ends: &mut E,
     node: usize,
-) -> Result<Moved, AllocError>
+) -> Result<Stepped, AllocError>
     requires inside { node < length (states_of graph.old) }
-    requires ends { HasEnds T.behaviour (states_of graph.old) (edges_of graph.old) node
-        (E.view ends.old) }
+    requires ends { NodeHasEnds graph.old node (E.view ends.old) }
     ensures shape { KeepsShape E.same E.view graph.old ends.old graph.new ends.new }
     ensures turn { TakesTurn E.view node graph.old ends.old graph.new ends.new result }
-    ensures network { IfOk result (λ moved. TurnsNetwork E.view node graph.old ends.old graph.new
-        ends.new (E.capacity ends.old) moved) }
+    ensures network { MakesTurn E.capacity E.view node graph.old ends.old graph.new ends.new
+        result }
 {
     step_once(graph, ends, node)
 }

@@ -1,8 +1,8 @@
 // How nodes are joined.
-ghost use Rattle.std.specs.Prelude.{◌≡◌, ℕ, ◌<◌, ◌≤◌, ◌++◌, ◌∷◌, [], ◌↔◌, IsTrue, IsSome, IfOk, OnOk, OnErr, Some, None, length, map, replicate, slice_index_or, slice_set};
+ghost use Rattle.std.specs.Prelude.{◌≡◌, ◌<◌, ◌++◌, ◌∷◌, [], ◌↔◌, IsTrue, IsSome, IfOk, OnOk, OnErr, Some, None, length, replicate, slice_set};
 ghost use Rattle.std.specs.List.{All};
-ghost use Rattle.flow_networks.specs.Edges.{in_edge, out_edge};
 ghost use Rattle.flow_networks.specs.Tables.{ins, outs, count_at, IsWiring, HasAllEdges, IsFull};
+ghost use Rattle.flow_networks.specs.Wirings.{IsFreeAt, input_counts, output_counts, HasNoEdgeTo, HasNoEdgeFrom, IsFreeInput, IsFreeOutput, AddsInputs, AddsOutputs};
 
 use crate::edge::Edge;
 use std::alloc::{AllocError, Global};
@@ -66,10 +66,9 @@ impl Wiring {
         inputs: usize,
         outputs: usize,
     ) -> Result<(), AllocError>
-        ensures inputs { OnOk result (map length (ins self.new.ports.items) ≡
-            map length (ins self.old.ports.items) ++ inputs ∷ []) }
-        ensures outputs { OnOk result (map length (outs self.new.ports.items) ≡
-            map length (outs self.old.ports.items) ++ outputs ∷ []) }
+        ensures inputs { OnOk result (AddsInputs self.old.ports.items inputs self.new.ports.items) }
+        ensures outputs { OnOk result (AddsOutputs self.old.ports.items outputs
+            self.new.ports.items) }
         ensures edges { self.new.edges.items ≡ self.old.edges.items }
         ensures err { OnErr result (self.new.ports.items ≡ self.old.ports.items) }
     {
@@ -85,14 +84,10 @@ impl Wiring {
         requires reader { edge.reader < length self.old.ports.items }
         requires output { edge.writer_port < count_at (outs self.old.ports.items) edge.writer }
         requires input { edge.reader_port < count_at (ins self.old.ports.items) edge.reader }
-        requires free_output { length self.old.edges.items ≤
-            out_edge self.old.edges.items edge.writer edge.writer_port }
-        requires free_input { length self.old.edges.items ≤
-            in_edge self.old.edges.items edge.reader edge.reader_port }
-        ensures inputs { map length (ins self.new.ports.items) ≡
-            map length (ins self.old.ports.items) }
-        ensures outputs { map length (outs self.new.ports.items) ≡
-            map length (outs self.old.ports.items) }
+        requires free_output { HasNoEdgeFrom self.old.edges.items edge.writer edge.writer_port }
+        requires free_input { HasNoEdgeTo self.old.edges.items edge.reader edge.reader_port }
+        ensures inputs { input_counts self.new.ports.items ≡ input_counts self.old.ports.items }
+        ensures outputs { output_counts self.new.ports.items ≡ output_counts self.old.ports.items }
         ensures ok { OnOk result (self.new.edges.items ≡ self.old.edges.items ++ edge ∷ []) }
         ensures err { OnErr result (self.new.edges.items ≡ self.old.edges.items) }
     {
@@ -106,8 +101,7 @@ impl Wiring {
     /// Whether the node has this input port, with no edge.
     pub fn is_free_input(&self, node: usize, port: usize) -> bool
         requires { node < length self.now.ports.items }
-        ensures { IsTrue result ↔ ((port < count_at (ins self.now.ports.items) node) ×
-            (length self.now.edges.items ≤ in_edge self.now.edges.items node port)) }
+        ensures { IsTrue result ↔ IsFreeInput self.now.ports.items self.now.edges.items node port }
     {
         is_free(&self.ports[node].inputs, port)
     }
@@ -115,8 +109,7 @@ impl Wiring {
     /// Whether the node has this output port, with no edge.
     pub fn is_free_output(&self, node: usize, port: usize) -> bool
         requires { node < length self.now.ports.items }
-        ensures { IsTrue result ↔ ((port < count_at (outs self.now.ports.items) node) ×
-            (length self.now.edges.items ≤ out_edge self.now.edges.items node port)) }
+        ensures { IsTrue result ↔ IsFreeOutput self.now.ports.items self.now.edges.items node port }
     {
         is_free(&self.ports[node].outputs, port)
     }
@@ -150,8 +143,7 @@ fn all_taken(ports: &[Option<usize>]) -> bool
 
 /// Whether there is this port, with no edge.
 fn is_free(ports: &[Option<usize>], port: usize) -> bool
-    ensures { IsTrue result ↔ ((port < length ports.now) ×
-        (slice_index_or ports.now port None ≡ None)) }
+    ensures { IsTrue result ↔ IsFreeAt ports.now port }
 {
     port < ports.len() && ports[port].is_none()
 }

@@ -1,2 +1,3 @@
 pub mod PortRows
 pub mod StreamNodes
+pub mod KindLaws

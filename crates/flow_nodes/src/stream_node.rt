@@ -87,7 +87,8 @@ macro_rules! with_node {
 
 #[tactic(auto, using(crate::proofs::NodeSteps::node_steps))]
 impl Transducer for StreamNode {
-    ghost use Rattle.flow_nodes.specs.StreamNodes.{NodeKind, member, node_laws};
+    ghost use Rattle.flow_nodes.specs.StreamNodes.{NodeKind, member};
+    ghost use Rattle.flow_nodes.specs.KindLaws.{node_laws};
 
     ghost State = { (t : NodeKind) × (member t).State };
 

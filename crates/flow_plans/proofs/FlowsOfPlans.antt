@@ -74,7 +74,7 @@ module _ {S : Type 0} {b : Behaviour S} {plan : List Step} {states : List S} {ed
   edge_of_kind : (e j : ℕ) → e < length edges → (edge_at edges e).writer ≡ j → Row j → AllOf (kind_into e) (bodies e)
   edge_of_kind e j inside is row =
       let q = (edge_at edges e).writer_port in
-      let node = get_there (layout plan) j (omega (arith, writer_there given e inside, is, given.of.nodes)) in
+      let node = get_there (layout plan) j (omega (arith, writer_there given e inside, is, given.of.laid.nodes)) in
       let all_of : AllOf (b.kind_out (state_at b states j) q) (bodies (out_edge edges j q)) = out_of_kind given j node.0 node.1 bodies row q (port_out given j node.0 node.1 e inside is) in
       let same_edge : out_edge edges j q ≡ e = ap (λ i. out_edge edges i q) (sym is) ∙ edge_out given e inside in
       let kinds : b.kind_out (state_at b states j) q ≡ kind_into e = ap (λ i. b.kind_out (state_at b states i) q) (sym is) ∙ same_kind given e inside in
@@ -198,8 +198,8 @@ module _ {S : Type 0} {b : Behaviour S} {plan : List Step} {states : List S} {ed
   plan_carries ran =
       let holds = holds_all plan [] 0 [] refl refl ran (record { below = λ e inside lt. absurd (omega (arith, lt)); rows = λ j lt. absurd (omega (arith, lt)) }) in (
         bodies,
-        λ k lt. holds.rows k (omega (arith, lt, given.of.nodes)),
-        λ e inside. holds.below e inside (omega (arith, writer_there given e inside, given.of.nodes)),
+        λ k lt. holds.rows k (omega (arith, lt, given.of.laid.nodes)),
+        λ e inside. holds.below e inside (omega (arith, writer_there given e inside, given.of.laid.nodes)),
       )
 
 pub plan_is_flow : {S : Type 0} (b : Behaviour S) (laws : BehaviourLaws b) (states : List S) (edges : List Edge) → IsNetwork b states edges

@@ -63,13 +63,13 @@ module _ {S : Type 0} {b : Behaviour S} {plan : List Step} {states : List S} {ed
 
   module _ (k : ℕ) (placed : Placed) (there : slice_get (layout plan) k ≡ Some placed) where
     pub node_inside : k < length states
-    node_inside = omega (arith, slice_get_within (layout plan) k placed there, given.of.nodes)
+    node_inside = omega (arith, slice_get_within (layout plan) k placed there, given.of.laid.nodes)
 
     pub performs : Performs b placed.operation (state_at b states k)
     performs = given.of.performs k placed there
 
     inputs_are : b.inputs (state_at b states k) ≡ length placed.reads
-    inputs_are = performs.inputs ∙ sym (given.of.reads k placed there)
+    inputs_are = performs.inputs ∙ sym (given.of.laid.reads k placed there)
 
     ports_in : inputs_at b states k ≡ length placed.reads
     ports_in = get_or-map b.inputs states k b.sample 0 node_inside ∙ inputs_are
@@ -89,7 +89,7 @@ module _ {S : Type 0} {b : Behaviour S} {plan : List Step} {states : List S} {ed
     stream_in p lt =
         let e = in_edge edges k p in
         let to = edge_to p lt in
-        given.of.joins e to.0
+        given.of.laid.joins e to.0
         ∙ ap (λ j. stream_to (layout plan) j (edge_at edges e).reader_port) to.1 ∙ ap (stream_to (layout plan) k) to.2
         ∙ ap (λ o. bind o (λ (x : Placed). slice_get x.reads p)) there
 

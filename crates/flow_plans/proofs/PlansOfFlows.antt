@@ -80,7 +80,7 @@ module _ {S : Type 0} {b : Behaviour S} {plan : List Step} {states : List S} {ed
       → AreCarriedBelow plan edges bodies streams (length before) → (all : Columns) × (run steps streams ≡ Some all) × AreCarried plan all edges bodies
   runs_from [] before s streams is long below =
       let nodes : length (layout plan) ≡ length before = ap length (is ∙ append-nil before) in
-      (streams, refl, λ e inside. below e inside (omega (arith, writer_there given e inside, given.of.nodes, nodes)))
+      (streams, refl, λ e inside. below e inside (omega (arith, writer_there given e inside, given.of.laid.nodes, nodes)))
   runs_from (step ∷ steps) before s streams is long below =
       let k = length before in
       let kinds = kinds_written step.operation in

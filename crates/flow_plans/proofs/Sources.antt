@@ -172,7 +172,7 @@ module _ {S : Type 0} (b : Behaviour S) (states : List S) (edges : List Edge) (p
 
   module _ (j : ℕ) (placed : Placed) (there : slice_get (layout plan) j ≡ Some placed) (was_source : placed.operation ≡ source kind before) where
     inside : j < length states
-    inside = omega (arith, slice_get_within (layout plan) j placed there, of.nodes)
+    inside = omega (arith, slice_get_within (layout plan) j placed there, of.laid.nodes)
 
     did : Performs b (source kind before) (state_at b states j)
     did = subst (λ o. Performs b o (state_at b states j)) was_source (of.performs j placed there)
@@ -215,21 +215,23 @@ module _ {S : Type 0} (b : Behaviour S) (states : List S) (edges : List Edge) (p
 
       reads_at : (k : ℕ) (x : Placed) → slice_get (layout plan') k ≡ Some x → length x.reads ≡ length (kinds_read x.operation)
       reads_at k x e = elim (ports k j) [
-        | inl is ↦ subst (λ (y : Placed). length y.reads ≡ length (kinds_read y.operation)) (sym (is_new k x e is)) (of.reads j placed there ∙ ap (λ o. length (kinds_read o)) was_source)
-        | inr other ↦ of.reads k x (was_there k x e other)
+        | inl is ↦ subst (λ (y : Placed). length y.reads ≡ length (kinds_read y.operation)) (sym (is_new k x e is)) (of.laid.reads j placed there ∙ ap (λ o. length (kinds_read o)) was_source)
+        | inr other ↦ of.laid.reads k x (was_there k x e other)
       ]
 
       network : IsNetworkOfPlan b plan' states' edges
       network = record {
-        nodes = length-set states j s ∙ of.nodes ∙ sym (length-set (layout plan) j new) ∙ ap length (sym laid);
+        laid = record {
+          nodes = length-set states j s ∙ of.laid.nodes ∙ sym (length-set (layout plan) j new) ∙ ap length (sym laid);
+          reads = reads_at;
+          joins = λ e l.
+              let edge = edge_at edges e in
+              ap (λ nodes. stream_from nodes edge.writer edge.writer_port) laid ∙ from_same (layout plan) j placed operation there edge.writer edge.writer_port
+              ∙ of.laid.joins e l
+              ∙ sym (ap (λ nodes. stream_to nodes edge.reader edge.reader_port) laid ∙ to_same (layout plan) j placed operation there edge.reader edge.reader_port);
+          edges_are = of.laid.edges_are ∙ sym (ap edges_between laid ∙ edges_stay (layout plan) j placed operation there);
+        };
         performs = does_at;
-        reads = reads_at;
-        joins = λ e l.
-            let edge = edge_at edges e in
-            ap (λ nodes. stream_from nodes edge.writer edge.writer_port) laid ∙ from_same (layout plan) j placed operation there edge.writer edge.writer_port
-            ∙ of.joins e l
-            ∙ sym (ap (λ nodes. stream_to nodes edge.reader edge.reader_port) laid ∙ to_same (layout plan) j placed operation there edge.reader edge.reader_port);
-        edges_are = of.edges_are ∙ sym (ap edges_between laid ∙ edges_stay (layout plan) j placed operation there);
       }
 
   set : let k = slice_index_or (places plan) i 0 in

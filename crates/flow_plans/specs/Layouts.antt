@@ -141,16 +141,20 @@ pub record Performs {S : Type 0} (b : Behaviour S) (operation : Operation) (s : 
   pub kinds_out : (q : ℕ) → q < b.outputs s → slice_get (kinds_written operation) q ≡ Some (b.kind_out s q)
   pub row : IsFunction (b.row s) (made_by operation) (b.inputs s) (b.outputs s)
 
--- The nodes are those of the plan, in order, each reads as many streams as it has inputs, each edge joins two ports of one
+-- The nodes are as many as those of the plan, each reads as many streams as it has inputs, each edge joins two ports of one
 -- stream, and the edges are just those between the plan's transducers.
-pub record IsNetworkOfPlan {S : Type 0} (b : Behaviour S) (plan : List Step) (states : List S) (edges : List Edge) : Type 0 where
+pub record FollowsLayout {S : Type 0} (plan : List Step) (states : List S) (edges : List Edge) : Type 0 where
   pub nodes : length states ≡ length (layout plan)
-  pub performs : (k : ℕ) (placed : Placed) → slice_get (layout plan) k ≡ Some placed → Performs b placed.operation (state_at b states k)
   pub reads : (k : ℕ) (placed : Placed) → slice_get (layout plan) k ≡ Some placed → length placed.reads ≡ length (kinds_read placed.operation)
   pub joins : (e : ℕ) → e < length edges
       → stream_from (layout plan) (edge_at edges e).writer (edge_at edges e).writer_port
       ≡ stream_to (layout plan) (edge_at edges e).reader (edge_at edges e).reader_port
   pub edges_are : edges ≡ edges_between (layout plan)
+
+-- The nodes and edges are laid out as the plan says, and each node does what the operation says that stands in its place.
+pub record IsNetworkOfPlan {S : Type 0} (b : Behaviour S) (plan : List Step) (states : List S) (edges : List Edge) : Type 0 where
+  pub laid : FollowsLayout plan states edges
+  pub performs : (k : ℕ) (placed : Placed) → slice_get (layout plan) k ≡ Some placed → Performs b placed.operation (state_at b states k)
 
 -- the body of each edge is the stream that it joins
 abbrev pub AreCarried : List Step → Columns → List Edge → (ℕ → List Cell) → Type 0

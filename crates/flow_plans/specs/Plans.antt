@@ -50,43 +50,67 @@ pub data Operation : Type 0 where
   fork : Kind → ℕ → Operation
   sink : Kind → Operation
 
--- What an operation does: what it makes of the streams that it reads, and the kinds of these and of those that it writes.
-pub record Work : Type 0 where
-  pub makes : Columns → Option Columns
+-- The kinds of the streams that an operation reads, and of those that it writes, port by port.
+pub record PortKinds : Type 0 where
   pub reads : List Kind
   pub writes : List Kind
 
-abbrev pub work_of : Operation → Work
-work_of (source kind cells) = record { makes = source_made cells; reads = []; writes = kind ∷ [] }
-work_of (const k) = record { makes = const_made k; reads = UnitKind ∷ []; writes = kind_of_type (type_of k) ∷ [] }
-work_of (unary dialect op) = record { makes = unary_made dialect op; reads = kind_of_type (unary_operand op) ∷ []; writes = kind_of_type (unary_operand op) ∷ [] }
-work_of (binary dialect op) = record { makes = binary_made dialect op; reads = kind_of_type (binary_operand op) ∷ kind_of_type (binary_operand op) ∷ []; writes = kind_of_type (binary_result op) ∷ [] }
-work_of iota = record { makes = iota_made; reads = IntKind ∷ []; writes = BoolKind ∷ IntKind ∷ [] }
-work_of units_of = record { makes = units_of_made; reads = BoolKind ∷ []; writes = UnitKind ∷ [] }
-work_of (scan_add dialect) = record { makes = scan_add_made dialect; reads = BoolKind ∷ IntKind ∷ []; writes = IntKind ∷ [] }
-work_of (reduce dialect reduction) = record { makes = reduce_made dialect reduction; reads = BoolKind ∷ reduced_kind reduction ∷ []; writes = reduced_kind reduction ∷ [] }
-work_of (length_of dialect) = record { makes = length_made dialect; reads = BoolKind ∷ []; writes = IntKind ∷ [] }
-work_of (dist kind) = record { makes = dist_made kind; reads = kind ∷ BoolKind ∷ []; writes = kind ∷ [] }
-work_of (pack kind) = record { makes = pack_made kind; reads = BoolKind ∷ kind ∷ []; writes = kind ∷ [] }
-work_of pack_groups = record { makes = pack_groups_made; reads = BoolKind ∷ BoolKind ∷ []; writes = BoolKind ∷ [] }
-work_of flag_of_bool = record { makes = flag_of_bool_made; reads = BoolKind ∷ []; writes = BoolKind ∷ [] }
-work_of same_flags = record { makes = same_flags_made; reads = BoolKind ∷ BoolKind ∷ []; writes = [] }
-work_of concat_flags = record { makes = concat_flags_made; reads = BoolKind ∷ BoolKind ∷ []; writes = BoolKind ∷ [] }
-work_of part_flags = record { makes = part_flags_made; reads = BoolKind ∷ BoolKind ∷ BoolKind ∷ []; writes = BoolKind ∷ BoolKind ∷ [] }
-work_of the_check = record { makes = the_check_made; reads = BoolKind ∷ []; writes = [] }
-work_of append_flags = record { makes = append_flags_made; reads = BoolKind ∷ BoolKind ∷ []; writes = BoolKind ∷ [] }
-work_of (interleave kind) = record { makes = interleave_made kind; reads = BoolKind ∷ BoolKind ∷ kind ∷ kind ∷ []; writes = kind ∷ [] }
-work_of interleave_groups = record { makes = interleave_groups_made; reads = BoolKind ∷ BoolKind ∷ BoolKind ∷ BoolKind ∷ []; writes = BoolKind ∷ [] }
-work_of (print ty) = record { makes = print_made ty; reads = kinds_of ty; writes = [] }
-work_of (tab ty) = record { makes = tab_made ty; reads = kinds_of (seq ty); writes = VecKind ∷ [] }
-work_of (seq_of ty) = record { makes = seq_made ty; reads = VecKind ∷ []; writes = kinds_of (seq ty) }
-work_of (index ty) = record { makes = index_made ty; reads = VecKind ∷ IntKind ∷ []; writes = kinds_of ty }
-work_of (fork kind outputs) = record { makes = fork_made kind outputs; reads = kind ∷ []; writes = replicate outputs kind }
-work_of (sink kind) = record { makes = sink_made kind; reads = kind ∷ []; writes = [] }
+abbrev pub port_kinds : Operation → PortKinds
+port_kinds (source kind cells) = record { reads = []; writes = kind ∷ [] }
+port_kinds (const k) = record { reads = UnitKind ∷ []; writes = kind_of_type (type_of k) ∷ [] }
+port_kinds (unary dialect op) = record { reads = kind_of_type (unary_operand op) ∷ []; writes = kind_of_type (unary_operand op) ∷ [] }
+port_kinds (binary dialect op) = record { reads = kind_of_type (binary_operand op) ∷ kind_of_type (binary_operand op) ∷ []; writes = kind_of_type (binary_result op) ∷ [] }
+port_kinds iota = record { reads = IntKind ∷ []; writes = BoolKind ∷ IntKind ∷ [] }
+port_kinds units_of = record { reads = BoolKind ∷ []; writes = UnitKind ∷ [] }
+port_kinds (scan_add dialect) = record { reads = BoolKind ∷ IntKind ∷ []; writes = IntKind ∷ [] }
+port_kinds (reduce dialect reduction) = record { reads = BoolKind ∷ reduced_kind reduction ∷ []; writes = reduced_kind reduction ∷ [] }
+port_kinds (length_of dialect) = record { reads = BoolKind ∷ []; writes = IntKind ∷ [] }
+port_kinds (dist kind) = record { reads = kind ∷ BoolKind ∷ []; writes = kind ∷ [] }
+port_kinds (pack kind) = record { reads = BoolKind ∷ kind ∷ []; writes = kind ∷ [] }
+port_kinds pack_groups = record { reads = BoolKind ∷ BoolKind ∷ []; writes = BoolKind ∷ [] }
+port_kinds flag_of_bool = record { reads = BoolKind ∷ []; writes = BoolKind ∷ [] }
+port_kinds same_flags = record { reads = BoolKind ∷ BoolKind ∷ []; writes = [] }
+port_kinds concat_flags = record { reads = BoolKind ∷ BoolKind ∷ []; writes = BoolKind ∷ [] }
+port_kinds part_flags = record { reads = BoolKind ∷ BoolKind ∷ BoolKind ∷ []; writes = BoolKind ∷ BoolKind ∷ [] }
+port_kinds the_check = record { reads = BoolKind ∷ []; writes = [] }
+port_kinds append_flags = record { reads = BoolKind ∷ BoolKind ∷ []; writes = BoolKind ∷ [] }
+port_kinds (interleave kind) = record { reads = BoolKind ∷ BoolKind ∷ kind ∷ kind ∷ []; writes = kind ∷ [] }
+port_kinds interleave_groups = record { reads = BoolKind ∷ BoolKind ∷ BoolKind ∷ BoolKind ∷ []; writes = BoolKind ∷ [] }
+port_kinds (print ty) = record { reads = kinds_of ty; writes = [] }
+port_kinds (tab ty) = record { reads = kinds_of (seq ty); writes = VecKind ∷ [] }
+port_kinds (seq_of ty) = record { reads = VecKind ∷ []; writes = kinds_of (seq ty) }
+port_kinds (index ty) = record { reads = VecKind ∷ IntKind ∷ []; writes = kinds_of ty }
+port_kinds (fork kind outputs) = record { reads = kind ∷ []; writes = replicate outputs kind }
+port_kinds (sink kind) = record { reads = kind ∷ []; writes = [] }
 
--- what it writes, as a function of what it reads
+-- what it makes of the streams that it reads
 abbrev pub made_by : Operation → Columns → Option Columns
-made_by operation = (work_of operation).makes
+made_by (source kind cells) = source_made cells
+made_by (const k) = const_made k
+made_by (unary dialect op) = unary_made dialect op
+made_by (binary dialect op) = binary_made dialect op
+made_by iota = iota_made
+made_by units_of = units_of_made
+made_by (scan_add dialect) = scan_add_made dialect
+made_by (reduce dialect reduction) = reduce_made dialect reduction
+made_by (length_of dialect) = length_made dialect
+made_by (dist kind) = dist_made kind
+made_by (pack kind) = pack_made kind
+made_by pack_groups = pack_groups_made
+made_by flag_of_bool = flag_of_bool_made
+made_by same_flags = same_flags_made
+made_by concat_flags = concat_flags_made
+made_by part_flags = part_flags_made
+made_by the_check = the_check_made
+made_by append_flags = append_flags_made
+made_by (interleave kind) = interleave_made kind
+made_by interleave_groups = interleave_groups_made
+made_by (print ty) = print_made ty
+made_by (tab ty) = tab_made ty
+made_by (seq_of ty) = seq_made ty
+made_by (index ty) = index_made ty
+made_by (fork kind outputs) = fork_made kind outputs
+made_by (sink kind) = sink_made kind
 
 -- a transducer, the offset of the form that it comes from, and the numbers of the streams that it reads, port by port
 pub record Step : Type 0 where

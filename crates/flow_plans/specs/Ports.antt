@@ -3,13 +3,13 @@ use Rattle.std.specs.Prelude.{◌≡◌, List, [], ◌∷◌, ◌++◌, Some}
 use Rattle.std.specs.List.{slice_get}
 use Rattle.flow_messages.specs.declared.message.Kind.{Kind}
 use Rattle.flow_rows.specs.Lists.{each}
-use Rattle.flow_plans.specs.Plans.{Operation, Step, work_of}
+use Rattle.flow_plans.specs.Plans.{Operation, Step, port_kinds}
 
 abbrev pub kinds_read : Operation → List Kind
-kinds_read operation = (work_of operation).reads
+kinds_read operation = (port_kinds operation).reads
 
 abbrev pub kinds_written : Operation → List Kind
-kinds_written operation = (work_of operation).writes
+kinds_written operation = (port_kinds operation).writes
 
 -- each step reads streams that there are, one at each port and of the port's kind, where those before it are of these kinds
 abbrev pub AreWired : List Kind → List Step → Type 0

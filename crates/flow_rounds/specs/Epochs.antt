@@ -1,5 +1,5 @@
 -- Shares over rings before and after an epoch.
-use Rattle.std.specs.Prelude.{◌≡◌, ℕ, ◌<◌, true, false, List, length, map, Some, slice_index_or}
+use Rattle.std.specs.Prelude.{◌≡◌, ℕ, ◌+◌, ◌<◌, ◌≤◌, true, false, List, length, map, Some, slice_index_or}
 use Rattle.kahn.specs.Configurations.{Configuration, IsSound}
 use Rattle.kahn.specs.Runs.{AtRest}
 use Rattle.flow_messages.specs.Signals.{Signal}
@@ -24,6 +24,14 @@ module _ {X : Type 0} {t : Ghosts X} {u : EndsGhosts Rings} where
   -- how many messages were sent and received on all edges
   abbrev pub moved_in : SharedNetwork t → List (Share X Rings t u) → ℕ
   moved_in network shares = moves_by network (view_at shares)
+
+  -- a message was sent or received since
+  abbrev pub MovedSince : SharedNetwork t → List (Share X Rings t u) → List (Share X Rings t u) → Type 0
+  MovedSince network shares later = moved_in network shares < moved_in network later
+
+  -- so many messages at least were sent or received since
+  abbrev pub MovedAtLeast : SharedNetwork t → ℕ → List (Share X Rings t u) → List (Share X Rings t u) → Type 0
+  MovedAtLeast network count shares later = count + moved_in network shares ≤ moved_in network later
 
   -- A share later: it has its number, its nodes in their places, and its ends.
   pub record IsLater (share later : Share X Rings t u) : Type 0 where

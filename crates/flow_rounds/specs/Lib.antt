@@ -3,3 +3,4 @@ pub mod Epochs
 pub mod Few
 pub mod Rounds
 pub mod Owners
+pub mod Lent

@@ -1,5 +1,5 @@
 -- Shares of a graph between two rounds.
-use Rattle.std.specs.Prelude.{◌≡◌, ℕ, ◌<◌, List, length, map, Some}
+use Rattle.std.specs.Prelude.{◌≡◌, ℕ, ◌+◌, ◌<◌, ◌≤◌, List, length, map, Some}
 use Rattle.kahn.specs.Configurations.{Configuration, start}
 use Rattle.kahn.specs.Runs.{Reaches, AtRest}
 use Rattle.flow_messages.specs.Signals.{Signal}
@@ -38,6 +38,14 @@ abbrev pub moved_in : {X : Type 0} {t : Ghosts X} → SharedNetwork t → List C
 moved_in network boxes = moves_by network (views_of boxes)
 
 module _ {X : Type 0} {t : Ghosts X} {u : EndsGhosts Boxes} (network : SharedNetwork t) where
+  -- a message was sent or received since
+  abbrev pub MovedSince : List (Share X Boxes t u) → List (Share X Boxes t u) → Type 0
+  MovedSince shares later = moved_in network (boxes_of shares) < moved_in network (boxes_of later)
+
+  -- so many messages at least were sent or received since
+  abbrev pub MovedAtLeast : ℕ → List (Share X Boxes t u) → List (Share X Boxes t u) → Type 0
+  MovedAtLeast count shares later = count + moved_in network (boxes_of shares) ≤ moved_in network (boxes_of later)
+
   -- where the nodes of these shares stand, with what their boxes say
   abbrev pub shares_configuration : List t.State → List (Share X Boxes t u) → Configuration t.State Signal
   shares_configuration states shares = box_configuration t network.share network.edges states (boxes_of shares)

@@ -1,10 +1,10 @@
 // Epochs.
-ghost use Rattle.std.specs.Prelude.{◌≡◌, ◌+◌, ◌<◌, ◌≤◌, ◌⊎◌, length, IfOk, OnOk};
-ghost use Rattle.flow_shares.specs.Starts.{AskedForEach, AskedAtEach};
+ghost use Rattle.std.specs.Prelude.{◌≡◌, ◌<◌, ◌⊎◌, IfOk, OnOk};
+ghost use Rattle.flow_shares.specs.Starts.{AsksForEach, AsksAtEach};
 ghost use Rattle.flow_shares.specs.declared.error.WorkError.TheVariants.{NoThread};
 ghost use Rattle.flow_meetings.specs.Open.{AreOwners};
 ghost use Rattle.flow_meetings.specs.SharedNetworks.{SharedNetwork, AreFed};
-ghost use Rattle.flow_rounds.specs.Epochs.{moved_in, AreLater, AreOfOneGraph, SharesHaveMet, StandSound, StandAtRest, IsEpoch};
+ghost use Rattle.flow_rounds.specs.Epochs.{AreLater, AreOfOneGraph, SharesHaveMet, StandSound, StandAtRest, IsEpoch, MovedSince, MovedAtLeast};
 ghost use Rattle.flow_rounds.specs.Few.{EpochsLead};
 
 use crate::epoch_meeting::meet;
@@ -42,8 +42,7 @@ pub fn epoch<
     requires graph { AreOfOneGraph network shares.items }
     requires fed { AreFed shares.items }
     ensures epoch { IfOk result (λ back. IsEpoch network shares.items back.items) }
-    ensures asked { OnOk result (AskedForEach (length shares.items) (S.asked start.old)
-        (S.asked start.new)) }
+    ensures asked { OnOk result (AsksForEach S.asked start.old start.new shares.items) }
     ensures refused { S.refused start.new → S.refused start.old ⊎ (result ≡ Err NoThread) }
 {
     let met = meet(alloc, shares, owners)?;
@@ -89,12 +88,11 @@ pub fn run_epochs<
     ensures rest { IfOk result (λ made. StandAtRest network made.0.items) }
     ensures epochs { IfOk result (λ made.
         EpochsLead network shares.items made.0.items made.1) }
-    ensures least { IfOk result (λ made. moved_in network shares.items <
-        moved_in network made.0.items → 0 < made.1) }
-    ensures most { IfOk result (λ made. made.1 + moved_in network shares.items ≤
-        moved_in network made.0.items) }
-    ensures asked { IfOk result (λ made. AskedAtEach made.1 (length shares.items)
-        (S.asked start.old) (S.asked start.new)) }
+    ensures least { IfOk result (λ made. MovedSince network shares.items made.0.items →
+        0 < made.1) }
+    ensures most { IfOk result (λ made. MovedAtLeast network made.1 shares.items made.0.items) }
+    ensures asked { IfOk result (λ made. AsksAtEach S.asked start.old start.new made.1
+        shares.items) }
     ensures refused { S.refused start.new → S.refused start.old ⊎ (result ≡ Err NoThread) }
 {
     let mut shares = meet(alloc, shares, owners)?;

@@ -17,6 +17,7 @@ mod epoch_meeting;
 mod epoch_parts;
 mod epochs;
 mod owners;
+mod part;
 mod round;
 mod round_meeting;
 mod round_parts;

@@ -1,11 +1,11 @@
 // Rounds.
-ghost use Rattle.std.specs.Prelude.{◌≡◌, ◌+◌, ◌<◌, ◌≤◌, ◌⊎◌, length, IfOk, OnOk};
-ghost use Rattle.flow_shares.specs.Starts.{AskedForEach, AskedAtEach};
+ghost use Rattle.std.specs.Prelude.{◌≡◌, ◌<◌, ◌⊎◌, length, IfOk, OnOk};
+ghost use Rattle.flow_shares.specs.Starts.{AsksForEach, AsksAtEach};
 ghost use Rattle.flow_shares.specs.declared.error.WorkError.TheVariants.{NoThread};
 ghost use Rattle.flow_meetings.specs.Open.{AreOwners};
 ghost use Rattle.flow_meetings.specs.SharedNetworks.{SharedNetwork};
 ghost use Rattle.flow_rounds.specs.Rounds.{IsRound, RoundsLead};
-ghost use Rattle.flow_rounds.specs.Standing.{boxes_of, moved_in, StandBetweenRounds, RestBetweenRounds};
+ghost use Rattle.flow_rounds.specs.Standing.{StandBetweenRounds, RestBetweenRounds, MovedSince, MovedAtLeast};
 
 use crate::round_meeting::meet;
 use flow_base::Transducer;
@@ -48,12 +48,11 @@ pub fn run_rounds<
     ensures count { IfOk result (λ made. length made.0.items ≡ length shares.items) }
     ensures rounds { IfOk result (λ made.
         RoundsLead network shares.items made.0.items made.1) }
-    ensures least { IfOk result (λ made. moved_in network (boxes_of shares.items) <
-        moved_in network (boxes_of made.0.items) → 0 < made.1) }
-    ensures most { IfOk result (λ made. made.1 + moved_in network (boxes_of shares.items) ≤
-        moved_in network (boxes_of made.0.items)) }
-    ensures asked { IfOk result (λ made. AskedAtEach made.1 (length shares.items)
-        (S.asked start.old) (S.asked start.new)) }
+    ensures least { IfOk result (λ made. MovedSince network shares.items made.0.items →
+        0 < made.1) }
+    ensures most { IfOk result (λ made. MovedAtLeast network made.1 shares.items made.0.items) }
+    ensures asked { IfOk result (λ made. AsksAtEach S.asked start.old start.new made.1
+        shares.items) }
     ensures refused { S.refused start.new → S.refused start.old ⊎ (result ≡ Err NoThread) }
 {
     let mut shares = shares;
@@ -90,8 +89,7 @@ fn round<
     requires stand { StandBetweenRounds network shares.items }
     ensures round { IfOk result (λ made. IsRound network shares.items made.items) }
     ensures count { IfOk result (λ made. length made.items ≡ length shares.items) }
-    ensures asked { OnOk result (AskedForEach (length shares.items) (S.asked start.old)
-        (S.asked start.new)) }
+    ensures asked { OnOk result (AsksForEach S.asked start.old start.new shares.items) }
     ensures refused { S.refused start.new → S.refused start.old ⊎ (result ≡ Err NoThread) }
 {
     let back = run_all(rt, alloc, shares, chunk, idle_turns, gate, start)?;

@@ -1,26 +1,16 @@
 // Shares without their boxes, while these meet.
 ghost use Rattle.std.specs.Prelude.{◌≡◌, false, map, IfOk};
-ghost use Rattle.std.specs.List.{All, AllZip};
-ghost use Rattle.flow_lanes.specs.Rings.{Kept};
-ghost use Rattle.flow_boxes.specs.Contents.{view_of};
+ghost use Rattle.std.specs.List.{All};
+ghost use Rattle.flow_rounds.specs.Lent.{part_numbers, part_nodes, KeepBoxes};
+ghost use Rattle.flow_meetings.specs.SharedNetworks.{numbers_of};
+ghost use Rattle.flow_meetings.specs.Deals.{nodes_in};
 
+use crate::part::Part;
 use flow_base::Transducer;
 use flow_boxes::Boxes;
-use flow_networks::Placed;
 use flow_shares::Share;
 use std::alloc::{AllocError, Global};
 use std::snapshot::Snapshot;
-
-/// What is left of a share without its boxes.
-#[derive(Drop)]
-pub(crate) struct Part<T: Transducer> {
-    pub(crate) number: usize,
-    pub(crate) nodes: Vec<Placed<T>>,
-    pub(crate) share: Snapshot<Share<T, Boxes>>,
-    ghost same_number: { number ≡ share.value.number },
-    ghost same_nodes: { nodes ≡ share.value.nodes },
-    ghost fed: { share.value.starved ≡ false },
-}
 
 /// Takes shares apart, in order.
 pub(crate) fn take_apart<T: Transducer + Drop>(
@@ -54,12 +44,9 @@ pub(crate) fn put_together<T: Transducer + Drop>(
     parts: Vec<Part<T>>,
     boxes: Vec<Boxes>,
 ) -> Result<Vec<Share<T, Boxes>>, AllocError>
-    requires kept { AllZip (λ part ends. Kept (view_of part.share.value.ends)
-        (view_of ends)) parts.items boxes.items }
-    ensures numbers { IfOk result (λ shares. map (λ share. share.number) shares.items ≡
-        map (λ part. part.share.value.number) parts.items) }
-    ensures nodes { IfOk result (λ shares. map (λ share. share.nodes.items) shares.items ≡
-        map (λ part. part.share.value.nodes.items) parts.items) }
+    requires kept { KeepBoxes parts.items boxes.items }
+    ensures numbers { IfOk result (λ shares. numbers_of shares.items ≡ part_numbers parts.items) }
+    ensures nodes { IfOk result (λ shares. nodes_in shares.items ≡ part_nodes parts.items) }
     ensures boxes { IfOk result (λ shares. map (λ share. share.ends) shares.items ≡ boxes.items) }
     ensures fed { IfOk result (λ shares. All (λ share. share.starved ≡ false) shares.items) }
 {

@@ -10,6 +10,8 @@ use Rattle.snesl_operators.specs.declared.scalar.Scalar.TheVariants.{Int, Bool a
 use Rattle.snesl_operators.specs.declared.operator.BinaryOperator.{BinaryOperator}
 use Rattle.snesl_operators.specs.declared.operator.BinaryOperator.TheVariants.{Add}
 use Rattle.flow_base.specs.Machines.{Move, begins, takes, gives, Machine, one_write}
+use Rattle.flow_base.specs.Members.{NodeOf, node_of}
+use Rattle.flow_base.specs.declared.node.Node.{Node}
 use Rattle.flow_scalar.specs.Rows.{BinaryRow}
 use Rattle.flow_scalar.specs.Operands.{on_operand}
 use Rattle.flow_folds.specs.OwnDialect.{InOwn}
@@ -68,3 +70,7 @@ IntsAt dialect op xs ys zs n = (k : ℕ) → k < n → binary_value dialect op (
 -- the values at the first n pairs of these integers are these truth values
 abbrev pub FlagsAt : Dialect → BinaryOperator → List ℤ → List ℤ → List Bool → ℕ → Type 0
 FlagsAt dialect op xs ys zs n = (k : ℕ) → k < n → binary_value dialect op (Int (slice_index_or xs k (pos 0))) (Int (slice_index_or ys k (pos 0))) ≡ Ok (Truth (slice_index_or zs k false))
+
+-- the transducer that a node makes of it
+abbrev pub binary_node : NodeOf (Node Binary)
+binary_node = node_of binary_view binary_machine

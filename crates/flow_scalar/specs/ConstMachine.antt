@@ -5,6 +5,8 @@ use Rattle.snesl_operators.specs.declared.scalar.Scalar.{Scalar}
 use Rattle.snesl_operators.specs.declared.scalar.Scalar.TheVariants.{Bool as BoolScalar}
 use Rattle.flow_messages.specs.declared.message.Kind.TheVariants.{Unit as UnitKind}
 use Rattle.flow_base.specs.Machines.{Move, begins, gives, on_kind, Machine, one_write}
+use Rattle.flow_base.specs.Members.{NodeOf, node_of}
+use Rattle.flow_base.specs.declared.node.Node.{Node}
 use Rattle.flow_scalar.specs.Rows.{ConstRow}
 use Rattle.flow_folds.specs.Scalars.{kind_of_type, cell_of_scalar, ScalarInRange}
 use Rattle.flow_scalar.specs.declared.constant.Const.{Const}
@@ -34,3 +36,7 @@ const_machine = record {
 -- what the machine sees of a worker
 abbrev pub const_view : Const → Scalar × Bool
 const_view n = (n.scalar, n.due)
+
+-- the transducer that a node makes of it
+abbrev pub const_node : NodeOf (Node Const)
+const_node = node_of const_view const_machine

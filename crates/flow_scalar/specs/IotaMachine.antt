@@ -8,6 +8,8 @@ use Rattle.flow_messages.specs.Cells.{flag, int}
 use Rattle.flow_messages.specs.declared.message.Kind.{Kind}
 use Rattle.flow_messages.specs.declared.message.Kind.TheVariants.{Bool as BoolKind, Int as IntKind}
 use Rattle.flow_base.specs.Machines.{Move, begins, gives, on_int, Machine}
+use Rattle.flow_base.specs.Members.{NodeOf, node_of}
+use Rattle.flow_base.specs.declared.node.Node.{Node}
 use Rattle.flow_scalar.specs.Rows.{IotaRow}
 use Rattle.flow_scalar.specs.declared.iota.Iota.{Iota}
 use Rattle.flow_scalar.specs.declared.iota.Iota.TheVariants.{Between, Flag, Number}
@@ -79,3 +81,7 @@ iota_machine = record {
 -- what the machine sees of a worker
 abbrev pub iota_view : Iota → Unit {0} × Iota
 iota_view s = (tt, s)
+
+-- the transducer that a node makes of it
+abbrev pub iota_node : NodeOf (Node Iota)
+iota_node = node_of iota_view iota_machine

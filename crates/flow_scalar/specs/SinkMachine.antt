@@ -3,6 +3,8 @@ use Rattle.std.specs.Prelude.{false, Ok}
 use Rattle.flow_messages.specs.declared.message.Kind.{Kind}
 use Rattle.flow_messages.specs.declared.message.Kind.TheVariants.{Unit as UnitKind}
 use Rattle.flow_base.specs.Machines.{Move, begins, on_kind, Machine}
+use Rattle.flow_base.specs.Members.{NodeOf, node_of}
+use Rattle.flow_base.specs.declared.node.Node.{Node}
 use Rattle.flow_scalar.specs.Rows.{SinkRow}
 use Rattle.flow_scalar.specs.declared.sink.Sink.{Sink}
 
@@ -30,3 +32,7 @@ sink_machine = record {
 -- what the machine sees of a worker
 abbrev pub sink_view : Sink → Kind × Unit {0}
 sink_view n = (n.kind, tt)
+
+-- the transducer that a node makes of it
+abbrev pub sink_node : NodeOf (Node Sink)
+sink_node = node_of sink_view sink_machine

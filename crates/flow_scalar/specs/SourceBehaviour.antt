@@ -8,6 +8,8 @@ use Rattle.flow_messages.specs.Signals.{Signal, carry, stop}
 use Rattle.flow_messages.specs.declared.message.Kind.TheVariants.{Unit as UnitKind, Vec as VecKind}
 use Rattle.flow_base.specs.Ranges.{SignalsInRange}
 use Rattle.flow_base.specs.Transducers.{Behaviour, closed}
+use Rattle.flow_base.specs.Members.{NodeOf}
+use Rattle.flow_scalar.specs.declared.source.Source.{Source}
 use Rattle.flow_scalar.specs.Rows.{SourceRow}
 use Rattle.flow_scalar.specs.Streams.{Items, items_of}
 use Rattle.flow_scalar.specs.declared.source.Stream.{Stream}
@@ -92,3 +94,7 @@ source_behaviour = record {
   in_range = λ dialect s. SignalsInRange dialect (closed (source_items s).cells);
   takes_memory = source_takes_memory;
 }
+
+-- the transducer, with its states
+abbrev pub source_node : NodeOf Source
+source_node = record { State = SourceState; state = λ n. source_state n.stream n.written n.ended; behaviour = source_behaviour }

@@ -10,6 +10,8 @@ use Rattle.snesl_operators.specs.declared.scalar.Scalar.TheVariants.{Int, Bool a
 use Rattle.snesl_operators.specs.declared.operator.UnaryOperator.{UnaryOperator}
 use Rattle.snesl_operators.specs.declared.operator.UnaryOperator.TheVariants.{Not}
 use Rattle.flow_base.specs.Machines.{Move, begins, gives, Machine, one_write}
+use Rattle.flow_base.specs.Members.{NodeOf, node_of}
+use Rattle.flow_base.specs.declared.node.Node.{Node}
 use Rattle.flow_scalar.specs.Rows.{UnaryRow}
 use Rattle.flow_scalar.specs.Operands.{on_operand}
 use Rattle.flow_folds.specs.OwnDialect.{InOwn}
@@ -57,3 +59,7 @@ IntsAt dialect op xs zs n = (k : ℕ) → k < n → unary_value dialect op (Int 
 -- the values at the first n of these truth values are these
 abbrev pub FlagsAt : Dialect → UnaryOperator → List Bool → List Bool → ℕ → Type 0
 FlagsAt dialect op xs zs n = (k : ℕ) → k < n → unary_value dialect op (Truth (slice_index_or xs k false)) ≡ Ok (Truth (slice_index_or zs k false))
+
+-- the transducer that a node makes of it
+abbrev pub unary_node : NodeOf (Node Unary)
+unary_node = node_of unary_view unary_machine

@@ -3,6 +3,8 @@ use Rattle.std.specs.Prelude.{Bool, true, false, Ok}
 use Rattle.flow_messages.specs.Cells.{unit}
 use Rattle.flow_messages.specs.declared.message.Kind.TheVariants.{Unit as UnitKind, Bool as BoolKind}
 use Rattle.flow_base.specs.Machines.{Move, begins, gives, on_flag, Machine, one_write}
+use Rattle.flow_base.specs.Members.{NodeOf, node_of}
+use Rattle.flow_base.specs.declared.node.Node.{Node}
 use Rattle.flow_scalar.specs.Rows.{UnitsOfRow}
 use Rattle.flow_scalar.specs.declared.units_of.UnitsOf.{UnitsOf}
 
@@ -31,3 +33,7 @@ units_of_machine = record {
 -- what the machine sees of a worker
 abbrev pub units_of_view : UnitsOf → Unit {0} × Bool
 units_of_view n = (tt, n.due)
+
+-- the transducer that a node makes of it
+abbrev pub units_of_node : NodeOf (Node UnitsOf)
+units_of_node = node_of units_of_view units_of_machine

@@ -10,7 +10,7 @@ ghost use Rattle.flow_messages.specs.Signals.{carry};
 ghost use Rattle.flow_base.specs.Along.{shown_signals};
 ghost use Rattle.flow_base.specs.Machines.{Leads, on_kind};
 ghost use Rattle.flow_base.specs.Nodes.{NodeState, behaviour_of, node_state};
-ghost use Rattle.flow_base.specs.Visits.{edge_of, IsWired, TakeKinds, Went, Wrote};
+ghost use Rattle.flow_base.specs.Visits.{edge_of, PortsHaveEdges, TakeKinds, Went, Wrote};
 ghost use Rattle.flow_base.specs.declared.node.Phase.TheVariants.{Working};
 ghost use Rattle.flow_scalar.specs.ForkCopies.{Copied};
 ghost use Rattle.flow_scalar.specs.ForkMachine.{ForkPorts, ForkState, fork_ports, fork_machine, idle, holding};
@@ -103,7 +103,7 @@ impl Fork {
         ends: &mut E,
         most: usize,
     ) -> usize
-        requires wired { IsWired inputs.now outputs.now 1 (length outputs.now)
+        requires wired { PortsHaveEdges inputs.now outputs.now 1 (length outputs.now)
             (E.view ends.old) }
         ensures same { E.same ends.old ends.new }
         ensures ends { SameEnds (E.view ends.old) (E.view ends.new) }
@@ -137,7 +137,7 @@ impl Fork {
         most: usize,
     ) -> usize
         requires outputs { self.old.outputs ≡ length outputs.now }
-        requires wired { IsWired inputs.now outputs.now 1 (length outputs.now)
+        requires wired { PortsHaveEdges inputs.now outputs.now 1 (length outputs.now)
             (E.view ends.old) }
         requires kinds { TakeKinds outputs.now (λ _. self.old.kind) (E.view ends.old) }
         ensures same { E.same ends.old ends.new }

@@ -2,7 +2,7 @@
 use Rattle.std.specs.Prelude.{Ok}
 use Rattle.flow_base.specs.Flags.{F, T}
 use Rattle.flow_base.specs.Machines.{on_flag, Move, begins, takes, gives, Machine, one_write}
-use Rattle.flow_segment.specs.FlagTables.{FlagTable, over_flags}
+use Rattle.flow_segment.specs.FlagTables.{FlagTable, over_flags, FlagNode, flag_node}
 use Rattle.flow_segment.specs.Rows.{AppendFlagsRow}
 use Rattle.flow_segment.specs.declared.append_flags.AppendFlagsStage.{AppendFlagsStage}
 use Rattle.flow_segment.specs.declared.append_flags.AppendFlagsStage.TheVariants.{Start, First, Second, FirstElement, SecondElement, End}
@@ -24,3 +24,7 @@ append_flags_table = record { move = append_flags_move; start = Start; row = App
 -- the same as a machine
 abbrev pub append_flags_machine : Machine (Unit {0}) AppendFlagsStage
 append_flags_machine = over_flags append_flags_table
+
+-- the transducer that a node makes of it
+abbrev pub append_flags_node : FlagNode AppendFlagsStage
+append_flags_node = flag_node append_flags_table

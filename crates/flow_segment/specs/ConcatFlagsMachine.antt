@@ -2,7 +2,7 @@
 use Rattle.std.specs.Prelude.{Ok}
 use Rattle.flow_base.specs.Flags.{F, T}
 use Rattle.flow_base.specs.Machines.{on_flag, Move, begins, takes, gives, Machine, one_write}
-use Rattle.flow_segment.specs.FlagTables.{FlagTable, over_flags}
+use Rattle.flow_segment.specs.FlagTables.{FlagTable, over_flags, FlagNode, flag_node}
 use Rattle.flow_segment.specs.Rows.{ConcatFlagsRow}
 use Rattle.flow_segment.specs.declared.concat_flags.ConcatFlagsStage.{ConcatFlagsStage}
 use Rattle.flow_segment.specs.declared.concat_flags.ConcatFlagsStage.TheVariants.{Start, Outer, Inner, Element, End}
@@ -23,3 +23,7 @@ concat_flags_table = record { move = concat_flags_move; start = Start; row = Con
 -- the same as a machine
 abbrev pub concat_flags_machine : Machine (Unit {0}) ConcatFlagsStage
 concat_flags_machine = over_flags concat_flags_table
+
+-- the transducer that a node makes of it
+abbrev pub concat_flags_node : FlagNode ConcatFlagsStage
+concat_flags_node = flag_node concat_flags_table

@@ -7,6 +7,8 @@ use Rattle.flow_messages.specs.declared.message.Kind.{Kind}
 use Rattle.flow_messages.specs.declared.message.Kind.TheVariants.{Bool as BoolKind, Vec as VecKind, Unit as UnitKind}
 use Rattle.flow_base.specs.Ranges.{CellInRange}
 use Rattle.flow_base.specs.Machines.{on_flag, on_kind, Move, begins, takes, gives, Machine, one_write}
+use Rattle.flow_base.specs.Members.{NodeOf, node_of}
+use Rattle.flow_base.specs.declared.node.Node.{Node}
 use Rattle.flow_segment.specs.Rows.{DistRow}
 use Rattle.flow_segment.specs.declared.dist.Dist.{Dist}
 
@@ -70,3 +72,7 @@ dist_machine = record {
 -- what the machine sees of a worker
 abbrev pub dist_view : Dist → Kind × DistState
 dist_view n = (n.kind, dist_state n.held n.copies)
+
+-- the transducer that a node makes of it
+abbrev pub dist_node : NodeOf (Node Dist)
+dist_node = node_of dist_view dist_machine

@@ -2,7 +2,7 @@
 use Rattle.std.specs.Prelude.{ℕ, Ok}
 use Rattle.flow_base.specs.Flags.{F, T}
 use Rattle.flow_base.specs.Machines.{on_flag, Move, begins, gives, Machine}
-use Rattle.flow_segment.specs.FlagTables.{FlagTable, over_flags}
+use Rattle.flow_segment.specs.FlagTables.{FlagTable, over_flags, FlagNode, flag_node}
 use Rattle.flow_segment.specs.Rows.{FlagOfBoolRow}
 use Rattle.flow_segment.specs.declared.flag_of_bool.FlagOfBoolStage.{FlagOfBoolStage}
 use Rattle.flow_segment.specs.declared.flag_of_bool.FlagOfBoolStage.TheVariants.{Start, Element, End}
@@ -26,3 +26,7 @@ flag_of_bool_table = record { move = flag_of_bool_move; start = Start; row = Fla
 -- the same as a machine
 abbrev pub flag_of_bool_machine : Machine (Unit {0}) FlagOfBoolStage
 flag_of_bool_machine = over_flags flag_of_bool_table
+
+-- the transducer that a node makes of it
+abbrev pub flag_of_bool_node : FlagNode FlagOfBoolStage
+flag_of_bool_node = flag_node flag_of_bool_table

@@ -4,6 +4,8 @@ use Rattle.flow_messages.specs.Cells.{Cell, flag}
 use Rattle.flow_messages.specs.declared.message.Kind.TheVariants.{Bool as BoolKind}
 use Rattle.flow_base.specs.Lists.{Lists}
 use Rattle.flow_base.specs.Machines.{on_flag, Move, begins, takes, gives, Machine}
+use Rattle.flow_base.specs.Members.{NodeOf, node_of}
+use Rattle.flow_base.specs.declared.node.Node.{Node}
 use Rattle.flow_segment.specs.declared.over_flags.OverFlags.{OverFlags}
 use Rattle.flow_segment.specs.declared.over_flags.StageMove.{StageMove}
 use Rattle.flow_segment.specs.declared.over_flags.StageMove.TheVariants.{Begin, Take, Give}
@@ -45,3 +47,10 @@ abbrev pub move_of_stage : {S : Type 0} → StageMove S → Move S
 move_of_stage (Begin at_f at_t) = begins (on_flag at_f at_t)
 move_of_stage (Take port at_f at_t) = takes port (on_flag at_f at_t)
 move_of_stage (Give port b next) = gives port (flag b) next
+
+-- the transducer that a node makes of a worker over flags
+abbrev pub FlagNode : Type 0 → Type 1
+FlagNode S = NodeOf (Node (OverFlags S))
+
+abbrev pub flag_node : {S : Type 0} → FlagTable S → FlagNode S
+flag_node t = node_of stage_view (over_flags t)

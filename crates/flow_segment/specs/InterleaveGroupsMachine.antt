@@ -2,7 +2,7 @@
 use Rattle.std.specs.Prelude.{Ok}
 use Rattle.flow_base.specs.Flags.{F, T}
 use Rattle.flow_base.specs.Machines.{Move, begins, takes, gives, on_flag, Machine, one_write}
-use Rattle.flow_segment.specs.FlagTables.{FlagTable, over_flags}
+use Rattle.flow_segment.specs.FlagTables.{FlagTable, over_flags, FlagNode, flag_node}
 use Rattle.flow_segment.specs.Rows.{InterleaveGroupsRow}
 use Rattle.flow_segment.specs.declared.interleave_groups.InterleaveGroupsStage.{InterleaveGroupsStage}
 use Rattle.flow_segment.specs.declared.interleave_groups.InterleaveGroupsStage.TheVariants.{Start, Left, LeftGroup, LeftElement, LeftEnd, Right, RightGroup, RightElement, RightEnd}
@@ -27,3 +27,7 @@ interleave_groups_table = record { move = interleave_groups_move; start = Start;
 -- the same as a machine
 abbrev pub interleave_groups_machine : Machine (Unit {0}) InterleaveGroupsStage
 interleave_groups_machine = over_flags interleave_groups_table
+
+-- the transducer that a node makes of it
+abbrev pub interleave_groups_node : FlagNode InterleaveGroupsStage
+interleave_groups_node = flag_node interleave_groups_table

@@ -6,6 +6,8 @@ use Rattle.flow_messages.specs.declared.message.Kind.{Kind}
 use Rattle.flow_messages.specs.declared.message.Kind.TheVariants.{Bool as BoolKind, Unit as UnitKind}
 use Rattle.flow_base.specs.Ranges.{CellInRange}
 use Rattle.flow_base.specs.Machines.{Taking, Move, begins, takes, gives, on_flag, on_kind, Machine, one_write}
+use Rattle.flow_base.specs.Members.{NodeOf, node_of}
+use Rattle.flow_base.specs.declared.node.Node.{Node}
 use Rattle.flow_segment.specs.Rows.{InterleaveRow}
 use Rattle.flow_segment.specs.declared.interleave.Side.{Side}
 use Rattle.flow_segment.specs.declared.interleave.Side.TheVariants.{Left, Right}
@@ -82,3 +84,7 @@ interleave_machine = record {
 -- what the machine sees of a worker
 abbrev pub interleave_view : Interleave → Kind × InterleaveState
 interleave_view n = (n.kind, interleave_state n.turn)
+
+-- the transducer that a node makes of it
+abbrev pub interleave_node : NodeOf (Node Interleave)
+interleave_node = node_of interleave_view interleave_machine

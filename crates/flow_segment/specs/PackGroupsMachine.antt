@@ -2,7 +2,7 @@
 use Rattle.std.specs.Prelude.{true, false, Ok}
 use Rattle.flow_base.specs.Flags.{F, T}
 use Rattle.flow_base.specs.Machines.{on_flag, Move, begins, takes, gives, Machine, one_write}
-use Rattle.flow_segment.specs.FlagTables.{FlagTable, over_flags}
+use Rattle.flow_segment.specs.FlagTables.{FlagTable, over_flags, FlagNode, flag_node}
 use Rattle.flow_segment.specs.Rows.{PackGroupsRow}
 use Rattle.flow_segment.specs.declared.pack_groups.PackGroupsStage.{PackGroupsStage}
 use Rattle.flow_segment.specs.declared.pack_groups.PackGroupsStage.TheVariants.{Start, Flag, Element, End}
@@ -22,3 +22,7 @@ pack_groups_table = record { move = pack_groups_move; start = Start; row = PackG
 -- the same as a machine
 abbrev pub pack_groups_machine : Machine (Unit {0}) PackGroupsStage
 pack_groups_machine = over_flags pack_groups_table
+
+-- the transducer that a node makes of it
+abbrev pub pack_groups_node : FlagNode PackGroupsStage
+pack_groups_node = flag_node pack_groups_table

@@ -6,6 +6,8 @@ use Rattle.flow_messages.specs.declared.message.Kind.{Kind}
 use Rattle.flow_messages.specs.declared.message.Kind.TheVariants.{Bool as BoolKind, Unit as UnitKind}
 use Rattle.flow_base.specs.Ranges.{CellInRange}
 use Rattle.flow_base.specs.Machines.{Move, begins, takes, gives, on_flag, on_kind, Machine, one_write}
+use Rattle.flow_base.specs.Members.{NodeOf, node_of}
+use Rattle.flow_base.specs.declared.node.Node.{Node}
 use Rattle.flow_segment.specs.Rows.{PackRow}
 use Rattle.flow_segment.specs.declared.pack.Pair.{Pair}
 use Rattle.flow_segment.specs.declared.pack.Pair.TheVariants.{Start, Item as AtItem, Copy}
@@ -77,3 +79,7 @@ abbrev pub trues : List Bool → ℕ
 trues [] = 0
 trues (true ∷ bs) = suc (trues bs)
 trues (false ∷ bs) = trues bs
+
+-- the transducer that a node makes of it
+abbrev pub pack_node : NodeOf (Node Pack)
+pack_node = node_of pack_view pack_machine

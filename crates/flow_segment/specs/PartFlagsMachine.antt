@@ -3,7 +3,7 @@ use Rattle.std.specs.Prelude.{ℕ, Ok, Err}
 use Rattle.snesl_data.specs.declared.fault.FaultKind.TheVariants.{Part as PartFault}
 use Rattle.flow_base.specs.Flags.{F, T}
 use Rattle.flow_base.specs.Machines.{Move, begins, takes, gives, on_flag, Machine, one_write}
-use Rattle.flow_segment.specs.FlagTables.{FlagTable, over_flags}
+use Rattle.flow_segment.specs.FlagTables.{FlagTable, over_flags, FlagNode, flag_node}
 use Rattle.flow_segment.specs.Rows.{PartFlagsRow}
 use Rattle.flow_segment.specs.declared.part_flags.PartFlagsStage.{PartFlagsStage}
 use Rattle.flow_segment.specs.declared.part_flags.PartFlagsStage.TheVariants.{Start, Parted, Open, Test, Element, PartElement, Part, PartEnd, Last, End}
@@ -35,3 +35,7 @@ part_flags_table = record { move = part_flags_move; start = Start; row = PartFla
 -- the same as a machine
 abbrev pub part_flags_machine : Machine (Unit {0}) PartFlagsStage
 part_flags_machine = over_flags part_flags_table
+
+-- the transducer that a node makes of it
+abbrev pub part_flags_node : FlagNode PartFlagsStage
+part_flags_node = flag_node part_flags_table

@@ -2,7 +2,7 @@
 use Rattle.std.specs.Prelude.{true, false, Ok, Err}
 use Rattle.snesl_data.specs.declared.fault.FaultKind.TheVariants.{Length}
 use Rattle.flow_base.specs.Machines.{on_flag, Move, begins, takes, Machine}
-use Rattle.flow_segment.specs.FlagTables.{FlagTable, over_flags}
+use Rattle.flow_segment.specs.FlagTables.{FlagTable, over_flags, FlagNode, flag_node}
 use Rattle.flow_segment.specs.Rows.{SameFlagsRow}
 use Rattle.flow_segment.specs.declared.same_flags.SameFlagsStage.{SameFlagsStage}
 use Rattle.flow_segment.specs.declared.same_flags.SameFlagsStage.TheVariants.{Start, Second}
@@ -20,3 +20,7 @@ same_flags_table = record { move = same_flags_move; start = Start; row = SameFla
 -- the same as a machine
 abbrev pub same_flags_machine : Machine (Unit {0}) SameFlagsStage
 same_flags_machine = over_flags same_flags_table
+
+-- the transducer that a node makes of it
+abbrev pub same_flags_node : FlagNode SameFlagsStage
+same_flags_node = flag_node same_flags_table

@@ -2,7 +2,7 @@
 use Rattle.std.specs.Prelude.{Ok, Err}
 use Rattle.snesl_data.specs.declared.fault.FaultKind.TheVariants.{The}
 use Rattle.flow_base.specs.Machines.{on_flag, Move, begins, takes, Machine}
-use Rattle.flow_segment.specs.FlagTables.{FlagTable, over_flags}
+use Rattle.flow_segment.specs.FlagTables.{FlagTable, over_flags, FlagNode, flag_node}
 use Rattle.flow_segment.specs.Rows.{TheCheckRow}
 use Rattle.flow_segment.specs.declared.the_check.TheCheckStage.{TheCheckStage}
 use Rattle.flow_segment.specs.declared.the_check.TheCheckStage.TheVariants.{Start, Element}
@@ -19,3 +19,7 @@ the_check_table = record { move = the_check_move; start = Start; row = TheCheckR
 -- the same as a machine
 abbrev pub the_check_machine : Machine (Unit {0}) TheCheckStage
 the_check_machine = over_flags the_check_table
+
+-- the transducer that a node makes of it
+abbrev pub the_check_node : FlagNode TheCheckStage
+the_check_node = flag_node the_check_table

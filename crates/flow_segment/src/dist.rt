@@ -9,7 +9,7 @@ ghost use Rattle.flow_messages.specs.Kinds.{FitsEdge, TakesKind};
 ghost use Rattle.flow_messages.specs.Signals.{carry};
 ghost use Rattle.flow_messages.specs.declared.message.Kind.TheVariants.{Vec as VecKind};
 ghost use Rattle.flow_base.specs.Nodes.{behaviour_of, node_state};
-ghost use Rattle.flow_base.specs.Visits.{edge_of, IsWired, Went};
+ghost use Rattle.flow_base.specs.Visits.{edge_of, PortsHaveEdges, Went};
 ghost use Rattle.flow_base.specs.declared.node.Phase.TheVariants.{Working};
 ghost use Rattle.flow_segment.specs.DistMachine.{dist_machine, dist_view};
 
@@ -192,7 +192,7 @@ impl Dist {
     fn hold_next<E: Ends>(&mut self, inputs: &[usize], outputs: &[usize], ends: &mut E) -> usize
         requires empty { self.old.held ≡ None }
         requires idle { self.old.copies ≡ false }
-        requires wired { IsWired inputs.now outputs.now 2 1 (E.view ends.old) }
+        requires wired { PortsHaveEdges inputs.now outputs.now 2 1 (E.view ends.old) }
         ensures idle { self.new.copies ≡ false }
         ensures kind { self.new.kind ≡ self.old.kind }
         ensures same { E.same ends.old ends.new }
@@ -221,7 +221,7 @@ impl Dist {
     ) -> usize
         requires idle { self.old.copies ≡ false }
         requires some { 0 < most }
-        requires wired { IsWired inputs.now outputs.now 2 1 (E.view ends.old) }
+        requires wired { PortsHaveEdges inputs.now outputs.now 2 1 (E.view ends.old) }
         requires kind { TakesKind ((E.view ends.old).kind (edge_of outputs.now 0)) self.old.kind }
         ensures idle { self.new.copies ≡ false }
         ensures kind { self.new.kind ≡ self.old.kind }
@@ -270,7 +270,7 @@ impl Dist {
     ) -> usize
         requires idle { self.old.copies ≡ false }
         requires some { 0 < most }
-        requires wired { IsWired inputs.now outputs.now 2 1 (E.view ends.old) }
+        requires wired { PortsHaveEdges inputs.now outputs.now 2 1 (E.view ends.old) }
         requires kind { TakesKind ((E.view ends.old).kind (edge_of outputs.now 0)) self.old.kind }
         ensures idle { self.new.copies ≡ false }
         ensures kind { self.new.kind ≡ self.old.kind }
@@ -318,7 +318,7 @@ impl Dist {
         block: &mut [i64],
     ) -> usize
         requires idle { self.old.copies ≡ false }
-        requires wired { IsWired inputs.now outputs.now 2 1 (E.view ends.old) }
+        requires wired { PortsHaveEdges inputs.now outputs.now 2 1 (E.view ends.old) }
         requires kind { TakesKind ((E.view ends.old).kind (edge_of outputs.now 0)) self.old.kind }
         ensures same { E.same ends.old ends.new }
         ensures ends { SameEnds (E.view ends.old) (E.view ends.new) }

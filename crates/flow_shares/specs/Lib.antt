@@ -1,5 +1,6 @@
 pub mod Deals
 pub mod Shares
+pub mod Running
 pub mod Pumps
 pub mod Lending
 pub mod Looks

@@ -1,5 +1,5 @@
 -- What a start was asked.
-use Rattle.std.specs.Prelude.{◌≡◌, ◌≤◌, ◌++◌, ℕ, zero, suc, List, []}
+use Rattle.std.specs.Prelude.{◌≡◌, ◌≤◌, ◌++◌, ℕ, zero, suc, List, [], length}
 use Rattle.std.specs.List.{range_with_len}
 use Rattle.std.specs.Io.Iter.{u64_saturate}
 
@@ -22,3 +22,17 @@ pub record AskedAtEach (turns count : ℕ) (before after : List ℕ) : Type 0 wh
   pub times : ℕ
   pub counted : turns ≡ u64_saturate times
   pub asked : after ≡ before ++ each_again times count
+
+-- the same of a start before and after
+module _ {Y : Type 0} (asked : Y → List ℕ) (start start' : Y) where
+  -- it was asked for a thread for each of these, in order
+  abbrev pub AsksForEach : {A : Type 0} → List A → Type 0
+  AsksForEach these = AskedForEach (length these) (asked start) (asked start')
+
+  -- it was asked for threads for the first of these
+  abbrev pub AsksForFirst : {A : Type 0} → List A → Type 0
+  AsksForFirst these = AskedForFirst (length these) (asked start) (asked start')
+
+  -- each of so many turns asked it for a thread for each of these
+  abbrev pub AsksAtEach : {A : Type 0} → ℕ → List A → Type 0
+  AsksAtEach turns these = AskedAtEach turns (length these) (asked start) (asked start')

@@ -18,13 +18,12 @@ pub fn gather<T: Transducer + Drop>(
 ) -> Result<Vec<Placed<T>>, AllocError>
     requires some { 0 < length share.now }
     requires dealt { AreSomeDealt share.now count (lists_in dealt.items) }
-    ensures count { IfOk result (λ nodes. length nodes.items ≡ count) }
-    ensures nodes { IfOk result (λ nodes. AreJustDealt share.now nodes.items
-        (lists_in dealt.items)) }
-    ensures places { IfOk result (λ nodes. AreSameAsDealt share.now
-        (lists_in dealt.items) nodes.items) }
-    ensures same { IfOk result (λ nodes. AreJustAsDealt share.now
-        (lists_in dealt.items) nodes.items) }
+    ensures count { IfOk result (λ made. length made.items ≡ count) }
+    ensures nodes { IfOk result (λ made. AreJustDealt share.now made.items (lists_in dealt.items)) }
+    ensures places { IfOk result (λ made. AreSameAsDealt share.now
+        (lists_in dealt.items) made.items) }
+    ensures same { IfOk result (λ made. AreJustAsDealt share.now
+        (lists_in dealt.items) made.items) }
 {
     let mut nodes = Vec::with_capacity(alloc, count)?;
     // The last of the nodes that are left ends its share.

@@ -1,9 +1,10 @@
 // One turn of a share.
 ghost use Rattle.std.specs.Prelude.{◌≡◌, ◌<◌, true, false, IfOk, OnErr};
 ghost use Rattle.std.specs.List.{All};
-ghost use Rattle.flow_messages.specs.Ends.{SameEnds, SameTraffic};
+ghost use Rattle.flow_messages.specs.Ends.{SameEnds};
 ghost use Rattle.flow_networks.specs.Skeletons.{AreSamePlaces};
-ghost use Rattle.flow_shares.specs.Shares.{HasItsEnds, AreApart, IsOwn, AreStuck, TakesMemory, HaveMoved, HaveMovedAndLost, SpareOthers};
+ghost use Rattle.flow_shares.specs.Shares.{HasItsEnds, AreApart, IsOwn, TakesMemory};
+ghost use Rattle.flow_shares.specs.Running.{NoneMoved, SomeMoved, NoneCanMove, RanOn, RanAndLost, RanApart};
 
 use crate::over::is_over;
 use flow_base::Transducer;
@@ -27,19 +28,14 @@ pub fn pass<T: Transducer, E: Ends>(
     ensures places { AreSamePlaces nodes.old.items nodes.new.items }
     ensures same { E.same ends.old ends.new }
     ensures ends { SameEnds (E.view ends.old) (E.view ends.new) }
-    ensures moved { IfOk result (λ any. HaveMoved nodes.old.items nodes.new.items (E.view ends.old)
-        (E.view ends.new)) }
-    ensures spares { IfOk result (λ _. SpareOthers nodes.old.items (E.view ends.old)
-        (E.view ends.new)) }
-    ensures lost { OnErr result (HaveMovedAndLost nodes.old.items nodes.new.items (E.view ends.old)
-        (E.view ends.new)) }
+    ensures moved { IfOk result (λ any. RanOn E.view nodes.old ends.old nodes.new ends.new) }
+    ensures spares { IfOk result (λ _. RanApart E.view nodes.old ends.old nodes.new ends.new) }
+    ensures lost { OnErr result (RanAndLost E.view nodes.old ends.old nodes.new ends.new) }
     ensures starves { OnErr result (TakesMemory nodes.new.items) }
-    ensures busy { IfOk result (λ any. any ≡ true →
-        SameTraffic (E.view ends.old) (E.view ends.new) → ⊥) }
-    ensures calm { IfOk result (λ any. any ≡ false →
-        SameTraffic (E.view ends.old) (E.view ends.new)) }
-    ensures stuck { IfOk result (λ any. any ≡ false → AreStuck (E.view ends.old) nodes.old.items ×
-        AreStuck (E.view ends.new) nodes.new.items) }
+    ensures busy { IfOk result (λ any. any ≡ true → SomeMoved E.view ends.old ends.new) }
+    ensures calm { IfOk result (λ any. any ≡ false → NoneMoved E.view ends.old ends.new) }
+    ensures stuck { IfOk result (λ any. any ≡ false → NoneCanMove E.view nodes.old ends.old) }
+    ensures rest { IfOk result (λ any. any ≡ false → NoneCanMove E.view nodes.new ends.new) }
 {
     // Nodes mostly end in order. After one that is not over, a test of each would cost more than it spares.
     let (mut moved, mut running) = (false, false);

@@ -1,8 +1,8 @@
 // Threads, each of which pumps a share and gives it back.
-ghost use Rattle.std.specs.Prelude.{◌≡◌, ◌<◌, ◌⊎◌, ◌++◌, ◌∷◌, [], ℕ, false, map, length, slice_index_or, IfOk, OnOk, OnErr};
+ghost use Rattle.std.specs.Prelude.{◌≡◌, ◌<◌, ◌⊎◌, ◌++◌, ◌∷◌, [], false, map, length, IfOk, OnOk, OnErr};
 ghost use Rattle.std.specs.List.{All};
-ghost use Rattle.flow_shares.specs.Pumps.{IsPumped};
-ghost use Rattle.flow_shares.specs.Starts.{AskedForEach, AskedForFirst};
+ghost use Rattle.flow_shares.specs.Pumps.{IsPumped, ArePumped};
+ghost use Rattle.flow_shares.specs.Starts.{AsksForEach, AsksForFirst};
 ghost use Rattle.flow_shares.specs.declared.error.WorkError.TheVariants.{NoThread};
 
 use crate::error::WorkError;
@@ -102,10 +102,8 @@ fn start_all<
     requires fed { All (λ share. share.starved ≡ false) shares.items }
     ensures given { IfOk result (λ threads. map (λ thread.
         thread.promise.given.value) threads.items ≡ shares.items) }
-    ensures asked { OnOk result (AskedForEach (length shares.items) (S.asked start.old)
-        (S.asked start.new)) }
-    ensures first { OnErr result (AskedForFirst (length shares.items) (S.asked start.old)
-        (S.asked start.new)) }
+    ensures asked { OnOk result (AsksForEach S.asked start.old start.new shares.items) }
+    ensures first { OnErr result (AsksForFirst S.asked start.old start.new shares.items) }
     ensures refused { S.refused start.new → S.refused start.old ⊎ (result ≡ Err NoThread) }
 {
     let mut threads = Vec::with_capacity(alloc, shares.len())?;
@@ -150,12 +148,9 @@ pub fn run_all<
     requires idle { 0 < idle_turns }
     requires fed { All (λ share. share.starved ≡ false) shares.items }
     ensures count { IfOk result (λ back. length back.items ≡ length shares.items) }
-    ensures each { IfOk result (λ back. (k : ℕ) (d : _) → k < length shares.items →
-        IsPumped (slice_index_or shares.items k d) (slice_index_or back.items k d)) }
-    ensures asked { OnOk result (AskedForEach (length shares.items) (S.asked start.old)
-        (S.asked start.new)) }
-    ensures first { OnErr result (AskedForFirst (length shares.items) (S.asked start.old)
-        (S.asked start.new)) }
+    ensures each { IfOk result (λ back. ArePumped shares.items back.items) }
+    ensures asked { OnOk result (AsksForEach S.asked start.old start.new shares.items) }
+    ensures first { OnErr result (AsksForFirst S.asked start.old start.new shares.items) }
     ensures refused { S.refused start.new → S.refused start.old ⊎ (result ≡ Err NoThread) }
 {
     let mut back = Vec::with_capacity(alloc, shares.len())?;

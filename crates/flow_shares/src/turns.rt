@@ -1,10 +1,11 @@
 // Running a share: turn after turn.
-ghost use Rattle.std.specs.Prelude.{◌≡◌, ◌<◌, ℕ, true, false, [], ◌∷◌, ◌++◌, length, IfOk, OnErr};
+ghost use Rattle.std.specs.Prelude.{◌≡◌, ◌<◌, true, false, [], ◌∷◌, ◌++◌, length, IfOk, OnErr};
 ghost use Rattle.std.specs.List.{All};
-ghost use Rattle.flow_messages.specs.Ends.{SameEnds, SameTraffic};
+ghost use Rattle.flow_messages.specs.Ends.{SameEnds};
 ghost use Rattle.flow_networks.specs.Skeletons.{AreSamePlaces};
-ghost use Rattle.flow_shares.specs.Pumps.{IsPumped};
-ghost use Rattle.flow_shares.specs.Shares.{most_turns, HasItsEnds, AreApart, IsOwn, AreStuck, TakesMemory, HaveMoved, HaveMovedForTurns, HaveMovedAndLost, SpareOthers};
+ghost use Rattle.flow_shares.specs.Pumps.{IsPumped, ShareIsStuck, ShareIsCalm, ShareRanOn, ShareLost, ShareRanApart, ShareRanOften};
+ghost use Rattle.flow_shares.specs.Shares.{most_turns, HasItsEnds, AreApart, IsOwn, TakesMemory};
+ghost use Rattle.flow_shares.specs.Running.{HeardEachTurn, NoneMoved, SomeMoved, NoneCanMove, MovesIfItCan, RanOn, RanAndLost, RanApart, RanOften};
 
 use crate::gate::Gate;
 use crate::over::are_over;
@@ -38,11 +39,8 @@ pub fn pump<T: Transducer, E: Ends, G: Gate>(
     ensures pumped { IsPumped share result }
     ensures starves { result.starved ≡ true → TakesMemory result.nodes.items }
     ensures spent { result.spent ≡ true → result.starved ≡ false }
-    ensures often { result.spent ≡ true →
-        HaveMovedForTurns most_turns idle_turns share.nodes.items result.nodes.items
-        (E.view share.ends) (E.view result.ends) }
-    ensures heard { result.spent ≡ true → (turn : ℕ) → turn < most_turns →
-        G.heard gate.now share.number turn }
+    ensures often { result.spent ≡ true → ShareRanOften share result idle_turns }
+    ensures heard { result.spent ≡ true → HeardEachTurn G.heard gate.now share.number }
     ensures none { length share.nodes.items ≡ 0 → result.spent ≡ false }
 {
     after_turns(share, chunk, idle_turns, gate)
@@ -62,27 +60,17 @@ fn after_turns<T: Transducer, E: Ends, G: Gate>(
     ensures places { AreSamePlaces share.nodes.items result.nodes.items }
     ensures same { E.same share.ends result.ends }
     ensures ends { SameEnds (E.view share.ends) (E.view result.ends) }
-    ensures moved { result.starved ≡ false → HaveMoved share.nodes.items result.nodes.items
-        (E.view share.ends) (E.view result.ends) }
-    ensures spares { result.starved ≡ false → SpareOthers share.nodes.items (E.view share.ends)
-        (E.view result.ends) }
-    ensures lost { result.starved ≡ true → HaveMovedAndLost share.nodes.items result.nodes.items
-        (E.view share.ends) (E.view result.ends) }
-    ensures busy { result.starved ≡ false → result.moved ≡ true →
-        SameTraffic (E.view share.ends) (E.view result.ends) → ⊥ }
-    ensures calm { result.starved ≡ false → result.moved ≡ false →
-        SameTraffic (E.view share.ends) (E.view result.ends) }
-    ensures progress { result.starved ≡ false → SameTraffic (E.view share.ends)
-        (E.view result.ends) → AreStuck (E.view share.ends) share.nodes.items }
-    ensures rest { result.starved ≡ false → result.spent ≡ false →
-        AreStuck (E.view result.ends) result.nodes.items }
+    ensures moved { result.starved ≡ false → ShareRanOn share result }
+    ensures spares { result.starved ≡ false → ShareRanApart share result }
+    ensures lost { result.starved ≡ true → ShareLost share result }
+    ensures busy { result.starved ≡ false → result.moved ≡ true → ShareIsCalm share result → ⊥ }
+    ensures calm { result.starved ≡ false → result.moved ≡ false → ShareIsCalm share result }
+    ensures progress { result.starved ≡ false → ShareIsCalm share result → ShareIsStuck share }
+    ensures rest { result.starved ≡ false → result.spent ≡ false → ShareIsStuck result }
     ensures starves { result.starved ≡ true → TakesMemory result.nodes.items }
     ensures spent { result.spent ≡ true → result.starved ≡ false }
-    ensures often { result.spent ≡ true →
-        HaveMovedForTurns most_turns idle_turns share.nodes.items result.nodes.items
-        (E.view share.ends) (E.view result.ends) }
-    ensures heard { result.spent ≡ true → (turn : ℕ) → turn < most_turns →
-        G.heard gate.now share.number turn }
+    ensures often { result.spent ≡ true → ShareRanOften share result idle_turns }
+    ensures heard { result.spent ≡ true → HeardEachTurn G.heard gate.now share.number }
     ensures none { length share.nodes.items ≡ 0 → result.spent ≡ false }
 {
     let Share {
@@ -149,26 +137,19 @@ fn take_turns<T: Transducer, E: Ends, G: Gate>(
     ensures places { AreSamePlaces nodes.old.items nodes.new.items }
     ensures same { E.same ends.old ends.new }
     ensures ends { SameEnds (E.view ends.old) (E.view ends.new) }
-    ensures moved { IfOk result (λ turns. HaveMoved nodes.old.items nodes.new.items
-        (E.view ends.old) (E.view ends.new)) }
-    ensures spares { IfOk result (λ _. SpareOthers nodes.old.items (E.view ends.old)
-        (E.view ends.new)) }
-    ensures lost { OnErr result (HaveMovedAndLost nodes.old.items nodes.new.items (E.view ends.old)
-        (E.view ends.new)) }
-    ensures busy { IfOk result (λ turns. turns.moved ≡ true →
-        SameTraffic (E.view ends.old) (E.view ends.new) → ⊥) }
-    ensures calm { IfOk result (λ turns. turns.moved ≡ false →
-        SameTraffic (E.view ends.old) (E.view ends.new)) }
-    ensures progress { IfOk result (λ turns. SameTraffic (E.view ends.old) (E.view ends.new) →
-        AreStuck (E.view ends.old) nodes.old.items) }
+    ensures moved { IfOk result (λ turns. RanOn E.view nodes.old ends.old nodes.new ends.new) }
+    ensures spares { IfOk result (λ _. RanApart E.view nodes.old ends.old nodes.new ends.new) }
+    ensures lost { OnErr result (RanAndLost E.view nodes.old ends.old nodes.new ends.new) }
+    ensures busy { IfOk result (λ turns. turns.moved ≡ true → SomeMoved E.view ends.old ends.new) }
+    ensures calm { IfOk result (λ turns. turns.moved ≡ false → NoneMoved E.view ends.old ends.new) }
+    ensures progress { IfOk result (λ _. MovesIfItCan E.view nodes.old ends.old ends.new) }
     ensures rest { IfOk result (λ turns. turns.spent ≡ false →
-        AreStuck (E.view ends.new) nodes.new.items) }
+        NoneCanMove E.view nodes.new ends.new) }
     ensures starves { OnErr result (TakesMemory nodes.new.items) }
     ensures often { IfOk result (λ turns. turns.spent ≡ true →
-        HaveMovedForTurns most_turns idle_turns nodes.old.items nodes.new.items (E.view ends.old)
-        (E.view ends.new)) }
-    ensures heard { IfOk result (λ turns. turns.spent ≡ true → (turn : ℕ) → turn < most_turns →
-        G.heard gate.now number turn) }
+        RanOften E.view nodes.old ends.old nodes.new ends.new idle_turns) }
+    ensures heard { IfOk result (λ turns. turns.spent ≡ true →
+        HeardEachTurn G.heard gate.now number) }
     ensures none { IfOk result (λ turns. length nodes.old.items ≡ 0 → turns.spent ≡ false) }
 {
     if nodes.is_empty() {

@@ -7,7 +7,7 @@ use crate::building::join;
 use crate::sketches::{SUM_OF_FIVE, SUM_OF_UNLIKE, drawn, graph_of};
 use flow_base::Transducer;
 use flow_messages::{Ends, Item, Msg, Table};
-use flow_networks::{Edge, Graph, GraphBuilder, Moved, step_once};
+use flow_networks::{Edge, Graph, GraphBuilder, Stepped, step_once};
 use kahn::Want;
 use snesl_data::{Fault, FaultKind};
 use std::alloc::Global;
@@ -20,7 +20,7 @@ fn step<T: Transducer>(
     graph: &mut Graph<T>,
     table: &mut Table,
     node: usize,
-) -> Result<Moved, Fail> {
+) -> Result<Stepped, Fail> {
     assert!(rt; node < graph.nodes() && graph.has_ends(table, node));
     Ok(step_once(graph, table, node)?)
 }
@@ -54,7 +54,7 @@ fn run_in_order<T: Transducer>(
         let mut moved = false;
         for &node in order {
             let want = wants(rt, graph, node);
-            if step(rt, graph, table, node)? == Moved::Nothing {
+            if step(rt, graph, table, node)? == Stepped::Nothing {
                 continue;
             }
             moved = true;

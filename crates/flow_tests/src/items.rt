@@ -1,7 +1,7 @@
 // Items and their kinds, and the fault that is named.
 
 use flow_messages::{Item, Kind};
-use flow_values::{item_of_type, kept};
+use flow_values::{item_of_type, kept_type};
 use kahn::faults::{named, named_fault};
 use snesl_data::{Datum, Elements, Fault, FaultKind, Ty};
 use std::alloc::{AllocError, Global};
@@ -72,7 +72,7 @@ fn pairs(alloc: Global) -> Result<Ty, AllocError> {
 // Whether the type is known of an item of the vector of this element, and of a copy of it, where it is asked for this type.
 fn known(alloc: Global, datum: Datum, ty: &Ty) -> Result<[bool; 2], AllocError> {
     let all = Elements::of_data(alloc, vec![in alloc; datum]?)?;
-    let of = kept(alloc, ty)?;
+    let of = kept_type(alloc, ty)?;
     let item = item_of_type(&of, all)?;
     let copy = item.copy()?;
     Ok([is_known(&item), is_known(&copy)])

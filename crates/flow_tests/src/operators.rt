@@ -4,7 +4,7 @@ use snesl_data::{Dialect, FaultKind};
 use snesl_operators::{BinaryOperator, Scalar, UnaryOperator};
 use std::process::Abort;
 
-// Asserts values of operators in a dialect whose integers reach from `least` to `greatest`.
+// Asserts values of operators in a dialect whose integers go from `least` to `greatest`.
 fn assert_integers(rt: &impl Abort, dialect: Dialect, least: i128, greatest: i128) {
     let overflow = Err(FaultKind::Overflow);
     let rows = [

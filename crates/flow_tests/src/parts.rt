@@ -15,3 +15,4 @@ mod shares;
 mod tables;
 mod turns;
 mod two_threads;
+mod word_edges;

@@ -13,8 +13,8 @@ use Rattle.flow_base.specs.declared.worker.Stop.TheVariants.{Faulted as Stopped,
 use Rattle.flow_values.specs.Shapes.{kinds_of, is_a, kind_at}
 use Rattle.flow_values.specs.Flats.{width}
 use Rattle.flow_values.specs.Places.{PortsFit}
-use Rattle.flow_values.specs.PrintMachine.{closing_brackets, Pending, whole, PrintReading, reading, entered_value, next, checked, port_of, print_stage, print_state, want_at, read_at, memory_at, print_behaviour}
-use Rattle.flow_values.specs.Aheads.{pending_of, stack, LeadsAhead, Finds, Reaches, where_led, stage_in, state_in}
+use Rattle.flow_values.specs.PrintMachine.{closing_brackets, Pending, whole, PrintReading, print_reading, entered_value, next, checked, port_of, print_stage, print_state, want_at, read_at, memory_at, print_behaviour}
+use Rattle.flow_values.specs.Aheads.{pending_of, stack, LeadsAhead, Finds, LooksAhead, where_led, stage_in, state_in}
 use Rattle.flow_values.specs.declared.pending.Pending.{Pending as PendingInMemory}
 use Rattle.flow_values.specs.declared.ahead.Ahead.{Ahead}
 
@@ -69,14 +69,14 @@ module _ (first second : Ty) (p c : ℕ) (x : Cell) (old between new : Ahead) (s
 -- the same after another text
 abbrev in_front : List ℕ → Option PrintReading → Option PrintReading
 in_front u None = None
-in_front u (Some r) = Some (reading r.pending (u ++ r.text))
+in_front u (Some r) = Some (print_reading r.pending (u ++ r.text))
 
-front-cond : (u : List ℕ) (b : Bool) (r : PrintReading) → cond b (Some (reading r.pending (u ++ r.text))) None ≡ in_front u (cond b (Some r) None)
+front-cond : (u : List ℕ) (b : Bool) (r : PrintReading) → cond b (Some (print_reading r.pending (u ++ r.text))) None ≡ in_front u (cond b (Some r) None)
 front-cond u true r = refl
 front-cond u false r = refl
 
-said_after : (u v w : List ℕ) (after : List Pending) → Some (reading after ((u ++ v) ++ w)) ≡ Some (reading after (u ++ (v ++ w)))
-said_after u v w after = ap (λ l. Some (reading after l)) (append_assoc u v w)
+said_after : (u v w : List ℕ) (after : List Pending) → Some (print_reading after ((u ++ v) ++ w)) ≡ Some (print_reading after (u ++ (v ++ w)))
+said_after u v w after = ap (λ l. Some (print_reading after l)) (append_assoc u v w)
 
 entered_after : (ty : Ty) (p c : ℕ) (x : Cell) (after : List Pending) (u v : List ℕ) → entered_value ty p c x after (u ++ v) ≡ in_front u (entered_value ty p c x after v)
 entered_after int p c (int_cell n) after u v = said_after u v _ after
@@ -84,7 +84,7 @@ entered_after int p c _ after u v = refl
 entered_after bool p c (flag true) after u v = said_after u v _ after
 entered_after bool p c (flag false) after u v = said_after u v _ after
 entered_after bool p c _ after u v = refl
-entered_after (vec item) p c (datum a) after u v = ap (λ l. cond (is_a (vec item) a) (Some (reading after l)) None) (append_assoc u v _) ∙ front-cond u (is_a (vec item) a) (reading after _)
+entered_after (vec item) p c (datum a) after u v = ap (λ l. cond (is_a (vec item) a) (Some (print_reading after l)) None) (append_assoc u v _) ∙ front-cond u (is_a (vec item) a) (print_reading after _)
 entered_after (vec item) p c _ after u v = refl
 entered_after (pair first second) p c x after u v = ap (entered_value first p 0 x _) (append_assoc u v (codes "(")) ∙ entered_after first p 0 x _ u (v ++ codes "(")
 entered_after (seq item) p c (flag false) after u v = said_after u v _ _
@@ -92,8 +92,8 @@ entered_after (seq item) p c (flag true) after u v = said_after u v _ _
 entered_after (seq item) p c _ after u v = refl
 
 -- what leads from no text leads from any
-pub finds_entered : (ty : Ty) (p c : ℕ) (x : Cell) (said : List ℕ) (old new : Ahead) → old.pending.items ≡ [] → old.text.items ≡ said → ((after : List Pending) → entered_value ty p c x (stack old.pending.items after) old.text.items ≡ Some (reading (stack new.pending.items after) new.text.items)) →
-    (after : List Pending) (before : List ℕ) → entered_value ty p c x after (before ++ said) ≡ Some (reading (stack new.pending.items after) (before ++ new.text.items))
+pub finds_entered : (ty : Ty) (p c : ℕ) (x : Cell) (said : List ℕ) (old new : Ahead) → old.pending.items ≡ [] → old.text.items ≡ said → ((after : List Pending) → entered_value ty p c x (stack old.pending.items after) old.text.items ≡ Some (print_reading (stack new.pending.items after) new.text.items)) →
+    (after : List Pending) (before : List ℕ) → entered_value ty p c x after (before ++ said) ≡ Some (print_reading (stack new.pending.items after) (before ++ new.text.items))
 finds_entered ty p c x said old new none is leads after before =
     entered_after ty p c x after before said
     ∙ ap (in_front before) (ap₂ (λ l u. entered_value ty p c x (stack l after) u) (sym none) (sym is) ∙ leads after)
@@ -183,7 +183,7 @@ not_empty xs rest x e none = go rest (sym none ∙ e)
 
 -- what was found ahead of the last is where the item leads
 pub found_ahead : (ty : Ty) (pending : List PendingInMemory) (text : List ℕ) (port : ℕ) (stuck : Bool) (at : ℕ) (x : PendingInMemory) → stuck ≡ false → slice_get pending (length pending - 1) ≡ Some x → (c : Cell) →
-    is_of (kind_at (kinds_of ty) (port_of (pending_of x))) c ≡ true → (result : Result Ahead Stop) → Finds (next (pending_of x) c) result → Reaches (where_led (stage_in stuck port (stack pending [])) (state_in ty pending text port stuck at) c) pending text result
+    is_of (kind_at (kinds_of ty) (port_of (pending_of x))) c ≡ true → (result : Result Ahead Stop) → Finds (next (pending_of x) c) result → LooksAhead (where_led (stage_in stuck port (stack pending [])) (state_in ty pending text port stuck at) c) pending text result
 found_ahead ty pending text port stuck at x free e c fits result finds = go result finds
   where
     rest : List PendingInMemory
@@ -192,7 +192,7 @@ found_ahead ty pending text port stuck at x free e c fits result finds = go resu
     there : where_led (stage_in stuck port (stack pending [])) (state_in ty pending text port stuck at) c ≡ next (pending_of x) c (stack (last_of pending x e).0 []) text
     there = found_last ty pending text port stuck at x free e c ∙ ap (λ b. checked b (next (pending_of x) c (stack (last_of pending x e).0 []) text)) fits
 
-    go : (result : Result Ahead Stop) → Finds (next (pending_of x) c) result → Reaches (where_led (stage_in stuck port (stack pending [])) (state_in ty pending text port stuck at) c) pending text result
+    go : (result : Result Ahead Stop) → Finds (next (pending_of x) c) result → LooksAhead (where_led (stage_in stuck port (stack pending [])) (state_in ty pending text port stuck at) c) pending text result
     go (Ok ahead) h = ((last_of pending x e).0, x, (last_of pending x e).1, there ∙ h (stack (last_of pending x e).0 []) text)
     go (Err (Stopped kind)) h = there ∙ h.1 (stack (last_of pending x e).0 []) text
     go (Err OutOfMemory) h = not_empty pending (last_of pending x e).0 x (last_of pending x e).1
@@ -231,5 +231,5 @@ no_more_ends ty pending text port stuck at n p none size le e =
     absurd (cc)
 
 -- memory is refused only where something is still to be read
-pub refused : (there : Option PrintReading) (pending : List PendingInMemory) (text : List ℕ) (e : Stop) → e ≡ OutOfMemory → Reaches there pending text (Err e) → pending ≡ [] → ⊥
-refused there pending text e is h = subst (λ e. Reaches there pending text (Err e)) is h
+pub refused : (there : Option PrintReading) (pending : List PendingInMemory) (text : List ℕ) (e : Stop) → e ≡ OutOfMemory → LooksAhead there pending text (Err e) → pending ≡ [] → ⊥
+refused there pending text e is h = subst (λ e. LooksAhead there pending text (Err e)) is h

@@ -4,7 +4,7 @@ use Rattle.snesl_data.specs.Types.{ty_of}
 use Rattle.snesl_data.specs.declared.fault.FaultKind.TheVariants.{Shape}
 use Rattle.flow_base.specs.declared.worker.Stop.{Stop}
 use Rattle.flow_base.specs.declared.worker.Stop.TheVariants.{Faulted, OutOfMemory}
-use Rattle.flow_values.specs.PrintMachine.{Pending, whole, further, PrintReading, reading, next, checked, port_of, PrintStage, within, closing, stuck, PrintState, print_state}
+use Rattle.flow_values.specs.PrintMachine.{Pending, whole, further, PrintReading, print_reading, next, checked, port_of, PrintStage, within, closing, stuck, PrintState, print_state}
 use Rattle.flow_values.specs.Shapes.{kind_at, kinds_of}
 use Rattle.flow_messages.specs.Cells.{Cell, is_of}
 use Rattle.snesl_data.specs.Types.{Ty}
@@ -24,13 +24,13 @@ stack (pending ∷ pendings) after = stack pendings (pending_of pending ∷ afte
 
 -- what a call that was given an item answers and makes of what is ahead, where the item leads there
 abbrev pub LeadsAhead : (List Pending → List ℕ → Option PrintReading) → Result (Unit {0}) Stop → Ahead → Ahead → Type 0
-LeadsAhead there (Ok _) old new = (after : List Pending) → there (stack old.pending.items after) old.text.items ≡ Some (reading (stack new.pending.items after) new.text.items)
+LeadsAhead there (Ok _) old new = (after : List Pending) → there (stack old.pending.items after) old.text.items ≡ Some (print_reading (stack new.pending.items after) new.text.items)
 LeadsAhead there (Err (Faulted kind)) old new = (kind ≡ Shape) × ((after : List Pending) (before : List ℕ) → there after before ≡ None)
 LeadsAhead there (Err OutOfMemory) old new = Unit {0}
 
 -- what is found to be ahead of such a call, after any text
 abbrev pub Finds : (List Pending → List ℕ → Option PrintReading) → Result Ahead Stop → Type 0
-Finds there (Ok ahead) = (after : List Pending) (before : List ℕ) → there after before ≡ Some (reading (stack ahead.pending.items after) (before ++ ahead.text.items))
+Finds there (Ok ahead) = (after : List Pending) (before : List ℕ) → there after before ≡ Some (print_reading (stack ahead.pending.items after) (before ++ ahead.text.items))
 Finds there (Err (Faulted kind)) = (kind ≡ Shape) × ((after : List Pending) (before : List ℕ) → there after before ≡ None)
 Finds there (Err OutOfMemory) = Unit {0}
 
@@ -50,7 +50,7 @@ where_led _ s x = None
 
 -- what a look ahead answers that was given an item, where the item leads there: what comes in place of the last that is
 -- still to be read, and the text that is said
-abbrev pub Reaches : Option PrintReading → List PendingInMemory → List ℕ → Result Ahead Stop → Type 0
-Reaches there pending text (Ok ahead) = (rest : List PendingInMemory) × (first : PendingInMemory) × (pending ≡ rest ++ first ∷ []) × (there ≡ Some (reading (stack ahead.pending.items (stack rest [])) (text ++ ahead.text.items)))
-Reaches there pending text (Err (Faulted kind)) = there ≡ None
-Reaches there pending text (Err OutOfMemory) = pending ≡ [] → ⊥
+abbrev pub LooksAhead : Option PrintReading → List PendingInMemory → List ℕ → Result Ahead Stop → Type 0
+LooksAhead there pending text (Ok ahead) = (rest : List PendingInMemory) × (first : PendingInMemory) × (pending ≡ rest ++ first ∷ []) × (there ≡ Some (print_reading (stack ahead.pending.items (stack rest [])) (text ++ ahead.text.items)))
+LooksAhead there pending text (Err (Faulted kind)) = there ≡ None
+LooksAhead there pending text (Err OutOfMemory) = pending ≡ [] → ⊥

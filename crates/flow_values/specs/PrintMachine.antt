@@ -41,24 +41,24 @@ pub record PrintReading : Type 0 where
   pub pending : List Pending
   pub text : List ℕ
 
-abbrev pub reading : List Pending → List ℕ → PrintReading
-reading pending text = record { pending = pending; text = text }
+abbrev pub print_reading : List Pending → List ℕ → PrintReading
+print_reading pending text = record { pending = pending; text = text }
 
 -- where the first item of a value leads, if it is one: what comes after the value, and the text before it
 abbrev pub entered_value : Ty → ℕ → ℕ → Cell → List Pending → List ℕ → Option PrintReading
-entered_value int p c (int_cell n) after before = Some (reading after (before ++ (signed_decimal n ++ closing_brackets c)))
-entered_value bool p c (flag true) after before = Some (reading after (before ++ (codes "true" ++ closing_brackets c)))
-entered_value bool p c (flag false) after before = Some (reading after (before ++ (codes "false" ++ closing_brackets c)))
-entered_value (vec item) p c (datum v) after before = cond (is_a (vec item) v) (Some (reading after (before ++ (text v ++ closing_brackets c)))) None
+entered_value int p c (int_cell n) after before = Some (print_reading after (before ++ (signed_decimal n ++ closing_brackets c)))
+entered_value bool p c (flag true) after before = Some (print_reading after (before ++ (codes "true" ++ closing_brackets c)))
+entered_value bool p c (flag false) after before = Some (print_reading after (before ++ (codes "false" ++ closing_brackets c)))
+entered_value (vec item) p c (datum v) after before = cond (is_a (vec item) v) (Some (print_reading after (before ++ (text v ++ closing_brackets c)))) None
 entered_value (pair first second) p c x after before = entered_value first p 0 x (whole true second (p + width first) (suc c) ∷ after) (before ++ codes "(")
-entered_value (seq item) p c (flag false) after before = Some (reading (whole false item (p + 1) 0 ∷ further item p c ∷ after) (before ++ codes "{"))
-entered_value (seq item) p c (flag true) after before = Some (reading after (before ++ (codes "{}" ++ closing_brackets c)))
+entered_value (seq item) p c (flag false) after before = Some (print_reading (whole false item (p + 1) 0 ∷ further item p c ∷ after) (before ++ codes "{"))
+entered_value (seq item) p c (flag true) after before = Some (print_reading after (before ++ (codes "{}" ++ closing_brackets c)))
 entered_value _ p c x after before = None
 
 -- where a flag between two elements leads
 abbrev pub continued : Ty → ℕ → ℕ → Cell → List Pending → List ℕ → Option PrintReading
-continued item p c (flag false) after before = Some (reading (whole false item (p + 1) 0 ∷ further item p c ∷ after) (before ++ codes ","))
-continued item p c (flag true) after before = Some (reading after (before ++ (codes "}" ++ closing_brackets c)))
+continued item p c (flag false) after before = Some (print_reading (whole false item (p + 1) 0 ∷ further item p c ∷ after) (before ++ codes ","))
+continued item p c (flag true) after before = Some (print_reading after (before ++ (codes "}" ++ closing_brackets c)))
 continued item p c x after before = None
 
 -- where an item leads
@@ -100,9 +100,9 @@ want_at (within first others) s = cond (nat_lt (port_of first) (width s.ty)) (Re
 want_at (closing p) s = cond (nat_lt p (width s.ty)) (Read p) Ended
 want_at stuck s = print_fault s
 
-abbrev pub moved : PrintState → Option PrintReading → PrintState
-moved s (Some r) = record s { step = print_stage r.pending; text = r.text }
-moved s None = record s { step = stuck }
+abbrev pub went_on : PrintState → Option PrintReading → PrintState
+went_on s (Some r) = record s { step = print_stage r.pending; text = r.text }
+went_on s None = record s { step = stuck }
 
 -- an item of another kind than the port's leads nowhere
 abbrev pub checked : Bool → Option PrintReading → Option PrintReading
@@ -110,7 +110,7 @@ checked true r = r
 checked false r = None
 
 abbrev pub read_at : PrintStage → PrintState → Signal → PrintState
-read_at (within first others) s (carry x) = moved s (checked (is_of (kind_at (kinds_of s.ty) (port_of first)) x) (next first x others s.text))
+read_at (within first others) s (carry x) = went_on s (checked (is_of (kind_at (kinds_of s.ty) (port_of first)) x) (next first x others s.text))
 read_at (closing p) s stop = record s { step = closing (p + 1) }
 read_at _ s _ = record s { step = stuck }
 

@@ -9,7 +9,7 @@ ghost use Rattle.flow_messages.specs.Cells.{cell_of, datum};
 ghost use Rattle.flow_messages.specs.Ends.{SameEnds};
 ghost use Rattle.flow_messages.specs.Signals.{carry};
 ghost use Rattle.flow_base.specs.Nodes.{behaviour_of, node_state};
-ghost use Rattle.flow_base.specs.Visits.{edge_of, IsWired, TakeKinds, Went};
+ghost use Rattle.flow_base.specs.Visits.{edge_of, PortsHaveEdges, TakeKinds, Went};
 ghost use Rattle.flow_base.specs.declared.node.Phase.TheVariants.{Working};
 ghost use Rattle.flow_values.specs.Shapes.{kinds_of, kind_at};
 ghost use Rattle.flow_values.specs.Flats.{width};
@@ -107,7 +107,7 @@ impl Index {
     fn pair_on<E: Ends>(&self, inputs: &[usize], outputs: &[usize], ends: &mut E) -> usize
         requires between { index_state self.now.held self.now.dues.items ≡ writing [] }
         requires some { 0 < length outputs.now }
-        requires wired { IsWired inputs.now outputs.now 2 (width (ty_of self.now.element))
+        requires wired { PortsHaveEdges inputs.now outputs.now 2 (width (ty_of self.now.element))
             (E.view ends.old) }
         requires kinds { TakeKinds outputs.now (kind_at (kinds_of (ty_of self.now.element)))
             (E.view ends.old) }
@@ -142,7 +142,7 @@ impl Index {
     ) -> usize
         requires between { index_state self.now.held self.now.dues.items ≡ writing [] }
         requires some { 0 < length outputs.now }
-        requires wired { IsWired inputs.now outputs.now 2 (width (ty_of self.now.element))
+        requires wired { PortsHaveEdges inputs.now outputs.now 2 (width (ty_of self.now.element))
             (E.view ends.old) }
         requires kinds { TakeKinds outputs.now (kind_at (kinds_of (ty_of self.now.element)))
             (E.view ends.old) }

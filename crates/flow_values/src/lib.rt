@@ -17,6 +17,6 @@ mod vectors;
 pub use index::Index;
 pub use print::{Print, prints_text};
 pub use seq::Seq;
-pub use shapes::{is_value, kept, kinds, shapes_are_tested};
+pub use shapes::{is_value, kept_type, kinds, shapes_are_tested};
 pub use tab::Tab;
 pub use vectors::item_of_type;

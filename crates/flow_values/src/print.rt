@@ -5,8 +5,8 @@ ghost use Rattle.snesl_data.specs.Types.{ty_of};
 ghost use Rattle.flow_messages.specs.Cells.{cell_of};
 ghost use Rattle.flow_messages.specs.Signals.{signal_of};
 ghost use Rattle.flow_values.specs.Shapes.{kinds_of};
-ghost use Rattle.flow_values.specs.PrintMachine.{print_opening, print_behaviour, reading, moved};
-ghost use Rattle.flow_values.specs.Aheads.{stack, where_led, Reaches};
+ghost use Rattle.flow_values.specs.PrintMachine.{print_opening, print_behaviour, print_reading, went_on};
+ghost use Rattle.flow_values.specs.Aheads.{stack, where_led, LooksAhead};
 ghost use Rattle.flow_values.specs.laws.Print.{PrintsText};
 
 use crate::ahead::Ahead;
@@ -87,7 +87,7 @@ impl Print {
     fn ahead(&self, item: &Item) -> Result<Ahead, Stop>
         requires { self.now.stuck ≡ false }
         ensures { let state = ⟦<Print as Transducer>⟧.state self.now in
-            Reaches (where_led state.step state (cell_of item.now))
+            LooksAhead (where_led state.step state (cell_of item.now))
             self.now.pending.items self.now.text.items result }
     {
         match self.pending.last() {
@@ -107,8 +107,8 @@ impl Print {
         requires { self.old.stuck ≡ false }
         ensures ok { OnOk result ((rest : List Pending) (first : Pending) → self.old.pending.items ≡
             rest ++ first ∷ [] → ⟦<Print as Transducer>⟧.state self.new ≡
-            moved (⟦<Print as Transducer>⟧.state self.old)
-            (Some (reading (stack ahead.pending.items (stack rest []))
+            went_on (⟦<Print as Transducer>⟧.state self.old)
+            (Some (print_reading (stack ahead.pending.items (stack rest []))
             (self.old.text.items ++ ahead.text.items)))) }
         ensures err { OnErr result (⟦<Print as Transducer>⟧.state self.new ≡
             ⟦<Print as Transducer>⟧.state self.old) }

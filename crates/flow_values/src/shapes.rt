@@ -116,7 +116,7 @@ pub fn add_types(all: &mut Vec<Option<Arc<Ty>>>, alloc: Global, ty: &Ty) -> Resu
     match ty {
         Ty::Int | Ty::Bool => all.push(None)?,
         Ty::Vec(item) => {
-            let kept = kept(alloc, item)?;
+            let kept = kept_type(alloc, item)?;
             all.push(kept)?;
         }
         Ty::Pair(first, second) => {
@@ -132,7 +132,7 @@ pub fn add_types(all: &mut Vec<Option<Arc<Ty>>>, alloc: Global, ty: &Ty) -> Resu
 }
 
 /// The type of the elements of a vector, shared, where they are not packed. Its only error is that memory was refused.
-pub fn kept(alloc: Global, element: &Ty) -> Result<Option<Arc<Ty>>, AllocError>
+pub fn kept_type(alloc: Global, element: &Ty) -> Result<Option<Arc<Ty>>, AllocError>
     ensures { IfOk result (λ kept. shared_type kept ≡ kept_type (ty_of element.now)) }
 {
     match element {

@@ -14,7 +14,7 @@ ghost use Rattle.flow_base.specs.Machines.{state_after_item, with_parameters};
 ghost use Rattle.flow_values.specs.TabMachine.{TabState, start, tab_state, staged, flag_taking, grown, item_given, item_port, MakesDatum};
 ghost use Rattle.flow_values.specs.TabBlocks.{AddsScalars, AwaitsFlag};
 
-use crate::shapes::{add_kinds, are_elements, is_typed, kept, kind_at, part_fits};
+use crate::shapes::{add_kinds, are_elements, is_typed, kept_type, kind_at, part_fits};
 use flow_base::{Ask, Moved, Shown, Stop, Worker, Written};
 use flow_messages::{Flat, Item, Kind};
 use snesl_data::{Builder, Datum, FaultKind, Ty};
@@ -76,7 +76,7 @@ impl Tab {
         let mut kinds = Vec::new(alloc);
         kinds.push(Kind::Bool)?;
         add_kinds(&mut kinds, &element)?;
-        let of = kept(alloc, &element)?;
+        let of = kept_type(alloc, &element)?;
         Ok(Tab {
             alloc,
             element,

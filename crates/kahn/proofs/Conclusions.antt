@@ -7,14 +7,14 @@ use Rattle.kahn.specs.declared.outcome.Outcome.{Outcome}
 use Rattle.kahn.specs.Basics.{Begins}
 use Rattle.kahn.specs.Outcomes.{HasOutcome}
 use Rattle.kahn.proofs.Outcomes.{some_outcome, same_outcome}
-use Rattle.kahn.specs.Processes.{reads, writes, Process, Event, Settles, IsLawful, Does}
+use Rattle.kahn.specs.Processes.{reads, writes, Process, Event, Settles, IsLawfulProcess, Does}
 use Rattle.kahn.specs.Networks.{Network, IsWired, AllLawful}
 use Rattle.kahn.specs.Configurations.{Configuration, start, moved, IsSound}
 use Rattle.kahn.specs.Runs.{Maximal}
-use Rattle.kahn.specs.Traffic.{WholeTraffic, Rises, Completes, Carries}
+use Rattle.kahn.specs.Traffic.{WholeTraffic, Rises, Completes, IsTraffic}
 use Rattle.kahn.specs.RunTheorems.{RunsAreSound, StepsKeepSound, RunsFit, EndIsLast, StepsMove, RunsEndAlike, AllRunsGoOn}
 use Rattle.kahn.specs.RestTheorems.{EndsOrStalls, OneOutcome, RunsComeOutAlike, AllReceived, NeverStalls}
-use Rattle.kahn.specs.TrafficTheorems.{OneTraffic, SameTraffic, EpochsEnd}
+use Rattle.kahn.specs.TrafficTheorems.{OneTraffic, AllTraffic, EpochsEnd}
 use Rattle.kahn.specs.ProcessTheorems.{FollowsWhole, FollowsLists}
 use Rattle.kahn.proofs.Steps.{sound_start, sound_run, sound_next, fits_run}
 use Rattle.kahn.proofs.Search.{total_twice}
@@ -75,7 +75,7 @@ module _ {State Message : Type 0} (P : Process State Message) (net : Network Sta
       complete_fine P net wired lawful _ all c sound,
     )
 
-    pub same_traffic : SameTraffic P net
+    pub same_traffic : AllTraffic P net
     same_traffic traffic (z, all) c all_c e inside = complete_same P net wired lawful _ c all all_c e inside
 
     pub all_received : AllReceived P net
@@ -97,10 +97,10 @@ module _ {State Message : Type 0} (P : Process State Message) (net : Network Sta
               (λ e inside. let (rest, is) = sound.flows e inside in omega (arith, ap length is, length-append (all.1.received e) rest));
         }
 
-pub follows_whole : {State Message : Type 0} (P : Process State Message) (opening : State) (inputs outputs : ℕ) → IsLawful P opening inputs outputs → FollowsWhole P opening inputs
+pub follows_whole : {State Message : Type 0} (P : Process State Message) (opening : State) (inputs outputs : ℕ) → IsLawfulProcess P opening inputs outputs → FollowsWhole P opening inputs
 follows_whole P opening inputs outputs lawful = node_follows P opening inputs outputs lawful
 
-pub follows_lists : {State Message : Type 0} (P : Process State Message) (opening : State) (inputs outputs : ℕ) → IsLawful P opening inputs outputs → FollowsLists P opening inputs
+pub follows_lists : {State Message : Type 0} (P : Process State Message) (opening : State) (inputs outputs : ℕ) → IsLawfulProcess P opening inputs outputs → FollowsLists P opening inputs
 follows_lists P opening inputs outputs lawful read written run h s does begins =
     let whole : ((p : ℕ) → Begins (writes p h) (writes p run.history)) × ((f : Fault) → P.want s ≡ Faulted f → ⊥) =
     node_follows P opening inputs outputs lawful run.history run.end run.does run.ended h s does (λ p inside. subst (λ l. Begins (reads p h) l) (sym (run.reads_all p inside)) (begins p inside)) in
@@ -121,7 +121,7 @@ module _ {State Message : Type 0} (P : Process State Message) (net : Network Sta
   end_is k (inl inside) l = refl
   end_is k (inr past) l = absurd (omega arith)
 
-  pub carries_from_nodes : Carries P net traffic
+  pub carries_from_nodes : IsTraffic P net traffic
   carries_from_nodes =
       let z : ℕ → State = λ k. end_of k (cases_lt k net.nodes) in (
         z,

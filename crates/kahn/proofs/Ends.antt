@@ -2,13 +2,13 @@
 use Rattle.std.proofs.Common.{◌≡◌, ℕ, ◌<◌, List, [], ◌∷◌, ◌++◌, length, ◌⊎◌, refl, sym, ◌∙◌, ap, subst, inl, inr, arith, append-nil, append_assoc, length-append}
 use Rattle.std.proofs.lemmas.Bool.{cases_eq}
 use Rattle.kahn.specs.declared.want.Want.TheVariants.{Write, Ended}
-use Rattle.kahn.specs.Processes.{Process, Event, Reads, Writes, Does, writes, HasEnd, IsLawful}
+use Rattle.kahn.specs.Processes.{Process, Event, Reads, Writes, Does, writes, HasEnd, IsLawfulProcess}
 use Rattle.kahn.specs.Networks.{Network, IsWired, AllLawful}
 use Rattle.kahn.specs.Configurations.{Configuration, IsReached, IsSound}
 use Rattle.kahn.proofs.History.{writes_push, writes_push_other, writes_push_read, does_then}
 use Rattle.kahn.proofs.Prefix.{writes_first, writes_later}
 
-module _ {State Message : Type 0} (P : Process State Message) (opening : State) (inputs outputs : ℕ) (lawful : IsLawful P opening inputs outputs) (p : ℕ) where
+module _ {State Message : Type 0} (P : Process State Message) (opening : State) (inputs outputs : ℕ) (lawful : IsLawfulProcess P opening inputs outputs) (p : ℕ) where
   end_more : (a b : List Message) → HasEnd P a → HasEnd P (a ++ b)
   end_more a b (before, after, e) = (before, after ++ b, sym (append_assoc before (P.end ∷ after) b) ∙ ap (λ l. l ++ b) e)
 

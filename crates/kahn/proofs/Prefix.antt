@@ -4,7 +4,7 @@ use Rattle.std.proofs.lemmas.Bool.{cases_eq}
 use Rattle.kahn.specs.declared.want.Want.TheVariants.{Read, Write, Ended, Faulted}
 use Rattle.snesl_data.specs.declared.fault.Fault.{Fault}
 use Rattle.kahn.specs.Basics.{Begins}
-use Rattle.kahn.specs.Processes.{IsLawful, Process, Event, Reads, Writes, Does, reads, writes}
+use Rattle.kahn.specs.Processes.{IsLawfulProcess, Process, Event, Reads, Writes, Does, reads, writes}
 use Rattle.kahn.specs.Networks.{Network, IsWired, AllLawful}
 use Rattle.kahn.specs.Configurations.{Configuration, IsSound, NoneFaulted, AllEnded}
 use Rattle.kahn.specs.Runs.{AtRest}
@@ -60,7 +60,7 @@ module _ {State Message : Type 0} (P : Process State Message) (z : State) (no_wr
       (ih.0, (let e : h ++ ih.0 ≡ g = ih.1 in cc), ih.2)
 
 -- What one process does on beginnings of what a complete run of it reads.
-pub node_follows : {State Message : Type 0} (P : Process State Message) (opening : State) (inputs outputs : ℕ) → IsLawful P opening inputs outputs → (g : List (Event Message)) (z : State) → Does P opening g z → P.want z ≡ Ended → (h : List (Event Message)) (s : State) → Does P opening h s → ((p : ℕ) → p < inputs → Begins (reads p h) (reads p g)) → ((p : ℕ) → Begins (writes p h) (writes p g)) × ((f : Fault) → P.want s ≡ Faulted f → ⊥)
+pub node_follows : {State Message : Type 0} (P : Process State Message) (opening : State) (inputs outputs : ℕ) → IsLawfulProcess P opening inputs outputs → (g : List (Event Message)) (z : State) → Does P opening g z → P.want z ≡ Ended → (h : List (Event Message)) (s : State) → Does P opening h s → ((p : ℕ) → p < inputs → Begins (reads p h) (reads p g)) → ((p : ℕ) → Begins (writes p h) (writes p g)) × ((f : Fault) → P.want s ≡ Faulted f → ⊥)
 node_follows {Message = Message} P opening inputs outputs lawful g z whole ended h s does reads_of =
     let (rest, same, after) = follows P z (λ p w. absurd (let x : Ended ≡ Write p = sym ended ∙ w in cc)) (λ p. p < inputs) opening s h g (λ a u p d w. lawful.in_port a u p d w) does whole
     (λ p l. ((reads_of p l).0, [], (reads_of p l).1 ∙ sym (append-nil (reads p g)), λ w. absurd (let x : Ended ≡ Read p = sym ended ∙ w in cc))) in

@@ -1,6 +1,6 @@
 -- Networks: processes joined by edges, each from one output port to one input port (Kahn 1974).
 use Rattle.std.specs.Prelude.{◌≡◌, ℕ, ◌<◌, List, [], ◌∷◌}
-use Rattle.kahn.specs.Processes.{Process, Event, Reads, Writes, IsLawful}
+use Rattle.kahn.specs.Processes.{Process, Event, Reads, Writes, IsLawfulProcess}
 
 -- Processes with their opening states, and edges. Nodes and edges have the numbers below `nodes` and `edges`.
 pub record Network (State : Type 0) : Type 0 where
@@ -43,4 +43,4 @@ module _ {State : Type 0} (net : Network State) where
 
 -- each node is a lawful process
 abbrev pub AllLawful : {State Message : Type 0} → Process State Message → Network State → Type 0
-AllLawful P net = (k : ℕ) → k < net.nodes → IsLawful P (net.opening k) (net.inputs k) (net.outputs k)
+AllLawful P net = (k : ℕ) → k < net.nodes → IsLawfulProcess P (net.opening k) (net.inputs k) (net.outputs k)

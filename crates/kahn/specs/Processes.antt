@@ -48,7 +48,7 @@ module _ {State Message : Type 0} (P : Process State Message) where
 
   -- What each process keeps to that begins in `opening` and has so many input and output ports: it wants
   -- no other port, none whose end has passed, and is ended only after the end has passed on all of them.
-  pub record IsLawful (opening : State) (inputs outputs : ℕ) : Type 0 where
+  pub record IsLawfulProcess (opening : State) (inputs outputs : ℕ) : Type 0 where
     pub in_port : (h : List (Event Message)) (s : State) (p : ℕ) → Does opening h s → P.want s ≡ Read p → p < inputs
     pub out_port : (h : List (Event Message)) (s : State) (p : ℕ) → Does opening h s → P.want s ≡ Write p → p < outputs
     pub open_in : (h : List (Event Message)) (s : State) (p : ℕ) → Does opening h s → P.want s ≡ Read p → HasEnd (reads p h) → ⊥

@@ -10,7 +10,7 @@ use Rattle.kahn.specs.Configurations.{Configuration, IsSound, NoneFaulted, AllEn
 use Rattle.kahn.specs.Runs.{AtRest, Maximal}
 use Rattle.kahn.specs.Faults.{IsNamedOf}
 use Rattle.kahn.specs.Outcomes.{HasOutcome, AreItsFaults}
-use Rattle.kahn.specs.Traffic.{Carries}
+use Rattle.kahn.specs.Traffic.{IsTraffic}
 
 module _ {State Message : Type 0} (P : Process State Message) (net : Network State) where
   -- At rest with no fault every node has ended, or there is a least edge that is full while its writer
@@ -46,5 +46,5 @@ module _ {State Message : Type 0} (P : Process State Message) (net : Network Sta
   -- where the whole traffic fits the edges, no run stalls
   abbrev pub NeverStalls : Type 0
   NeverStalls =
-      (traffic : ℕ → List Message) → Carries P net traffic → (capacity : ℕ) → ((e : ℕ) → e < net.edges → length (traffic e) ≤ capacity)
+      (traffic : ℕ → List Message) → IsTraffic P net traffic → (capacity : ℕ) → ((e : ℕ) → e < net.edges → length (traffic e) ≤ capacity)
       → (c : Configuration State Message) → IsSound P net c → AtRest P net (Some capacity) c → AllEnded P net c

@@ -9,8 +9,8 @@ use Rattle.kahn.specs.Runs.{Maximal}
 
 module _ {State Message : Type 0} (P : Process State Message) (net : Network State) where
   -- `traffic` is what the edges carry where every node ends
-  abbrev pub Carries : (ℕ → List Message) → Type 0
-  Carries traffic = (z : ℕ → State) × IsComplete P net (record { state = z; sent = traffic; received = traffic })
+  abbrev pub IsTraffic : (ℕ → List Message) → Type 0
+  IsTraffic traffic = (z : ℕ → State) × IsComplete P net (record { state = z; sent = traffic; received = traffic })
 
   -- The node has a run to its end that reads and writes just what `traffic` has at its edges.
   pub record Completes (traffic : ℕ → List Message) (k : ℕ) : Type 0 where

@@ -1,5 +1,6 @@
 // What is chosen where no option says it.
 
+use crate::foretelling::{Foretold, explain_foretold, tells};
 use crate::voice::Voice;
 use crate::watching::is_watched;
 use clap::{Arg, ArgAction, ArgMatches};
@@ -38,7 +39,7 @@ pub(crate) fn choice_of(name: &str, matches: &ArgMatches<'_>) -> Option<&'static
 }
 
 // Whether an option is given that is for several threads alone.
-fn speaks_of_threads(matches: &ArgMatches<'_>) -> bool {
+pub(crate) fn speaks_of_threads(matches: &ArgMatches<'_>) -> bool {
     matches.contains_id("threads") || matches.contains_id("idle") || matches.contains_id("deal")
 }
 
@@ -49,21 +50,26 @@ fn reason_of(name: &str, matches: &ArgMatches<'_>) -> &'static str {
         "chunk" => "chosen; long visits of a node take the least time for each element",
         "drive" if speaks_of_threads(matches) => "chosen, since an option speaks of threads",
         "drive" if is_watched(matches) => "chosen, since `--watch` tells of turns of threads",
-        "drive" => "chosen; one thread is faster than several that wait for one another",
+        "drive" => "chosen; no short run foretells that threads pay",
         _ => "chosen; one thread is faster than several that wait for one another",
     }
 }
 
-// Says what the job runs under, where that is asked for: each option that has a value, and whether it was given.
+// Says what the job runs under, where that is asked for: each option that has a value, and whether it was given or foretold.
 pub(crate) fn explain<E: Write>(
     alloc: Global,
     matches: &ArgMatches<'_>,
+    foretold: Option<&Foretold>,
     err: &mut Voice<'_, E>,
 ) -> Result<(), AllocError> {
     if matches.get_flag("explain") {
         for name in TOLD {
             if let Some(value) = matches.get_str(name) {
                 explain_one(alloc, name, value, "as given", err)?;
+            } else if let Some(foretold) = foretold
+                && tells(name)
+            {
+                explain_foretold(alloc, name, foretold, err)?;
             } else if let Some(value) = choice_of(name, matches) {
                 explain_one(alloc, name, value, reason_of(name, matches), err)?;
             }

@@ -1,5 +1,6 @@
 // Dealing the nodes of a job's network to threads.
 
+use crate::foretelling::is_foretold;
 use crate::reading::Job;
 use crate::voice::Voice;
 use clap::ArgMatches;
@@ -18,8 +19,8 @@ const DIGITS: &[u8; 16] = b"0123456789abcdef";
 
 const MOST_DIGITS: usize = 64;
 
-// Deals the nodes by a cut, where several threads run and no option deals them, and tells of it where that is asked for. What is
-// wrong with the job, or refused by the system, is left for the run to say.
+// Deals the nodes by a cut, where an option has several threads run and none deals them, and tells of it where that is asked for.
+// What is wrong with the job, or refused by the system, is left for the run to say.
 pub(crate) fn deal_out<E: Write>(
     alloc: Global,
     matches: &ArgMatches<'_>,
@@ -27,7 +28,11 @@ pub(crate) fn deal_out<E: Write>(
     config: &mut Config,
     err: &mut Voice<'_, E>,
 ) -> Result<(), AllocError> {
-    if matches.contains_id("deal") || config.drive == Drive::Serial || config.threads == 1 {
+    if matches.contains_id("deal")
+        || config.drive == Drive::Serial
+        || config.threads == 1
+        || is_foretold(matches)
+    {
         return Ok(());
     }
     let Ok(dealing) = dealing_of(alloc, job, config) else {
@@ -59,19 +64,29 @@ fn explain_dealing<E: Write>(
     dealing: &Dealing,
     err: &mut Voice<'_, E>,
 ) -> Result<(), AllocError> {
-    let mut line = Vec::from_slice(alloc, b"deal ")?;
-    for &share in dealing.share.iter().take(MOST_DIGITS) {
-        line.push(DIGITS[share as usize % 16])?;
-    }
-    if dealing.share.len() > MOST_DIGITS {
-        line.extend_from_slice(b"..")?;
-    }
     let most = in_hundred(dealing.load, dealing.work);
     let most_by_turns = in_hundred(dealing.by_turns, dealing.work);
     let reason = format!(in alloc;
         ": chosen by a short run; the busiest thread has {most} in 100 of the work, {most_by_turns} by turns\n"
     )?;
-    line.extend_from_slice(reason.as_bytes())?;
+    say_shares(alloc, &dealing.share, reason.as_bytes(), err)
+}
+
+// Tells the share of each node, and why.
+pub(crate) fn say_shares<E: Write>(
+    alloc: Global,
+    shares: &[u8],
+    reason: &[u8],
+    err: &mut Voice<'_, E>,
+) -> Result<(), AllocError> {
+    let mut line = Vec::from_slice(alloc, b"deal ")?;
+    for &share in shares.iter().take(MOST_DIGITS) {
+        line.push(DIGITS[share as usize % 16])?;
+    }
+    if shares.len() > MOST_DIGITS {
+        line.extend_from_slice(b"..")?;
+    }
+    line.extend_from_slice(reason)?;
     let _ = err.say(&line);
     Ok(())
 }

@@ -6,6 +6,7 @@ mod choosing;
 mod command_line;
 mod dealing;
 mod drawing;
+mod foretelling;
 mod formatting;
 mod piping;
 mod placing;

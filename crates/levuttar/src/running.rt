@@ -3,6 +3,7 @@
 use crate::choosing::{GREATER, explain, gives_capacity};
 use crate::command_line::config_of;
 use crate::dealing::deal_out;
+use crate::foretelling::foretell;
 use crate::reading::{Job, read_job};
 use crate::saying::{say_fault, say_plainly, say_refused};
 use crate::stalling::{say_again, say_stall};
@@ -33,7 +34,8 @@ pub(crate) fn run_file<
         Ok(job) => job,
         Err(status) => return status,
     };
-    if explain(rt.alloc(), matches, err).is_err()
+    let foretold = foretell(rt, rt.alloc(), matches, &job, &mut config);
+    if explain(rt.alloc(), matches, foretold.as_ref(), err).is_err()
         || deal_out(rt.alloc(), matches, &job, &mut config, err).is_err()
     {
         return say_plainly(Refusal::NoMemory, err);

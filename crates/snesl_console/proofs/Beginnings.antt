@@ -100,8 +100,8 @@ pub none_found : (bytes : List ℕ) (line from : ℕ) → IsScanned bytes line f
     → IsScanned bytes line (length bytes)
 none_found bytes line from scanned missing =
     record {
-      within = omega (arith, scanned.within, scanned.reaches);
-      reaches = omega arith;
+      within = omega (arith, scanned.within, scanned.inside);
+      inside = omega arith;
       early = scanned.early;
       begins = scanned.begins;
       passed = scanned.passed;
@@ -117,14 +117,14 @@ module _ (bytes : List ℕ) (line from n : ℕ) (scanned : IsScanned bytes line 
   ends : EndsLine (take (suc (line + n)) bytes)
   ends = inr (take (line + n) bytes, take-suc bytes (line + n) 0 inside ∙ ap (λ b. take (line + n) bytes ++ b ∷ []) feed)
 
-  reaches : line ≤ length bytes
-  reaches = omega (arith, scanned.within, scanned.reaches)
+  line_inside : line ≤ length bytes
+  line_inside = omega (arith, scanned.within, scanned.inside)
 
   -- the line's bytes, where more follows
   same_line : (rest : List ℕ) → take n (drop line (bytes ++ rest)) ≡ take n (drop line bytes)
   same_line rest =
       let short : n ≤ length (drop line bytes) = omega (arith, inside, length-drop line bytes) in
-      ap (take n) (drop-append-le line bytes rest reaches) ∙ take-append-le n (drop line bytes) rest short
+      ap (take n) (drop-append-le line bytes rest line_inside) ∙ take-append-le n (drop line bytes) rest short
 
   -- it is no separator, if its bytes are none
   other_line : ¬ IsSeparator (take n (drop line bytes)) → (rest input : List ℕ) → ¬ BeginsWithSeparator (drop line (bytes ++ rest)) input
@@ -148,7 +148,7 @@ module _ (bytes : List ℕ) (line from n : ℕ) (scanned : IsScanned bytes line 
   next_scanned not early =
       record {
         within = omega arith;
-        reaches = omega (arith, inside);
+        inside = omega (arith, inside);
         early = early;
         begins = ends;
         passed = passed_by not;
@@ -179,7 +179,7 @@ module _ (bytes : List ℕ) (line from n : ℕ) (scanned : IsScanned bytes line 
 
   -- it is the separator
   pub is_parted : IsSeparator (take n (drop line bytes)) → IsParted bytes line (suc (line + n))
-  is_parted is = record { early = scanned.early; within = reaches; behind = omega (arith, inside); job = job_of }
+  is_parted is = record { early = scanned.early; within = line_inside; behind = omega (arith, inside); job = job_of }
     where
       job_of : (rest : List ℕ) → IsJob (bytes ++ rest) (take line bytes) (drop (suc (line + n)) bytes ++ rest)
       job_of rest =
@@ -187,7 +187,7 @@ module _ (bytes : List ℕ) (line from n : ℕ) (scanned : IsScanned bytes line 
           ap (λ l. l ++ rest) (sym (take-append-drop line bytes)) ∙ append_assoc (take line bytes) (drop line bytes) rest in
           subst (λ l. IsJob l (take line bytes) (drop (suc (line + n)) bytes ++ rest)) (sym whole)
           (parted (take line bytes) (drop line bytes ++ rest) (drop (suc (line + n)) bytes ++ rest) scanned.begins (begins_so is rest)
-          (subst (λ k. NoSeparatorBefore k (take line bytes ++ (drop line bytes ++ rest))) (sym (length-take-le line bytes reaches))
+          (subst (λ k. NoSeparatorBefore k (take line bytes ++ (drop line bytes ++ rest))) (sym (length-take-le line bytes line_inside))
           (subst (NoSeparatorBefore line) whole (scanned.passed rest))))
 
 -- where no separator ends a program in its limit, it is too long

@@ -37,7 +37,7 @@ pub scanned_on : (bytes more : List ℕ) (line : ℕ) → IsScanned bytes line (
 scanned_on bytes more line scanned =
     record {
       within = scanned.within;
-      reaches = omega (arith, length-append bytes more);
+      inside = omega (arith, length-append bytes more);
       early = scanned.early;
       begins = subst EndsLine (sym (take-append-le line bytes more scanned.within)) scanned.begins;
       passed = λ rest. subst (NoSeparatorBefore line) (sym (append_assoc bytes more rest)) (scanned.passed (more ++ rest));

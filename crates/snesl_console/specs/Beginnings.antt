@@ -9,7 +9,7 @@ use Rattle.snesl_console.specs.Parts.{most_of_program, AreParts, IsOpen}
 -- line feed stands between there and `from`.
 pub record IsScanned (bytes : List ℕ) (line from : ℕ) : Type 0 where
   pub within : line ≤ from
-  pub reaches : from ≤ length bytes
+  pub inside : from ≤ length bytes
   pub early : line ≤ most_of_program
   pub begins : EndsLine (take line bytes)
   pub passed : (rest : List ℕ) → NoSeparatorBefore line (bytes ++ rest)

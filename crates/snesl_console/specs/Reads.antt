@@ -43,6 +43,10 @@ HasReadMore reader room old new (Ok n) =
 HasReadMore reader room old new (Err Read) = reader.these [] × reader.failed
 HasReadMore reader room old new (Err NoMemory) = (more : List ℕ) × GivesMore reader room more
 
+-- the same of bytes in vectors
+abbrev pub ReadsMore : ReadEffect → ℕ → Vec ℕ Global → Vec ℕ Global → Result ℕ JobError → Type 0
+ReadsMore reader room old new result = HasReadMore reader room old.items new.items result
+
 -- an input text was read on to its end, or to the first byte that is too many
 abbrev pub IsInput : ReadEffect → List ℕ → Type 0
 IsInput reader text = (length text ≤ most_of_input) × (reader.ended ⊎ (length text ≡ most_of_input))
@@ -55,3 +59,7 @@ HasReadInput reader old new (Err Read) =
     (more : List ℕ) × reader.these more × reader.failed × (length (old ++ more) < most_of_input)
 HasReadInput reader old new (Err NoMemory) =
     (more : List ℕ) × reader.these more × reader.worked × (length (old ++ more) ≤ most_of_input)
+
+-- the same of texts in vectors
+abbrev pub ReadsInput : {T : Type 0} → ReadEffect → Vec ℕ Global → Vec ℕ Global → Result T JobError → Type 0
+ReadsInput reader old new result = HasReadInput reader old.items new.items result

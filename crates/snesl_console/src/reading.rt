@@ -2,7 +2,7 @@
 
 ghost use Rattle.std.specs.Prelude.{◌≡◌, ◌<◌, ◌≤◌, length, IfOk};
 ghost use Rattle.snesl_console.specs.Streams.{read_effect};
-ghost use Rattle.snesl_console.specs.Reads.{HasReadMore, HasReadInput};
+ghost use Rattle.snesl_console.specs.Reads.{ReadsMore, ReadsInput};
 
 use crate::job::JobError;
 use snesl_data::Counted;
@@ -32,8 +32,7 @@ pub(crate) fn read_more<R: Read>(
 ) -> Result<usize, JobError>
     requires piece { 0 < length piece.old }
     requires room { 0 < room }
-    ensures { HasReadMore
-        (read_effect R.remaining job.old job.new) room bytes.old.items bytes.new.items result }
+    ensures { ReadsMore (read_effect R.remaining job.old job.new) room bytes.old bytes.new result }
 {
     let room = room.min(piece.len());
     let Ok(n) = job.read(&mut piece[..room]) else {
@@ -51,8 +50,7 @@ pub(crate) fn read_input<R: Read>(
 ) -> Result<(), JobError>
     requires piece { 0 < length piece.old }
     requires short { length text.old.items ≤ 16777217 }
-    ensures { HasReadInput
-        (read_effect R.remaining job.old job.new) text.old.items text.new.items result }
+    ensures { ReadsInput (read_effect R.remaining job.old job.new) text.old text.new result }
 {
     while text.len() <= LONGEST_INPUT {
         let room = LONGEST_INPUT + 1 - text.len();

@@ -17,7 +17,7 @@ use flow_networks::{Graph, graph_is_a_network};
 use flow_nodes::StreamNode;
 use flow_plans::{Operation, Step};
 use snesl_data::Refusal;
-use snesl_types::Typed;
+use snesl_types::TypedProgram;
 use std::alloc::{AllocError, Global};
 
 /// The drawing of a network of a typed program, as `flatten` and `Plan::with` make it: its nodes in order, its edges
@@ -30,7 +30,7 @@ use std::alloc::{AllocError, Global};
 /// - `NoMemory`: memory was refused.
 pub fn drawing_of(
     alloc: Global,
-    typed: &Typed<'_>,
+    typed: &TypedProgram<'_>,
     graph: &Graph<StreamNode>,
 ) -> Result<Drawing, Refusal>
     ensures nodes { IfOk result (λ drawing. length drawing.nodes.items

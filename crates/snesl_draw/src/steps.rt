@@ -6,18 +6,21 @@ use snesl_data::{Refusal, Ty};
 use snesl_scopes::Scope;
 use snesl_steps::{Binding, Steps};
 use snesl_translator::{ProgramContext, translate};
-use snesl_types::Typed;
+use snesl_types::TypedProgram;
 use std::alloc::Global;
 
 // The steps of a program whose inputs are not set. `TooBig` where they are more than a graph has nodes.
-pub(crate) fn steps_of_program(alloc: Global, typed: &Typed<'_>) -> Result<Vec<Step>, Refusal> {
+pub(crate) fn steps_of_program(
+    alloc: Global,
+    typed: &TypedProgram<'_>,
+) -> Result<Vec<Step>, Refusal> {
     let mut steps = Steps::new(alloc, typed.dialect());
     add_program(&mut steps, typed)?;
     Ok(steps.into_steps())
 }
 
 // Adds them: the control stream, the inputs, the program's expression, and a Print of its value.
-fn add_program(steps: &mut Steps, typed: &Typed<'_>) -> Result<(), Refusal> {
+fn add_program(steps: &mut Steps, typed: &TypedProgram<'_>) -> Result<(), Refusal> {
     let program = typed.program();
     let at = first_offset(&program.expr);
     let control = steps.control(at)?;

@@ -13,7 +13,7 @@ use Rattle.snesl_tree.specs.Tree.{Tree, Trees, none, both}
 use Rattle.snesl_grammar.specs.Expressions.{added}
 use Rattle.snesl_evaluation.specs.Answer.{Answer, gives, faults, go, go_all, go_join, or_fault}
 use Rattle.snesl_evaluation.specs.Builtins.{append_answer, applied, items_at, prefix_answer, seq_answer, sequence, truth_at}
-use Rattle.snesl_evaluation.specs.Eval.{Calls, BoundItems, eval, eval_all, eval_binders, in_step, kept, named}
+use Rattle.snesl_evaluation.specs.Eval.{Calls, BoundItems, eval, eval_all, eval_binders, in_step, kept, value_named}
 use Rattle.snesl_evaluation.specs.Derived.{ChoiceMeaning, ConditionMeaning, OneItemMeaning, LiteralMeaning}
 use Rattle.snesl_evaluation.proofs.Passed.{filter_seen}
 
@@ -108,14 +108,14 @@ chosen dialect at (a_pair v w) e f = refl
 chosen dialect at (a_vec vs) e f = refl
 chosen dialect at (a_seq vs) e f = refl
 
-named_here : (at : ℕ) (bytes : List ℕ) (v : Value) (environment : Environment) → named at bytes ((bytes, v) ∷ environment) ≡ gives v
+named_here : (at : ℕ) (bytes : List ℕ) (v : Value) (environment : Environment) → value_named at bytes ((bytes, v) ∷ environment) ≡ gives v
 named_here at bytes v environment = ap (λ b. or_fault Shape at (if b then Some v else value_in bytes environment)) ((bytes_eq-Decides bytes bytes).1 refl)
 
 pub choice_meaning : ChoiceMeaning
 choice_meaning at t condition positive negative apart other dialect text calls environment = by_value (eval dialect condition text calls environment)
   where
     by_value : (answer : Answer Value) → go answer (λ v. go (truth_at at v) (λ b. if b then eval dialect positive text calls environment else eval dialect negative text calls environment))
-        ≡ go answer (λ v. through dialect at (named t.at (spelling text t) ((spelling text t, v) ∷ environment)) (eval dialect positive text calls ((spelling text t, v) ∷ environment)) (eval dialect negative text calls ((spelling text t, v) ∷ environment)))
+        ≡ go answer (λ v. through dialect at (value_named t.at (spelling text t) ((spelling text t, v) ∷ environment)) (eval dialect positive text calls ((spelling text t, v) ∷ environment)) (eval dialect negative text calls ((spelling text t, v) ∷ environment)))
     by_value (faults kind place) = refl
     by_value (gives v) =
         chosen dialect at v (eval dialect positive text calls environment) (eval dialect negative text calls environment)

@@ -7,7 +7,7 @@ use Rattle.snesl_data.specs.declared.fault.FaultKind.TheVariants.{Length, Shape}
 use Rattle.snesl_values.specs.Inputs.{Environment, value_in}
 use Rattle.snesl_data.specs.Values.{Value, an_int, a_bool, a_pair}
 use Rattle.snesl_tree.specs.Spelling.{spelling}
-use Rattle.snesl_tree.specs.Tree.{Tree, Trees, Binders, integer, truth, name, binary, prefix, call, apply, group, pair, binding, choice, literal, filter, each, none, both, none_bound, binder, always, only_where, Typed, DeclarationTree, declares_input, declares_function, ProgramTree}
+use Rattle.snesl_tree.specs.Tree.{Tree, Trees, Binders, integer, truth, name, binary, prefix, call, apply, group, pair, binding, choice, literal, filter, each, none, both, none_bound, binder, always, only_where, TypedName, DeclarationTree, declares_input, declares_function, ProgramTree}
 use Rattle.snesl_evaluation.specs.Answer.{Answer, gives, faults, go, go_all, go_join, or_fault}
 use Rattle.snesl_evaluation.specs.Builtins.{truth_at, items_at, seq_answer, prefix_answer, binary_answer, applied}
 
@@ -16,8 +16,8 @@ abbrev pub Calls : Type 0
 Calls = ℕ → List ℕ → List Value → Answer Value
 
 -- the value of a name
-abbrev pub named : ℕ → List ℕ → Environment → Answer Value
-named at bytes environment = or_fault Shape at (value_in bytes environment)
+abbrev pub value_named : ℕ → List ℕ → Environment → Answer Value
+value_named at bytes environment = or_fault Shape at (value_in bytes environment)
 
 -- an item where the condition is true, and else nothing
 abbrev pub kept : Bool → Answer Value → Answer (List Value)
@@ -53,7 +53,7 @@ abbrev pub no_calls : Calls
 no_calls at bytes values = faults Shape at
 
 -- parameters with their values; as many values as parameters
-abbrev pub parameters_with : ℕ → List ℕ → List Typed → List Value → Answer Environment
+abbrev pub parameters_with : ℕ → List ℕ → List TypedName → List Value → Answer Environment
 parameters_with at text [] [] = gives []
 parameters_with at text (parameter ∷ parameters) (v ∷ vs) =
     go (parameters_with at text parameters vs) (λ environment. gives ((spelling text parameter.place, v) ∷ environment))
@@ -65,7 +65,7 @@ module _ (dialect : Dialect) where
     pub eval : Tree → List ℕ → Calls → Environment → Answer Value
     eval (integer at value) text calls environment = gives (an_int value)
     eval (truth at value) text calls environment = gives (a_bool value)
-    eval (name place) text calls environment = named place.at (spelling text place) environment
+    eval (name place) text calls environment = value_named place.at (spelling text place) environment
     eval (binary at operator left right) text calls environment =
         go (eval left text calls environment) (λ v. go (eval right text calls environment) (λ w. binary_answer dialect at operator v w))
     eval (prefix at operator operand) text calls environment = go (eval operand text calls environment) (prefix_answer dialect at operator)
@@ -113,7 +113,7 @@ module _ (dialect : Dialect) where
         go (eval_binders others text calls environment) (λ columns. gives ((spelling text place, vs) ∷ columns))))
 
   -- the answer of a function: its body's, which sees its parameters and these calls
-  abbrev pub function_answer : ℕ → List ℕ → Calls → List Typed → Tree → List Value → Answer Value
+  abbrev pub function_answer : ℕ → List ℕ → Calls → List TypedName → Tree → List Value → Answer Value
   function_answer at text calls parameters body values =
       go (parameters_with at text parameters values) (λ environment. eval body text calls environment)
 

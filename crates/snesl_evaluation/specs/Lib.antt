@@ -5,3 +5,5 @@ pub mod Eval
 pub mod Results
 pub mod Scopes
 pub mod Derived
+pub mod Data
+pub mod Forms

@@ -1,12 +1,12 @@
 // Built-in functions at data.
 
 ghost use Rattle.std.specs.Prelude.{◌∷◌, [], map};
-ghost use Rattle.snesl_data.specs.declared.dialect.Dialect.{Dialect};
-ghost use Rattle.snesl_data.specs.Values.{a_vec, value_of, values_of};
+ghost use Rattle.snesl_data.specs.Values.{value_of};
 ghost use Rattle.snesl_tree.specs.declared.operator.Builtin.TheVariants as builtin;
-ghost use Rattle.snesl_evaluation.specs.Answer.{gives, go, go_join};
-ghost use Rattle.snesl_evaluation.specs.Builtins.{applied, elements_at, int_at, iota_answer, items_at, part_answer, reduce_answer, scan_answer, seq_answer, sequence, the_answer};
+ghost use Rattle.snesl_evaluation.specs.Answer.{go};
+ghost use Rattle.snesl_evaluation.specs.Builtins.{applied, elements_at, int_at, iota_answer, items_at, part_answer, reduce_answer, scan_answer, the_answer};
 ghost use Rattle.snesl_evaluation.specs.Results.{Answers};
+ghost use Rattle.snesl_evaluation.specs.Data.{AnswersBuiltin, joined_answer, sequence_answer, vector_answer};
 
 use crate::halt::{Halt, fault};
 use crate::operators::scalar_result;
@@ -100,8 +100,7 @@ fn length(dialect: Dialect, at: usize, sequence: &Datum) -> Result<Datum, Halt>
 }
 
 fn concat(alloc: Global, at: usize, sequence: &Datum) -> Result<Datum, Halt>
-    ensures { Answers value_of result (go (items_at at (value_of sequence.now))
-        (λ vs. seq_answer (go_join (items_at at) vs))) }
+    ensures { Answers value_of result (go (items_at at (value_of sequence.now)) (joined_answer at)) }
 {
     let all = items(at, sequence)?;
     let values = joined(alloc, at, all)?;
@@ -131,8 +130,7 @@ fn the(alloc: Global, at: usize, sequence: &Datum) -> Result<Datum, Halt>
 }
 
 fn tab(alloc: Global, at: usize, sequence: &Datum) -> Result<Datum, Halt>
-    ensures { Answers value_of result (go (items_at at (value_of sequence.now))
-        (λ vs. gives (a_vec (values_of vs)))) }
+    ensures { Answers value_of result (go (items_at at (value_of sequence.now)) vector_answer) }
 {
     let all = items(at, sequence)?;
     let mut values = Vec::with_capacity(alloc, all.len())?;
@@ -141,8 +139,7 @@ fn tab(alloc: Global, at: usize, sequence: &Datum) -> Result<Datum, Halt>
 }
 
 fn seq(alloc: Global, at: usize, vector: &Datum) -> Result<Datum, Halt>
-    ensures { Answers value_of result (go (elements_at at (value_of vector.now))
-        (λ vs. gives (sequence vs))) }
+    ensures { Answers value_of result (go (elements_at at (value_of vector.now)) sequence_answer) }
 {
     let all = elements(at, vector)?;
     let values = all.data(alloc)?;
@@ -150,8 +147,7 @@ fn seq(alloc: Global, at: usize, vector: &Datum) -> Result<Datum, Halt>
 }
 
 fn fst(alloc: Global, at: usize, pair: &Datum) -> Result<Datum, Halt>
-    ensures { (dialect : Dialect) → Answers value_of result
-        (applied dialect at builtin.Fst (value_of pair.now ∷ [])) }
+    ensures { AnswersBuiltin at builtin.Fst pair.now result }
 {
     match pair {
         Datum::Pair(first, _) => Ok(copy_datum(alloc, first)?),
@@ -160,8 +156,7 @@ fn fst(alloc: Global, at: usize, pair: &Datum) -> Result<Datum, Halt>
 }
 
 fn snd(alloc: Global, at: usize, pair: &Datum) -> Result<Datum, Halt>
-    ensures { (dialect : Dialect) → Answers value_of result
-        (applied dialect at builtin.Snd (value_of pair.now ∷ [])) }
+    ensures { AnswersBuiltin at builtin.Snd pair.now result }
 {
     match pair {
         Datum::Pair(_, second) => Ok(copy_datum(alloc, second)?),

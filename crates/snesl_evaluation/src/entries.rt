@@ -1,9 +1,9 @@
 // The inputs of a program, each value built once for the whole evaluation.
 
-ghost use Rattle.std.specs.Prelude.{◌≡◌, ◌<◌, length, map, IfOk, option_map, slice_get, Some};
+ghost use Rattle.std.specs.Prelude.{◌≡◌, ◌<◌, length, map, IfOk};
 ghost use Rattle.snesl_values.specs.Inputs.{environment_of, value_in};
-ghost use Rattle.snesl_data.specs.Values.{value_of};
-ghost use Rattle.snesl_evaluation.specs.Entries.{entry_of};
+ghost use Rattle.snesl_evaluation.specs.Entries.{entry_of, IsInputAt};
+ghost use Rattle.snesl_evaluation.specs.Data.{found_value};
 
 use snesl_data::Datum;
 use snesl_values::Inputs;
@@ -29,8 +29,7 @@ pub fn entries_of(alloc: Global, inputs: &Inputs) -> Result<Vec<Entry>, AllocErr
 
 fn build_entry(alloc: Global, inputs: &Inputs, number: usize) -> Result<Entry, AllocError>
     requires { number < length (environment_of inputs.now) }
-    ensures { IfOk result (λ entry. slice_get (environment_of inputs.now) number ≡
-        Some (entry_of entry)) }
+    ensures { IfOk result (IsInputAt inputs.now number) }
 {
     let name = inputs.name(number).unwrap().to_vec(alloc)?;
     let datum = inputs.datum(alloc, number)?;
@@ -39,8 +38,7 @@ fn build_entry(alloc: Global, inputs: &Inputs, number: usize) -> Result<Entry, A
 
 // The value of the first input of a name.
 pub fn find_entry<'a>(name: &[u8], entries: &'a [Entry]) -> Option<&'a Datum>
-    ensures { option_map (λ datum. value_of datum.now) result ≡
-        value_in name.now (map entry_of entries.now) }
+    ensures { found_value result ≡ value_in name.now (map entry_of entries.now) }
 {
     for entry in entries {
         if entry.name.as_slice() == name {

@@ -1,16 +1,15 @@
 // Evaluation.
 
-ghost use Rattle.std.specs.Prelude.{◌≡◌, ◌∷◌, true, map, if◌then◌else◌, IfOk, option_map, option_to_list};
-ghost use Rattle.snesl_values.specs.Inputs.{environment_of};
-ghost use Rattle.snesl_data.specs.Values.{a_pair, value_of};
-ghost use Rattle.snesl_tree.specs.Spelling.{spelling};
-ghost use Rattle.snesl_grammar.specs.View.{program_of};
+ghost use Rattle.std.specs.Prelude.{◌≡◌, true, map, IfOk};
+ghost use Rattle.snesl_data.specs.Values.{value_of};
 ghost use Rattle.snesl_tree.specs.View.{binders_of, tree_of, trees_of};
-ghost use Rattle.snesl_evaluation.specs.Eval.{eval, in_step, program_value, rows_of};
-ghost use Rattle.snesl_evaluation.specs.Answer.{gives, go};
-ghost use Rattle.snesl_evaluation.specs.Builtins.{applied, binary_answer, prefix_answer, seq_answer, truth_at};
+ghost use Rattle.snesl_evaluation.specs.Builtins.{seq_answer};
 ghost use Rattle.snesl_evaluation.specs.Results.{Answers, IsAnswer};
-ghost use Rattle.snesl_evaluation.specs.Scopes.{all_in, are_level, binders_in, calls_in, bound_items_of, each_in, entered, environment_in, eval_in, kept_in, where_in};
+ghost use Rattle.snesl_evaluation.specs.Eval.{in_step, rows_of};
+ghost use Rattle.snesl_evaluation.specs.Answer.{go};
+ghost use Rattle.snesl_evaluation.specs.Scopes.{all_in, are_level, binders_in, bound_items_of, each_in, kept_in, where_in};
+ghost use Rattle.snesl_evaluation.specs.Forms.{EvaluatesTo, apply_form, binary_form, bound_in, call_form, called_in, entered_in, filter_in, if_form, let_form, pair_in, prefix_form, program_answer};
+ghost use Rattle.snesl_evaluation.specs.Data.{kept_values, values_in};
 
 use crate::builtins::apply;
 use crate::calls::find_function;
@@ -44,9 +43,7 @@ pub fn evaluate(
     program: &Program,
     inputs: &Inputs,
 ) -> Result<Result<Datum, Fault>, AllocError>
-    ensures exact { IfOk result (λ answer. IsAnswer answer
-        (program_value program.now.text.items (program_of program.now)
-        (environment_of inputs.now))) }
+    ensures exact { IfOk result (λ answer. IsAnswer answer (program_answer program.now inputs.now)) }
 {
     let context = ProgramContext {
         alloc,
@@ -68,7 +65,7 @@ pub fn evaluate(
 #[cycle(value)]
 #[inline(never)]
 pub fn value(context: &ProgramContext, expr: &Expr, scope: &Scope) -> Result<Datum, Halt>
-    ensures { Answers value_of result (eval_in context.now scope.now (tree_of expr.now)) }
+    ensures { EvaluatesTo context.now scope.now (tree_of expr.now) result }
 {
     match expr {
         Expr::Integer { value, .. } => Ok(Datum::Int(*value)),
@@ -137,9 +134,7 @@ fn binary_value(
     right: &Expr,
     scope: &Scope,
 ) -> Result<Datum, Halt>
-    ensures { Answers value_of result (go (eval_in context.now scope.now (tree_of left.now))
-        (λ v. go (eval_in context.now scope.now (tree_of right.now))
-        (λ w. binary_answer context.now.dialect at operator v w))) }
+    ensures { EvaluatesTo context.now scope.now (binary_form at operator left.now right.now) result }
 {
     let x = value(context, left, scope)?;
     let y = value(context, right, scope)?;
@@ -156,8 +151,7 @@ fn prefix_value(
     operand: &Expr,
     scope: &Scope,
 ) -> Result<Datum, Halt>
-    ensures { Answers value_of result (go (eval_in context.now scope.now (tree_of operand.now))
-        (prefix_answer context.now.dialect at operator)) }
+    ensures { EvaluatesTo context.now scope.now (prefix_form at operator operand.now) result }
 {
     let x = value(context, operand, scope)?;
     prefix(context.dialect, at, operator, &x)
@@ -171,8 +165,7 @@ fn pair_value(
     second: &Expr,
     scope: &Scope,
 ) -> Result<Datum, Halt>
-    ensures { Answers value_of result (go (eval_in context.now scope.now (tree_of first.now))
-        (λ v. go (eval_in context.now scope.now (tree_of second.now)) (λ w. gives (a_pair v w)))) }
+    ensures { Answers value_of result (pair_in context.now scope.now first.now second.now) }
 {
     let x = value(context, first, scope)?;
     let y = value(context, second, scope)?;
@@ -189,10 +182,7 @@ fn let_value(
     body: &Expr,
     scope: &Scope,
 ) -> Result<Datum, Halt>
-    ensures { Answers value_of result (go (eval_in context.now scope.now (tree_of bound.now))
-        (λ v. eval context.now.dialect (tree_of body.now) context.now.text.now
-        (calls_in context.now) ((spelling context.now.text.now name, v) ∷
-        environment_in context.now.text.now scope.now))) }
+    ensures { EvaluatesTo context.now scope.now (let_form name bound.now body.now) result }
 {
     let x = value(context, bound, scope)?;
     bind(context, name, &x, body, &*scope)
@@ -209,9 +199,7 @@ fn if_value(
     negative: &Expr,
     scope: &Scope,
 ) -> Result<Datum, Halt>
-    ensures { Answers value_of result (go (eval_in context.now scope.now (tree_of condition.now))
-        (λ v. go (truth_at at v) (λ b. if b then eval_in context.now scope.now
-        (tree_of positive.now) else eval_in context.now scope.now (tree_of negative.now)))) }
+    ensures { EvaluatesTo context.now scope.now (if_form at condition.now positive.now negative.now) result }
 {
     let x = value(context, condition, scope)?;
     if truth(at, &x)? {
@@ -231,8 +219,7 @@ fn built_in(
     arguments: &[Expr],
     scope: &Scope,
 ) -> Result<Datum, Halt>
-    ensures { Answers value_of result (go (all_in context.now scope.now (trees_of arguments.now))
-        (applied context.now.dialect at function)) }
+    ensures { EvaluatesTo context.now scope.now (call_form at function arguments.now) result }
 {
     let values = all_values(context, arguments, scope)?;
     apply(context.dialect, context.alloc, at, function, &values)
@@ -247,8 +234,7 @@ fn call(
     arguments: &[Expr],
     scope: &Scope,
 ) -> Result<Datum, Halt>
-    ensures { Answers value_of result (go (all_in context.now scope.now (trees_of arguments.now))
-        (calls_in context.now name.at (spelling context.now.text.now name))) }
+    ensures { EvaluatesTo context.now scope.now (apply_form name arguments.now) result }
 {
     let values = all_values(context, arguments, scope)?;
     let result = called(context, name, &values)?;
@@ -275,8 +261,7 @@ fn filter(
     condition: &Expr,
     scope: &Scope,
 ) -> Result<Datum, Halt>
-    ensures { Answers value_of result (seq_answer
-        (kept_in context.now scope.now at (tree_of item.now) (tree_of condition.now))) }
+    ensures { Answers value_of result (filter_in context.now scope.now at item.now condition.now) }
 {
     let found = kept(context, at, item, condition, scope)?;
     Ok(filtered(context.alloc, found)?)
@@ -334,8 +319,7 @@ pub fn all_values(
     exprs: &[Expr],
     scope: &Scope,
 ) -> Result<Vec<Datum>, Halt>
-    ensures { Answers (λ values. map value_of values.items) result
-        (all_in context.now scope.now (trees_of exprs.now)) }
+    ensures { Answers values_in result (all_in context.now scope.now (trees_of exprs.now)) }
 {
     let mut values = Vec::new(context.alloc);
     for expr in exprs {
@@ -375,10 +359,7 @@ fn bind<'a>(
     body: &Expr,
     scope: &'a Scope<'a>,
 ) -> Result<Datum, Halt>
-    ensures { Answers value_of result (eval context.now.dialect
-        (tree_of body.now) context.now.text.now (calls_in context.now)
-        ((spelling context.now.text.now name, value_of bound.now) ∷
-        environment_in context.now.text.now scope.now)) }
+    ensures { Answers value_of result (bound_in context.now scope.now name bound.now body.now) }
 {
     let inner = Scope::Bound {
         name,
@@ -399,8 +380,7 @@ fn kept(
     condition: &Expr,
     scope: &Scope,
 ) -> Result<Option<Datum>, Halt>
-    ensures { Answers (λ kept. option_to_list (option_map value_of kept)) result
-        (kept_in context.now scope.now at (tree_of item.now) (tree_of condition.now)) }
+    ensures { Answers kept_values result (kept_in context.now scope.now at item.now condition.now) }
 {
     let x = value(context, condition, scope)?;
     if truth(at, &x)? {
@@ -473,8 +453,7 @@ fn rows_where<'a>(
 #[cycle(value)]
 #[inline(never)]
 fn called(context: &ProgramContext, name: Span, values: &[Datum]) -> Result<Datum, Halt>
-    ensures { Answers value_of result (calls_in context.now name.at
-        (spelling context.now.text.now name) (map value_of values.now)) }
+    ensures { Answers value_of result (called_in context.now name values.now) }
 {
     let bytes = name.spelled(context.text);
     match find_function(bytes, context.text, context.functions) {
@@ -493,9 +472,7 @@ fn enter(
     earlier: &[Declaration],
     values: &[Datum],
 ) -> Result<Datum, Halt>
-    ensures { Answers value_of result
-        (entered context.now.dialect context.now.text.now at function.now earlier.now
-        (map value_of values.now)) }
+    ensures { Answers value_of result (entered_in context.now at function.now earlier.now values.now) }
 {
     if function.parameters.len() != values.len() {
         return Err(fault(FaultKind::Shape, at));

@@ -3,9 +3,10 @@
 ghost use Rattle.std.specs.Prelude.{slice_get};
 ghost use Rattle.snesl_data.specs.declared.fault.FaultKind.TheVariants.{Index as IndexFault};
 ghost use Rattle.snesl_data.specs.Values.{entries, value_of};
-ghost use Rattle.snesl_evaluation.specs.Answer.{go, or_fault};
-ghost use Rattle.snesl_evaluation.specs.Builtins.{append_answer, binary_answer, elements_at, equal_answer, int_at, item_answer, prefix_answer, scalar_answer, scalars_answer, unary_answer};
+ghost use Rattle.snesl_evaluation.specs.Answer.{or_fault};
+ghost use Rattle.snesl_evaluation.specs.Builtins.{append_answer, binary_answer, equal_answer, item_answer, prefix_answer, scalar_answer, scalars_answer, unary_answer};
 ghost use Rattle.snesl_evaluation.specs.Results.{Answers};
+ghost use Rattle.snesl_evaluation.specs.Data.{AnswersOf, index_answer};
 
 use crate::halt::{Halt, fault};
 use crate::parts::{datum_of, elements, integer, items, scalar, sequence_of};
@@ -56,8 +57,7 @@ pub fn binary(
     left: &Datum,
     right: &Datum,
 ) -> Result<Datum, Halt>
-    ensures { Answers value_of result (binary_answer dialect at operator (value_of left.now)
-        (value_of right.now)) }
+    ensures { AnswersOf (binary_answer dialect at operator) left.now right.now result }
 {
     match operator {
         Operator::Or => on_scalars(dialect, at, BinaryOperator::Or, left, right),
@@ -84,8 +84,7 @@ fn on_scalars(
     left: &Datum,
     right: &Datum,
 ) -> Result<Datum, Halt>
-    ensures { Answers value_of result (scalars_answer dialect at operator (value_of left.now)
-        (value_of right.now)) }
+    ensures { AnswersOf (scalars_answer dialect at operator) left.now right.now result }
 {
     let x = scalar(at, left)?;
     let y = scalar(at, right)?;
@@ -93,8 +92,7 @@ fn on_scalars(
 }
 
 fn equal(dialect: Dialect, at: usize, left: &Datum, right: &Datum) -> Result<Datum, Halt>
-    ensures { Answers value_of result (equal_answer dialect at (value_of left.now)
-        (value_of right.now)) }
+    ensures { AnswersOf (equal_answer dialect at) left.now right.now result }
 {
     match left {
         Datum::Int(_) => on_scalars(dialect, at, BinaryOperator::EqualIntegers, left, right),
@@ -105,7 +103,7 @@ fn equal(dialect: Dialect, at: usize, left: &Datum, right: &Datum) -> Result<Dat
 
 // One sequence followed by another.
 fn append(alloc: Global, at: usize, left: &Datum, right: &Datum) -> Result<Datum, Halt>
-    ensures { Answers value_of result (append_answer at (value_of left.now) (value_of right.now)) }
+    ensures { AnswersOf (append_answer at) left.now right.now result }
 {
     let front = items(at, left)?;
     let back = items(at, right)?;
@@ -117,8 +115,7 @@ fn append(alloc: Global, at: usize, left: &Datum, right: &Datum) -> Result<Datum
 
 // The element at an index.
 fn index(alloc: Global, at: usize, vector: &Datum, index: &Datum) -> Result<Datum, Halt>
-    ensures { Answers value_of result (go (elements_at at (value_of vector.now))
-        (λ vs. go (int_at at (value_of index.now)) (item_answer at vs))) }
+    ensures { AnswersOf (index_answer at) vector.now index.now result }
 {
     let all = elements(at, vector)?;
     let i = integer(at, index)?;

@@ -1,9 +1,10 @@
 // Data and their parts. A datum of another kind is `Shape` at the offset that is given.
 
-ghost use Rattle.std.specs.Prelude.{◌≡◌, ◌++◌, ◌∷◌, [], map, option_map, option_to_list, IfOk, OnOk};
+ghost use Rattle.std.specs.Prelude.{◌≡◌, ◌++◌, ◌∷◌, [], map, IfOk, OnOk};
 ghost use Rattle.snesl_data.specs.Values.{a_pair, a_vec, entries, value_of, values_of};
 ghost use Rattle.snesl_evaluation.specs.Builtins.{elements_at, int_at, items_at, scalar_at, scalar_value, sequence, truth_at};
 ghost use Rattle.snesl_evaluation.specs.Results.{Answers};
+ghost use Rattle.snesl_evaluation.specs.Data.{kept_values, values_in};
 
 use crate::halt::{Halt, fault};
 use snesl_data::{Datum, Elements, FaultKind};
@@ -68,7 +69,7 @@ pub fn elements(at: usize, datum: &Datum) -> Result<&Elements, Halt>
 }
 
 pub fn into_items(at: usize, datum: Datum) -> Result<Vec<Datum>, Halt>
-    ensures { Answers (λ all. map value_of all.items) result (items_at at (value_of datum)) }
+    ensures { Answers values_in result (items_at at (value_of datum)) }
 {
     match datum {
         Datum::Seq(all) => Ok(all),
@@ -77,21 +78,19 @@ pub fn into_items(at: usize, datum: Datum) -> Result<Vec<Datum>, Halt>
 }
 
 pub fn sequence_of(items: Vec<Datum>) -> Datum
-    ensures { value_of result ≡ sequence (map value_of items.items) }
+    ensures { value_of result ≡ sequence (values_in items) }
 {
     Datum::Seq(items)
 }
 
 pub fn vector_of(alloc: Global, items: Vec<Datum>) -> Result<Datum, AllocError>
-    ensures { IfOk result (λ datum. value_of datum ≡
-        a_vec (values_of (map value_of items.items))) }
+    ensures { IfOk result (λ datum. value_of datum ≡ a_vec (values_of (values_in items))) }
 {
     Ok(Datum::Vec(Elements::of_data(alloc, items)?))
 }
 
 pub fn add(values: &mut Vec<Datum>, value: Datum) -> Result<(), AllocError>
-    ensures { OnOk result (map value_of values.new.items ≡ map value_of values.old.items ++
-        value_of value ∷ []) }
+    ensures { OnOk result (values_in values.new ≡ values_in values.old ++ value_of value ∷ []) }
 {
     values.push(value)?;
     Ok(())
@@ -105,8 +104,7 @@ pub fn pair(alloc: Global, first: Datum, second: Datum) -> Result<Datum, AllocEr
 }
 
 pub fn add_found(values: &mut Vec<Datum>, found: Option<Datum>) -> Result<(), AllocError>
-    ensures { OnOk result (map value_of values.new.items ≡ map value_of values.old.items ++
-        option_to_list (option_map value_of found)) }
+    ensures { OnOk result (values_in values.new ≡ values_in values.old ++ kept_values found) }
 {
     match found {
         Some(value) => add(values, value),
@@ -117,8 +115,7 @@ pub fn add_found(values: &mut Vec<Datum>, found: Option<Datum>) -> Result<(), Al
 // The sequence of what is there.
 #[inline(never)]
 pub fn filtered(alloc: Global, found: Option<Datum>) -> Result<Datum, AllocError>
-    ensures { IfOk result (λ datum. value_of datum ≡
-        sequence (option_to_list (option_map value_of found))) }
+    ensures { IfOk result (λ datum. value_of datum ≡ sequence (kept_values found)) }
 {
     let mut values = Vec::new(alloc);
     add_found(&mut values, found)?;

@@ -1,13 +1,13 @@
 // What names and calls stand for.
 
-ghost use Rattle.std.specs.Prelude.{◌≡◌, ℕ, List, [], ◌∷◌, ◌++◌, map, option_map, slice_get, true, zip, None, if◌then◌else◌, IfOk, OnOk};
-ghost use Rattle.std.specs.Str.{bytes_eq};
+ghost use Rattle.std.specs.Prelude.{◌≡◌, ℕ, List, [], ◌∷◌, ◌++◌, map, true, IfOk, OnOk};
 ghost use Rattle.snesl_values.specs.Inputs.{value_in};
 ghost use Rattle.snesl_data.specs.Values.{value_of};
 ghost use Rattle.snesl_tree.specs.Spelling.{spelling};
-ghost use Rattle.snesl_evaluation.specs.Eval.{in_step, named, rows_of};
 ghost use Rattle.snesl_evaluation.specs.Results.{Answers};
-ghost use Rattle.snesl_evaluation.specs.Scopes.{are_level, bound_items_of, environment_in, first_height, names_of, names_at};
+ghost use Rattle.snesl_evaluation.specs.Scopes.{are_level, bound_items_of, environment_in, first_height, item_named, named_in, named_items, named_values, row_names};
+ghost use Rattle.snesl_evaluation.specs.Data.{found_value};
+ghost use Rattle.snesl_evaluation.specs.Eval.{in_step, rows_of};
 
 use crate::entries::{Entry, find_entry};
 use crate::halt::{Halt, fault};
@@ -54,8 +54,7 @@ pub enum Scope<'a> {
 // A copy of the value of a name.
 #[inline(never)]
 pub fn look_up(alloc: Global, name: Span, text: &[u8], scope: &Scope) -> Result<Datum, Halt>
-    ensures { Answers value_of result (named name.at (spelling text.now name)
-        (environment_in text.now scope.now)) }
+    ensures { Answers value_of result (named_in text.now scope.now name) }
 {
     match find(name.spelled(text), text, scope) {
         Some(datum) => Ok(copy_datum(alloc, datum)?),
@@ -65,8 +64,7 @@ pub fn look_up(alloc: Global, name: Span, text: &[u8], scope: &Scope) -> Result<
 
 // The value of a name.
 fn find<'a>(name: &[u8], text: &[u8], scope: &'a Scope<'a>) -> Option<&'a Datum>
-    ensures { option_map (λ datum. value_of datum.now) result ≡
-        value_in name.now (environment_in text.now scope.now) }
+    ensures { found_value result ≡ value_in name.now (environment_in text.now scope.now) }
 {
     match scope {
         Scope::Inputs(entries) => find_entry(name, entries),
@@ -99,8 +97,7 @@ fn find_parameter<'a>(
     parameters: &[Typing],
     values: &'a [Datum],
 ) -> Option<&'a Datum>
-    ensures { option_map (λ datum. value_of datum.now) result ≡
-        value_in name.now (zip (names_of text.now parameters.now) (map value_of values.now)) }
+    ensures { found_value result ≡ value_in name.now (named_values text.now parameters.now values.now) }
 {
     let (parameter, parameters) = parameters.split_first()?;
     let (value, values) = values.split_first()?;
@@ -117,8 +114,7 @@ fn find_in_row<'a>(
     columns: &'a [Column],
     index: usize,
 ) -> Option<&'a Datum>
-    ensures { option_map (λ datum. value_of datum.now) result ≡
-        value_in name.now (names_at index (map (bound_items_of text.now) columns.now)) }
+    ensures { found_value result ≡ value_in name.now (row_names text.now columns.now index) }
 {
     let (column, columns) = columns.split_first()?;
     match find_in_column(name, text, column, index) {
@@ -133,9 +129,7 @@ fn find_in_column<'a>(
     column: &'a Column,
     index: usize,
 ) -> Option<&'a Datum>
-    ensures { option_map (λ datum. value_of datum.now) result ≡
-        (if bytes_eq name.now (spelling text.now column.now.name) then slice_get
-        (map value_of column.now.items.items) index else None) }
+    ensures { found_value result ≡ item_named name.now index (bound_items_of text.now column.now) }
 {
     if name == column.name.spelled(text) {
         column.items.get(index)
@@ -161,8 +155,7 @@ pub fn add_column(
 pub fn height(at: usize, columns: &[Column]) -> Result<usize, Halt>
     ensures level { IfOk result (λ n. are_level n columns.now ≡ true) }
     ensures in_step { (text : List ℕ) → Answers (λ n.
-        rows_of n (map (bound_items_of text) columns.now)) result
-        (in_step at (map (bound_items_of text) columns.now)) }
+        rows_of n (named_items text columns.now)) result (in_step at (named_items text columns.now)) }
 {
     let height = first_height(columns);
     if are_level(columns, height) {

@@ -1,13 +1,13 @@
 // Sequences made of others.
 
-ghost use Rattle.std.specs.Prelude.{◌≡◌, ◌++◌, ◌∷◌, [], ◌+◌, ◌+ℤ◌, map, slice_get, IfOk, OnOk};
-ghost use Rattle.snesl_data.specs.declared.fault.FaultKind.TheVariants.{Part as PartFault};
-ghost use Rattle.snesl_data.specs.Values.{an_int, value_of};
+ghost use Rattle.std.specs.Prelude.{◌≡◌, ◌++◌, [], ◌+◌, ◌+ℤ◌, map, IfOk, OnOk};
+ghost use Rattle.snesl_data.specs.Values.{value_of};
 ghost use Rattle.snesl_operators.specs.Operators.{ranged};
-ghost use Rattle.snesl_operators.specs.Reductions.{reduction_of, scan_of};
-ghost use Rattle.snesl_evaluation.specs.Answer.{answer_at, gives, go, go_all, go_join, or_fault};
-ghost use Rattle.snesl_evaluation.specs.Builtins.{int_at, items_at, numbers_below, parts_answer, scalar_at, sequence, truth_at};
+ghost use Rattle.snesl_operators.specs.Reductions.{reduction_of};
+ghost use Rattle.snesl_evaluation.specs.Answer.{answer_at, go_all, go_join};
+ghost use Rattle.snesl_evaluation.specs.Builtins.{int_at, items_at, numbers_below, scalar_at, truth_at};
 ghost use Rattle.snesl_evaluation.specs.Results.{Answers};
+ghost use Rattle.snesl_evaluation.specs.Data.{parts_at, sums_at, values_in, with_item, with_part};
 
 use crate::halt::{Halt, fault};
 use crate::parts::{add, integer, items, scalar, sequence_of, truth};
@@ -51,7 +51,7 @@ pub fn scalars(alloc: Global, at: usize, all: &[Datum]) -> Result<Vec<Scalar>, H
 
 // The memory is asked for first, so that a count too great is refused at once.
 pub fn count_up(alloc: Global, n: usize) -> Result<Vec<Datum>, AllocError>
-    ensures { IfOk result (λ numbers. map value_of numbers.items ≡ numbers_below n) }
+    ensures { IfOk result (λ numbers. values_in numbers ≡ numbers_below n) }
 {
     let mut numbers = Vec::with_capacity(alloc, n)?;
     for i in 0..n {
@@ -62,8 +62,7 @@ pub fn count_up(alloc: Global, n: usize) -> Result<Vec<Datum>, AllocError>
 
 // Copies of these after the others.
 pub fn add_copies(alloc: Global, values: &mut Vec<Datum>, all: &[Datum]) -> Result<(), AllocError>
-    ensures { OnOk result (map value_of values.new.items ≡ map value_of values.old.items ++
-        map value_of all.now) }
+    ensures { OnOk result (values_in values.new ≡ values_in values.old ++ map value_of all.now) }
 {
     for datum in all {
         let copy = copy_datum(alloc, datum)?;
@@ -74,8 +73,7 @@ pub fn add_copies(alloc: Global, values: &mut Vec<Datum>, all: &[Datum]) -> Resu
 
 // The items of sequences, joined in order.
 pub fn joined(alloc: Global, at: usize, all: &[Datum]) -> Result<Vec<Datum>, Halt>
-    ensures { Answers (λ values. map value_of values.items) result
-        (go_join (items_at at) (map value_of all.now)) }
+    ensures { Answers values_in result (go_join (items_at at) (map value_of all.now)) }
 {
     let mut values = Vec::new(alloc);
     for datum in all {
@@ -102,8 +100,7 @@ pub fn scan_add(
     at: usize,
     numbers: &[i128],
 ) -> Result<Vec<Datum>, Halt>
-    ensures { Answers (λ values. map value_of values.items) result
-        (go (answer_at at (scan_of dialect numbers.now)) (λ sums. gives (map an_int sums))) }
+    ensures { Answers values_in result (sums_at dialect at numbers.now) }
 {
     let mut sums = Vec::with_capacity(alloc, numbers.len())?;
     if numbers.is_empty() {
@@ -129,9 +126,7 @@ fn total(dialect: Dialect, at: usize, m: i128, n: i128) -> Result<i128, Halt>
 
 // Items in parts, as flags say: each `false` takes the next item, and each `true` ends a part.
 pub fn parts(alloc: Global, at: usize, items: &[Datum], flags: &[bool]) -> Result<Vec<Datum>, Halt>
-    ensures { Answers (λ values. map value_of values.items) result
-        (go (parts_answer at (map value_of items.now) flags.now)
-        (λ parts. gives (map sequence parts))) }
+    ensures { Answers values_in result (parts_at at items.now flags.now) }
 {
     let mut parts = Vec::new(alloc);
     let mut part = Vec::new(alloc);
@@ -154,8 +149,7 @@ pub fn parts(alloc: Global, at: usize, items: &[Datum], flags: &[bool]) -> Resul
 
 // Adds a part to the others, and begins the next.
 fn end_part(alloc: Global, parts: &mut Vec<Datum>, part: &mut Vec<Datum>) -> Result<(), AllocError>
-    ensures done { OnOk result (map value_of parts.new.items ≡ map value_of parts.old.items ++
-        sequence (map value_of part.old.items) ∷ []) }
+    ensures done { OnOk result (values_in parts.new ≡ with_part parts.old part.old) }
     ensures begun { OnOk result (part.new.items ≡ []) }
 {
     let ended = mem::replace(part, Vec::new(alloc));
@@ -172,9 +166,7 @@ fn take_item(
     part: &mut Vec<Datum>,
 ) -> Result<usize, Halt>
     ensures next { IfOk result (λ next. next ≡ taken + 1) }
-    ensures taken { Answers (λ _. map value_of part.new.items) result
-        (go (or_fault PartFault at (slice_get (map value_of items.now) taken))
-        (λ v. gives (map value_of part.old.items ++ v ∷ []))) }
+    ensures taken { Answers (λ _. values_in part.new) result (with_item at items.now taken part.old) }
 {
     match items.get(taken) {
         Some(item) => {

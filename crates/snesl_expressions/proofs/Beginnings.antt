@@ -1,7 +1,7 @@
 -- What begins an expression can be completed to one that is no deeper: a name stands wherever an expression is missing.
 use Rattle.std.proofs.Common.{◌≡◌, ℕ, ◌≤◌, List, [], ◌∷◌, ◌++◌, refl, sym, ◌∙◌, ap, subst, arith, append_assoc}
 use Rattle.std.proofs.lemmas.List.{append-nil}
-use Rattle.snesl_lexer.specs.declared.token.Kind.TheVariants as kinds
+use Rattle.snesl_lexer.specs.declared.token.TokenKind.TheVariants as kinds
 use Rattle.snesl_lexer.specs.declared.token.Token.{Token}
 use Rattle.snesl_tree.specs.declared.span.Span.{Span}
 use Rattle.snesl_tree.specs.Tree.{Tree, Trees, Binders, name, none, both, none_bound, binder, depth, depth_of_all, depth_of_binders}

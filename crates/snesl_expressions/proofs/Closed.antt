@@ -1,14 +1,14 @@
 -- What closing tokens make of what stands.
 use Rattle.std.proofs.Common.{◌≡◌, ℕ, suc, ◌+◌, ◌≤◌, ◌<◌, Bool, true, false, cond, leb, List, [], ◌∷◌, ◌++◌, length, Option, Some, None, refl, sym, ◌∙◌, ap, subst, arith, append_assoc}
 use Rattle.std.proofs.lemmas.Bool.{leb-true, leb-false}
-use Rattle.snesl_lexer.specs.declared.token.Kind.{Kind}
-use Rattle.snesl_lexer.specs.declared.token.Kind.TheVariants.{In, Let, If, Then, Else, RightParen, LeftBrace, RightBrace, Colon, Semicolon, Comma, Bar, Equals}
+use Rattle.snesl_lexer.specs.declared.token.TokenKind.{TokenKind}
+use Rattle.snesl_lexer.specs.declared.token.TokenKind.TheVariants.{In, Let, If, Then, Else, RightParen, LeftBrace, RightBrace, Colon, Semicolon, Comma, Bar, Equals}
 use Rattle.snesl_lexer.specs.declared.token.Token.{Token}
 use Rattle.snesl_tree.specs.Tree.{Tree, binary, prefix, call, apply, group, pair, binding, choice, literal, filter, each, none, both, none_bound, always, only_where, depth}
 use Rattle.snesl_grammar.specs.Operators.{level, prefix_level, sign, prefix_sign}
 use Rattle.snesl_grammar.specs.Expressions.{token, name_token, added, bound_also, binder_count, greatest_binder_count, Whole, binary_rule, prefix_rule, call_rule, apply_rule, group_rule, pair_rule, let_rule, if_rule, literal_rule, filter_rule, each_rule, each_where_rule}
 use Rattle.snesl_expressions.specs.Machine.{Frame, in_binary, in_prefix, in_call, in_apply, in_second, in_let_body, in_positive, in_negative, in_braces, in_filter, in_each_condition, State, operand, after, binder_name, Folded, reduce, floor, comma_move, paren_move, brace_move, colon_move, bar_move, semicolon_move, in_move, then_move, else_move, closing_move}
-use Rattle.snesl_expressions.specs.Readers.{TokenMove, free}
+use Rattle.snesl_expressions.specs.Readers.{TokenMove, at_any_depth}
 use Rattle.snesl_expressions.proofs.Depths.{depth_pos, depth_added, depth_bound_also, count_bound_also}
 use Rattle.snesl_expressions.proofs.Spelled.{some_given, no_bound, some_bound, Spells, spells_empty, spells_binary, spells_prefix, spells_call, spells_apply, spells_group, spells_second, spells_value, spells_let_body, spells_condition, spells_positive, spells_negative, spells_braces, spells_filter, spells_source, spells_each_condition, Stands, stands_operand, stands_after, stands_binder_name, given_whole, given_nothing, bound_whole}
 
@@ -92,7 +92,7 @@ reduce_stands (spells_source colon within h wb room b fit) k w wk fits = stays k
 reduce_stands (spells_each_condition colon bar h wb room b fit) k w wk fits = stays k (spells_each_condition colon bar h wb room b fit) wk fits
 
 -- a closing token keeps what stands
-abbrev pub Keeps : ℕ → Kind → (List Frame → Tree → Option (TokenMove State)) → Type 0
+abbrev pub Keeps : ℕ → TokenKind → (List Frame → Tree → Option (TokenMove State)) → Type 0
 Keeps deep kind found =
     (at : ℕ) (frames : List Frame) (ts us : List Token) (last : Tree) → Spells deep frames ts → Whole 0 us last → depth last + length frames ≤ deep
     → Good deep (ts ++ us) (token kind at) (found frames last)
@@ -170,7 +170,7 @@ semicolon_keeps {deep = deep} at _ _ us e
     (spells_source {at = begun} {place = place} colon within {frames = s} {ts = ts} {us = xs} {vs = vs} {body = body} {binders = binders} h wb room b fit) w fits =
     let all : List Token = (ts ++ (token LeftBrace begun ∷ (xs ++ (token Colon colon ∷ (vs ++ (name_token place ∷ token In within ∷ [])))))) ++ us in
     picked (Good deep all (token Semicolon at)) (suc (suc (binder_count binders))) greatest_binder_count
-    (free (binder_name s begun body (bound_also binders place e))) None
+    (at_any_depth (binder_name s begun body (bound_also binders place e))) None
     (λ few want. along (binder_name s begun body (bound_also binders place e)) (simp append_assoc)
     (stands_binder_name colon h wb room (some_bound at (bound_whole b place within w) (omega (arith, few, count_bound_also binders place e)))
     (omega (arith, depth_bound_also binders place e))))
@@ -194,7 +194,7 @@ else_keeps at _ _ _ e (spells_positive {at = begun} next {frames = s} {condition
 else_keeps at _ _ _ _ _ w fits = tt
 
 -- what a closing token does, after forms that are closed with it
-pub closing_good : {deep : ℕ} (kind : Kind) (found : List Frame → Tree → Option (TokenMove State)) → Keeps deep kind found
+pub closing_good : {deep : ℕ} (kind : TokenKind) (found : List Frame → Tree → Option (TokenMove State)) → Keeps deep kind found
     → (at : ℕ) {frames : List Frame} {ts us : List Token} {last : Tree}
     → Spells deep frames ts → ((here : ℕ) → Whole here us last) → depth last + length frames ≤ deep
     → Good deep (ts ++ us) (token kind at) (closing_move found frames last)

@@ -17,7 +17,7 @@ use Rattle.snesl_expressions.specs.declared.measured.Bound.{Bound}
 use Rattle.snesl_grammar.specs.Limits.{greatest_depth}
 use Rattle.snesl_grammar.specs.Operators.{level}
 use Rattle.snesl_grammar.specs.Expressions.{bound_also, greatest_binder_count}
-use Rattle.snesl_expressions.specs.Readers.{within, free, beyond_depth}
+use Rattle.snesl_expressions.specs.Readers.{within, at_any_depth, beyond_depth}
 use Rattle.snesl_expressions.specs.Machine.{Frame, in_binary, in_braces, in_source, operand, binder_name, Folded, binds_at, closed_with, reduce, floor, alone, infix_move, colon_move, bar_move, semicolon_move}
 use Rattle.snesl_expressions.specs.Parsing.{frame_of, piled, frames_of}
 use Rattle.snesl_expressions.proofs.Rows.{binder_count-binders_of}
@@ -54,15 +54,15 @@ no_bar (Filter at item) s e h k = refl
 no_bar (EachCondition at body bound) s e h k = refl
 
 pub one_more_binder : (bs : List Binder) (at : ℕ) (body : Tree) (place : Span) (s : List Frame) (e : Tree) → suc (length bs) < greatest_binder_count
-    → semicolon_move (in_source at body (binders_of bs) place ∷ s) e ≡ free (binder_name s at body (bound_also (binders_of bs) place e))
+    → semicolon_move (in_source at body (binders_of bs) place ∷ s) e ≡ at_any_depth (binder_name s at body (bound_also (binders_of bs) place e))
 one_more_binder bs at body place s e h =
-    ap (λ b. cond b (free (binder_name s at body (bound_also (binders_of bs) place e))) None)
+    ap (λ b. cond b (at_any_depth (binder_name s at body (bound_also (binders_of bs) place e))) None)
     (lt-ltb (suc _) greatest_binder_count (omega (arith, binder_count-binders_of bs)))
 
 pub no_more_binder : (bs : List Binder) (at : ℕ) (body : Tree) (place : Span) (s : List Frame) (e : Tree) → greatest_binder_count ≤ suc (length bs)
     → semicolon_move (in_source at body (binders_of bs) place ∷ s) e ≡ None
 no_more_binder bs at body place s e h =
-    ap (λ b. cond b (free (binder_name s at body (bound_also (binders_of bs) place e))) None)
+    ap (λ b. cond b (at_any_depth (binder_name s at body (bound_also (binders_of bs) place e))) None)
     (le-ltb (suc _) greatest_binder_count (omega (arith, binder_count-binders_of bs)))
 
 pub infix_on : (fs : List Form) (op : Operator) (at : ℕ) (e : Tree) → floor (frames_of fs) ≤ level op → depth e + length fs < greatest_depth

@@ -1,6 +1,6 @@
 -- The machine reads what the grammar says.
 use Rattle.std.proofs.Common.{◌≡◌}
-use Rattle.snesl_lexer.specs.declared.token.Kind.TheVariants.{Semicolon}
+use Rattle.snesl_lexer.specs.declared.token.TokenKind.TheVariants.{Semicolon}
 use Rattle.snesl_tree.specs.Tree.{depth}
 use Rattle.snesl_grammar.specs.Expressions.{Whole, Front}
 use Rattle.snesl_expressions.specs.Machine.{expressions}

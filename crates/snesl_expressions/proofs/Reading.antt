@@ -2,9 +2,9 @@
 use Rattle.std.proofs.Common.{◌≡◌, ℕ, max, ◌≤◌, cond, leb, List, [], ◌∷◌, ◌++◌, Option, Some, None, Result, Ok, Err, refl, sym, ◌∙◌, ap, arith, le-leb, inl, inr}
 use Rattle.std.proofs.lemmas.Bool.{leb-true, cases_Bool}
 use Rattle.snesl_lexer.specs.declared.token.Token.{Token}
-use Rattle.snesl_expressions.specs.Readers.{Stop, unexpected, beyond_depth, TokenMove, Reader, within, bind, step, go}
+use Rattle.snesl_expressions.specs.Readers.{Stop, unexpected, beyond_depth, TokenMove, Reader, within, and_then, step, after_tokens}
 
-pub bind_ok : {State : Type 0} (x : Result State Stop) (further : State → Result State Stop) (next : State) → bind x further ≡ Ok next
+pub bind_ok : {State : Type 0} (x : Result State Stop) (further : State → Result State Stop) (next : State) → and_then x further ≡ Ok next
     → (r : State) × (x ≡ Ok r) × (further r ≡ Ok next)
 bind_ok (Ok r) further next e = (r, refl, e)
 bind_ok (Err stop) further next e = cc
@@ -49,22 +49,22 @@ within_deeper d (Some found) e =
     (max d found.want, found.next, omega arith, ap (λ b. cond b (Ok found.next) (Err beyond_depth)) (le-leb found.want (max d found.want) (omega arith)))
 
 module _ {State Form : Type 0} (reader : Reader State Form) where
-  pub go_append : (d : ℕ) (s : State) (ts us : List Token) → go reader d s (ts ++ us) ≡ bind (go reader d s ts) (λ r. go reader d r us)
+  pub go_append : (d : ℕ) (s : State) (ts us : List Token) → after_tokens reader d s (ts ++ us) ≡ and_then (after_tokens reader d s ts) (λ r. after_tokens reader d r us)
   go_append d s [] us = refl
   go_append d s (t ∷ ts) us =
-      elim (step reader d s t) as (λ x. bind x (λ r. go reader d r (ts ++ us)) ≡ bind (bind x (λ r. go reader d r ts)) (λ r. go reader d r us))
+      elim (step reader d s t) as (λ x. and_then x (λ r. after_tokens reader d r (ts ++ us)) ≡ and_then (and_then x (λ r. after_tokens reader d r ts)) (λ r. after_tokens reader d r us))
       [ Ok r ↦ go_append d r ts us | Err e ↦ refl ]
 
   -- reading on
-  pub goes_on : (d : ℕ) (s r : State) (ts us : List Token) → go reader d s ts ≡ Ok r → go reader d s (ts ++ us) ≡ go reader d r us
-  goes_on d s r ts us e = go_append d s ts us ∙ ap (λ x. bind x (λ r. go reader d r us)) e
+  pub goes_on : (d : ℕ) (s r : State) (ts us : List Token) → after_tokens reader d s ts ≡ Ok r → after_tokens reader d s (ts ++ us) ≡ after_tokens reader d r us
+  goes_on d s r ts us e = go_append d s ts us ∙ ap (λ x. and_then x (λ r. after_tokens reader d r us)) e
 
-  pub steps_on : (d : ℕ) (s r : State) (t : Token) (ts : List Token) → step reader d s t ≡ Ok r → go reader d s (t ∷ ts) ≡ go reader d r ts
-  steps_on d s r t ts e = ap (λ x. bind x (λ r. go reader d r ts)) e
+  pub steps_on : (d : ℕ) (s r : State) (t : Token) (ts : List Token) → step reader d s t ≡ Ok r → after_tokens reader d s (t ∷ ts) ≡ after_tokens reader d r ts
+  steps_on d s r t ts e = ap (λ x. and_then x (λ r. after_tokens reader d r ts)) e
 
   -- one token more
-  pub ends_with : (d : ℕ) (s r next : State) (ts : List Token) (t : Token) → go reader d s ts ≡ Ok r → step reader d r t ≡ Ok next
-      → go reader d s (ts ++ (t ∷ [])) ≡ Ok next
+  pub ends_with : (d : ℕ) (s r next : State) (ts : List Token) (t : Token) → after_tokens reader d s ts ≡ Ok r → step reader d r t ≡ Ok next
+      → after_tokens reader d s (ts ++ (t ∷ [])) ≡ Ok next
   ends_with d s r next ts t e f = goes_on d s r ts (t ∷ []) e ∙ steps_on d r next t [] f
 
   -- a step that is within the depth
@@ -73,13 +73,13 @@ module _ {State Form : Type 0} (reader : Reader State Form) where
   fits_step d s next t want e h = within_fits d (reader.move s t) next want e h
 
   -- more depth changes no reading
-  pub go_more : (d D : ℕ) (s r : State) (ts : List Token) → d ≤ D → go reader d s ts ≡ Ok r → go reader D s ts ≡ Ok r
+  pub go_more : (d D : ℕ) (s r : State) (ts : List Token) → d ≤ D → after_tokens reader d s ts ≡ Ok r → after_tokens reader D s ts ≡ Ok r
   go_more d D s r [] h e = e
   go_more d D s r (t ∷ ts) h e =
-      let b = bind_ok (step reader d s t) (λ x. go reader d x ts) r e in
-      ap (λ x. bind x (λ y. go reader D y ts)) (within_more d D (reader.move s t) b.0 h b.1) ∙ go_more d D b.0 r ts h b.2
+      let b = bind_ok (step reader d s t) (λ x. after_tokens reader d x ts) r e in
+      ap (λ x. and_then x (λ y. after_tokens reader D y ts)) (within_more d D (reader.move s t) b.0 h b.1) ∙ go_more d D b.0 r ts h b.2
 
   -- what was read to its end was read so far
-  pub go_front : (d : ℕ) (s r : State) (ts us : List Token) → go reader d s (ts ++ us) ≡ Ok r
-      → (middle : State) × (go reader d s ts ≡ Ok middle) × (go reader d middle us ≡ Ok r)
-  go_front d s r ts us e = bind_ok (go reader d s ts) (λ x. go reader d x us) r (sym (go_append d s ts us) ∙ e)
+  pub go_front : (d : ℕ) (s r : State) (ts us : List Token) → after_tokens reader d s (ts ++ us) ≡ Ok r
+      → (middle : State) × (after_tokens reader d s ts ≡ Ok middle) × (after_tokens reader d middle us ≡ Ok r)
+  go_front d s r ts us e = bind_ok (after_tokens reader d s ts) (λ x. after_tokens reader d x us) r (sym (go_append d s ts us) ∙ e)

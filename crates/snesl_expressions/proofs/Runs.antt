@@ -1,7 +1,7 @@
 -- A whole expression is read, and closing the forms after it gives its tree.
 use Rattle.std.proofs.Common.{◌≡◌, ℕ, zero, suc, ◌+◌, ◌≤◌, ◌<◌, Bool, true, false, cond, List, [], ◌∷◌, ◌++◌, length, Option, Some, None, Ok, refl, sym, ◌∙◌, ap, max, arith, le-leb, lt-ltb}
 use Rattle.std.proofs.lemmas.Bool.{lt-leb}
-use Rattle.snesl_lexer.specs.declared.token.Kind.TheVariants as kinds
+use Rattle.snesl_lexer.specs.declared.token.TokenKind.TheVariants as kinds
 use Rattle.snesl_lexer.specs.declared.token.Token.{Token}
 use Rattle.snesl_tree.specs.declared.operator.Operator.{Operator}
 use Rattle.snesl_tree.specs.declared.operator.Operator.TheVariants.{Or, And, Equal, Less, AtMost, Greater, AtLeast, Append, Add, Subtract, Multiply, Divide, Remainder, Index}
@@ -13,7 +13,7 @@ use Rattle.snesl_tree.specs.declared.span.Span.{Span}
 use Rattle.snesl_tree.specs.Tree.{Tree, Trees, Binders, truth, binary, prefix, call, apply, binding, choice, literal, each, none, none_bound, always, depth, depth_of_all, depth_of_binders}
 use Rattle.snesl_grammar.specs.Operators.{level, left_level, prefix_level, sign, prefix_sign, truth_word, word}
 use Rattle.snesl_grammar.specs.Expressions.{token, name_token, added, bound_also, binder_count, greatest_binder_count, Whole, integer_rule, truth_rule, name_rule, binary_rule, prefix_rule, call_rule, apply_rule, group_rule, pair_rule, let_rule, if_rule, literal_rule, filter_rule, each_rule, each_where_rule, WholeArguments, one_rule, more_rule, WholeBinders, one_binder, more_binders}
-use Rattle.snesl_expressions.specs.Readers.{TokenMove, free, go}
+use Rattle.snesl_expressions.specs.Readers.{TokenMove, at_any_depth, after_tokens}
 use Rattle.snesl_expressions.specs.Machine.{Frame, in_binary, in_prefix, in_call, in_apply, in_group, in_second, in_value, in_let_body, in_condition, in_positive, in_negative, in_braces, in_filter, in_source, in_each_condition, State, operand, after, opening, let_name, binder_name, reduce, floor, open_move, at_level, infix_move, comma_move, paren_move, brace_move, colon_move, bar_move, semicolon_move, in_move, then_move, else_move, closing_move, joining, token_move, alone, expressions}
 use Rattle.snesl_expressions.proofs.Reading.{goes_on, steps_on, fits_step}
 use Rattle.snesl_expressions.proofs.Piles.{reduce_closes, reduce_keeps}
@@ -21,7 +21,7 @@ use Rattle.snesl_expressions.proofs.Depths.{depth_pos, depth_added, arguments_po
 
 -- reading the tokens leads from a state to another
 pub record Goes (d : ℕ) (from : State) (ts : List Token) (to : State) : Type 0 where
-  pub reads : go expressions d from ts ≡ Ok to
+  pub reads : after_tokens expressions d from ts ≡ Ok to
 
 no_tokens : {d : ℕ} {s : State} → Goes d s [] s
 no_tokens = record { reads = refl }
@@ -38,7 +38,7 @@ step_then {d = d} {s = s} {r = r} t {ts = ts} want e h further =
     record { reads = steps_on expressions d s r t ts (fits_step expressions d s r t want e h) ∙ further.reads }
 
 -- a token whose move is free
-free_then : {d : ℕ} {s r n : State} (t : Token) {ts : List Token} → token_move s t.kind t.at ≡ free r → Goes d r ts n → Goes d s (t ∷ ts) n
+free_then : {d : ℕ} {s r n : State} (t : Token) {ts : List Token} → token_move s t.kind t.at ≡ at_any_depth r → Goes d r ts n → Goes d s (t ∷ ts) n
 free_then t e further = step_then t 0 e (omega arith) further
 
 -- a token that opens a form
@@ -136,7 +136,7 @@ pub move_prefix : (frames : List Frame) (o : Prefix) (at : ℕ)
 move_prefix frames Negate at = refl
 move_prefix frames Not at = refl
 
-pub move_truth : (frames : List Frame) (value : Bool) (at : ℕ) → token_move (operand frames) (truth_word value) at ≡ free (after frames (truth at value))
+pub move_truth : (frames : List Frame) (value : Bool) (at : ℕ) → token_move (operand frames) (truth_word value) at ≡ at_any_depth (after frames (truth at value))
 move_truth frames true at = refl
 move_truth frames false at = refl
 
@@ -182,7 +182,7 @@ closed_alike found r = ap (λ x. found x.frames x.last) (r.folds 0 (omega arith)
 -- an expression, and a token that ends it as a part
 part_then : (found : List Frame → Tree → Option (TokenMove State)) {d : ℕ} {frames : List Frame} {ts us : List Token} {tree : Tree} {next n : State} (t : Token)
     → Reads d frames 0 ts tree → ((left : List Frame) (last : Tree) → token_move (after left last) t.kind t.at ≡ closing_move found left last)
-    → closing_move found frames tree ≡ free next → Goes d next us n → Goes d (operand frames) (ts ++ (t ∷ us)) n
+    → closing_move found frames tree ≡ at_any_depth next → Goes d next us n → Goes d (operand frames) (ts ++ (t ∷ us)) n
 part_then found t r moves closes further =
     goes_then r.runs (free_then t (moves r.left r.last ∙ closed_alike found r ∙ closes) further)
 
@@ -201,7 +201,7 @@ closes_last r closes before =
 pub record HoldsArguments (frame : Trees → Frame) : Type 0 where
   pub any_may_stand : (given : Trees) (frames : List Frame) → floor (frame given ∷ frames) ≤ 0
   pub comma_adds : (given : Trees) (frames : List Frame) (last : Tree)
-      → closing_move comma_move (frame given ∷ frames) last ≡ free (operand (frame (added given last) ∷ frames))
+      → closing_move comma_move (frame given ∷ frames) last ≡ at_any_depth (operand (frame (added given last) ∷ frames))
 
 call_holds : (at : ℕ) (f : Builtin) → HoldsArguments (in_call at f)
 call_holds at f = record { any_may_stand = λ given frames. omega arith; comma_adds = λ given frames last. refl }
@@ -242,11 +242,11 @@ last_argument given {final = final} r before =
 arguments_then : (found : List Frame → Tree → Option (TokenMove State)) (make : Trees → State) {d : ℕ} {frames : List Frame} {frame : Trees → Frame}
     {ts us : List Token} {arguments : Trees} {n : State} (t : Token)
     → ReadsArguments d frames frame ts arguments → ((left : List Frame) (last : Tree) → token_move (after left last) t.kind t.at ≡ closing_move found left last)
-    → ((front : Trees) (final : Tree) → closing_move found (frame front ∷ frames) final ≡ free (make (added front final)))
+    → ((front : Trees) (final : Tree) → closing_move found (frame front ∷ frames) final ≡ at_any_depth (make (added front final)))
     → Goes d (make arguments) us n → Goes d (operand (frame none ∷ frames)) (ts ++ (t ∷ us)) n
 arguments_then found make t r moves closes further =
     goes_then r.runs (free_then t
-    (moves r.left r.last ∙ ap (λ x. found x.frames x.last) r.folds ∙ closes r.front r.final ∙ ap (λ x. free (make x)) r.parts) further)
+    (moves r.left r.last ∙ ap (λ x. found x.frames x.last) r.folds ∙ closes r.front r.final ∙ ap (λ x. at_any_depth (make x)) r.parts) further)
 
 -- what is left after binders: closing all gives the last source, in the frame with the binders before it
 pub record ReadsBinders (d : ℕ) (frames : List Frame) (at : ℕ) (body : Tree) (ts : List Token) (binders : Binders) : Type 0 where
@@ -281,7 +281,7 @@ binders_then : (found : List Frame → Tree → Option (TokenMove State)) {d at 
     {ts us : List Token} {binders : Binders} {next n : State} (t : Token)
     → ReadsBinders d frames at body ts binders → ((left : List Frame) (last : Tree) → token_move (after left last) t.kind t.at ≡ closing_move found left last)
     → ((front : Binders) (place : Span) (source : Tree) → bound_also front place source ≡ binders
-    → closing_move found (in_source at body front place ∷ frames) source ≡ free next)
+    → closing_move found (in_source at body front place ∷ frames) source ≡ at_any_depth next)
     → Goes d next us n → Goes d (binder_name frames at body none_bound) (ts ++ (t ∷ us)) n
 binders_then found t r moves closes further =
     goes_then r.runs (free_then t
@@ -290,12 +290,12 @@ binders_then found t r moves closes further =
 -- a semicolon after fewer than eight binders
 semicolon_ends : (at : ℕ) (frames : List Frame) (body : Tree) (binders : Binders) → binder_count binders < greatest_binder_count
     → (front : Binders) (place : Span) (source : Tree) → bound_also front place source ≡ binders
-    → closing_move semicolon_move (in_source at body front place ∷ frames) source ≡ free (binder_name frames at body binders)
+    → closing_move semicolon_move (in_source at body front place ∷ frames) source ≡ at_any_depth (binder_name frames at body binders)
 semicolon_ends at frames body binders few front place source same =
     let count : binder_count binders ≡ suc (binder_count front) = ap binder_count (sym same) ∙ count_bound_also front place source in
-    let found : Option (TokenMove State) = free (binder_name frames at body (bound_also front place source)) in
+    let found : Option (TokenMove State) = at_any_depth (binder_name frames at body (bound_also front place source)) in
     ap (λ b. cond b found None) (lt-ltb (suc (binder_count front)) greatest_binder_count (omega arith))
-    ∙ ap (λ x. free (binder_name frames at body x)) same
+    ∙ ap (λ x. at_any_depth (binder_name frames at body x)) same
 
 -- a binder's name and its `in`
 named_then : {d at : ℕ} {frames : List Frame} {body : Tree} {binders : Binders} {n : State} (place : Span) (within : ℕ) {ts : List Token}
@@ -384,7 +384,7 @@ mutual
       at_once (open_then (token kinds.LeftBrace at) frames refl (omega arith)
       (part_then colon_move (token kinds.Colon colon) r (λ left last. refl) refl
       (binders_then brace_move (token kinds.RightBrace closed) rb (λ left last. refl)
-      (λ front place source same. ap (λ x. free (after frames (each at body x always))) same) no_tokens)))
+      (λ front place source same. ap (λ x. at_any_depth (after frames (each at body x always))) same) no_tokens)))
   whole_runs (each_where_rule {at = at} colon bar closed {body = body} {condition = condition} {binders = binders} w wb wc) d frames low fits =
       let least : 1 ≤ depth body = depth_pos body in
       let r = whole_runs w d (in_braces at none ∷ frames) (omega arith) (omega arith) in
@@ -393,7 +393,7 @@ mutual
       at_once (open_then (token kinds.LeftBrace at) frames refl (omega arith)
       (part_then colon_move (token kinds.Colon colon) r (λ left last. refl) refl
       (binders_then bar_move (token kinds.Bar bar) rb (λ left last. refl)
-      (λ front place source same. ap (λ x. free (operand (in_each_condition at body x ∷ frames))) same)
+      (λ front place source same. ap (λ x. at_any_depth (operand (in_each_condition at body x ∷ frames))) same)
       (part_then brace_move (token kinds.RightBrace closed) rc (λ left last. refl) refl no_tokens))))
 
   -- arguments, in a frame that holds them
@@ -424,7 +424,7 @@ mutual
 
 -- a whole expression within the depth is read to its end
 pub whole_reads : (deep : ℕ) (ts : List Token) (tree : Tree) → Whole 0 ts tree → depth tree ≤ deep
-    → (state : State) × (go expressions deep expressions.start ts ≡ Ok state) × (expressions.finished state ≡ Some tree)
+    → (state : State) × (after_tokens expressions deep expressions.start ts ≡ Ok state) × (expressions.finished state ≡ Some tree)
 whole_reads deep ts tree w h =
     let r = whole_runs w deep [] (omega arith) (omega arith) in
     (after r.left r.last, r.runs.reads, ap alone (r.folds 0 (omega arith)))

@@ -1,6 +1,6 @@
 -- The tokens that lead to a state: those of its open forms, and those after them.
 use Rattle.std.proofs.Common.{◌≡◌, ℕ, suc, ◌+◌, ◌≤◌, ◌<◌, List, [], ◌∷◌, ◌++◌, length, refl, sym, subst, arith, append_assoc}
-use Rattle.snesl_lexer.specs.declared.token.Kind.TheVariants.{In, Let, If, Then, Else, LeftParen, LeftBrace, Colon, Semicolon, Comma, Bar, Equals}
+use Rattle.snesl_lexer.specs.declared.token.TokenKind.TheVariants.{In, Let, If, Then, Else, LeftParen, LeftBrace, Colon, Semicolon, Comma, Bar, Equals}
 use Rattle.snesl_lexer.specs.declared.token.Token.{Token}
 use Rattle.snesl_tree.specs.declared.operator.Operator.{Operator}
 use Rattle.snesl_tree.specs.declared.operator.Prefix.{Prefix}

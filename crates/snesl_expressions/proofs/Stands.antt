@@ -2,8 +2,8 @@
 use Rattle.std.proofs.Common.{◌≡◌, ℕ, suc, ◌+◌, ◌-◌, ◌≤◌, true, false, cond, List, [], ◌∷◌, ◌++◌, length, Option, Some, None, Ok, refl, sym, ◌∙◌, ap, subst, arith, append_assoc}
 use Rattle.std.proofs.lemmas.Bool.{lt-leb}
 use Rattle.std.proofs.lemmas.List.{append-nil}
-use Rattle.snesl_lexer.specs.declared.token.Kind.{Kind}
-use Rattle.snesl_lexer.specs.declared.token.Kind.TheVariants as kinds
+use Rattle.snesl_lexer.specs.declared.token.TokenKind.{TokenKind}
+use Rattle.snesl_lexer.specs.declared.token.TokenKind.TheVariants as kinds
 use Rattle.snesl_lexer.specs.declared.token.Token.{Token}
 use Rattle.snesl_tree.specs.declared.operator.Operator.{Operator}
 use Rattle.snesl_tree.specs.declared.operator.Operator.TheVariants.{Or, And, Equal, Less, AtMost, Greater, AtLeast, Append, Add, Subtract, Multiply, Divide, Remainder, Index}
@@ -17,7 +17,7 @@ use Rattle.snesl_grammar.specs.Operators.{level, left_level, prefix_level, sign,
 use Rattle.snesl_grammar.specs.Expressions.{token, name_token, Whole, integer_rule, truth_rule, name_rule, Front, nothing, whole, binary_right, prefix_operand, call_word, call_arguments, apply_arguments, group_inner, pair_second, let_word, let_value, let_body, if_condition, if_positive, if_negative, brace_items, filter_condition, each_binders, each_condition, no_binder, binder_source}
 use Rattle.snesl_grammar.specs.Expressions.{let_name as let_name_front, binder_name as binder_name_front}
 use Rattle.snesl_expressions.specs.Machine.{Frame, in_binary, in_prefix, in_call, in_apply, in_value, in_condition, in_source, State, operand, after, opening, let_name, let_equals, binder_name, binder_in, Folded, reduce, floor, at_level, open_move, apply_move, comma_move, paren_move, brace_move, colon_move, bar_move, semicolon_move, in_move, then_move, else_move, joining, operand_move, after_move, token_move, alone, finished_of, expressions}
-use Rattle.snesl_expressions.specs.Readers.{TokenMove, within, step, go}
+use Rattle.snesl_expressions.specs.Readers.{TokenMove, within, step, after_tokens}
 use Rattle.snesl_expressions.proofs.Reading.{bind_ok, within_ok}
 use Rattle.snesl_expressions.proofs.Depths.{depth_pos}
 use Rattle.snesl_expressions.proofs.Spelled.{no_given, Bound, Spells, spells_empty, spells_binary, spells_prefix, spells_call, spells_apply, spells_group, spells_second, spells_value, spells_let_body, spells_condition, spells_positive, spells_negative, spells_braces, spells_filter, spells_source, spells_each_condition, Stands, stands_operand, stands_after, stands_opening, stands_let_name, stands_let_equals, stands_binder_name, stands_binder_in, given_front, bound_front}
@@ -39,7 +39,7 @@ word_good : {deep : ℕ} {frames : List Frame} {ts : List Token} → Spells deep
 word_good h function at = λ want. stands_opening {function = function} h want
 
 operand_good : {deep : ℕ} {frames : List Frame} {ts : List Token} → Spells deep frames ts → suc (length frames) ≤ deep
-    → (kind : Kind) (at : ℕ) → Good deep ts (token kind at) (operand_move frames kind at)
+    → (kind : TokenKind) (at : ℕ) → Good deep ts (token kind at) (operand_move frames kind at)
 operand_good h room (kinds.Integer value) at = λ want. stands_after h (λ here. integer_rule) (omega arith)
 operand_good h room kinds.True at = λ want. stands_after h (λ here. truth_rule {value = true}) (omega arith)
 operand_good h room kinds.False at = λ want. stands_after h (λ here. truth_rule {value = false}) (omega arith)
@@ -99,7 +99,7 @@ apply_good _ h w at = tt
 
 after_good : {deep : ℕ} {frames : List Frame} {ts us : List Token} {last : Tree}
     → Spells deep frames ts → ((here : ℕ) → Whole here us last) → depth last + length frames ≤ deep
-    → (kind : Kind) (at : ℕ) → Good deep (ts ++ us) (token kind at) (after_move frames last kind at)
+    → (kind : TokenKind) (at : ℕ) → Good deep (ts ++ us) (token kind at) (after_move frames last kind at)
 after_good h w fits kinds.Or at = joining_good h w fits Or at
 after_good h w fits kinds.And at = joining_good h w fits And at
 after_good h w fits kinds.Same at = joining_good h w fits Equal at
@@ -127,20 +127,20 @@ after_good h w fits kinds.Else at = closing_good kinds.Else else_move else_keeps
 after_good h w fits _ at = tt
 
 opening_good : {deep : ℕ} {frames : List Frame} {ts : List Token} → Spells deep frames ts → suc (suc (length frames)) ≤ deep
-    → (begun : ℕ) (function : Builtin) (kind : Kind) (at : ℕ)
+    → (begun : ℕ) (function : Builtin) (kind : TokenKind) (at : ℕ)
     → Good deep (ts ++ (token (word function) begun ∷ [])) (token kind at) (token_move (opening frames begun function) kind at)
 opening_good {frames = frames} h room begun f kinds.LeftParen at = λ want.
     along (operand (in_call begun f none ∷ frames)) (simp append_assoc) (stands_operand (spells_call at {function = f} h no_given room (omega arith)) room)
 opening_good h room begun f _ at = tt
 
 let_name_good : {deep : ℕ} {frames : List Frame} {ts : List Token} → Spells deep frames ts → floor frames ≤ 0 → suc (suc (length frames)) ≤ deep
-    → (begun : ℕ) (kind : Kind) (at : ℕ) → Good deep (ts ++ (token kinds.Let begun ∷ [])) (token kind at) (token_move (let_name frames begun) kind at)
+    → (begun : ℕ) (kind : TokenKind) (at : ℕ) → Good deep (ts ++ (token kinds.Let begun ∷ [])) (token kind at) (token_move (let_name frames begun) kind at)
 let_name_good {frames = frames} h low room begun (kinds.Name len) at = λ want.
     along (let_equals frames begun (record { at = at; len = len })) (simp append_assoc) (stands_let_equals h low room)
 let_name_good h low room begun _ at = tt
 
 let_equals_good : {deep : ℕ} {frames : List Frame} {ts : List Token} → Spells deep frames ts → floor frames ≤ 0 → suc (suc (length frames)) ≤ deep
-    → (begun : ℕ) (place : Span) (kind : Kind) (at : ℕ)
+    → (begun : ℕ) (place : Span) (kind : TokenKind) (at : ℕ)
     → Good deep (ts ++ (token kinds.Let begun ∷ name_token place ∷ [])) (token kind at) (token_move (let_equals frames begun place) kind at)
 let_equals_good {frames = frames} h low room begun place kinds.Equals at = λ want.
     along (operand (in_value begun place ∷ frames)) (simp append_assoc) (stands_operand (spells_value at h low room) room)
@@ -149,7 +149,7 @@ let_equals_good h low room begun place _ at = tt
 binder_name_good : {deep : ℕ} {frames : List Frame} {ts us vs : List Token} {body : Tree} {binders : Binders} (colon : ℕ)
     → Spells deep frames ts → Whole 0 us body → suc (depth body + length frames) ≤ deep
     → Bound vs binders → suc (depth_of_binders binders + length frames) ≤ deep
-    → (begun : ℕ) (kind : Kind) (at : ℕ)
+    → (begun : ℕ) (kind : TokenKind) (at : ℕ)
     → Good deep (ts ++ (token kinds.LeftBrace begun ∷ (us ++ (token kinds.Colon colon ∷ vs)))) (token kind at) (token_move (binder_name frames begun body binders) kind at)
 binder_name_good {frames = frames} {body = body} {binders = binders} colon h w room b fit begun (kinds.Name len) at = λ want.
     along (binder_in frames begun body binders (record { at = at; len = len })) (simp append_assoc) (stands_binder_in colon h w room b fit)
@@ -158,7 +158,7 @@ binder_name_good colon h w room b fit begun _ at = tt
 binder_in_good : {deep : ℕ} {frames : List Frame} {ts us vs : List Token} {body : Tree} {binders : Binders} (colon : ℕ)
     → Spells deep frames ts → Whole 0 us body → suc (depth body + length frames) ≤ deep
     → Bound vs binders → suc (depth_of_binders binders + length frames) ≤ deep
-    → (begun : ℕ) (place : Span) (kind : Kind) (at : ℕ)
+    → (begun : ℕ) (place : Span) (kind : TokenKind) (at : ℕ)
     → Good deep (ts ++ (token kinds.LeftBrace begun ∷ (us ++ (token kinds.Colon colon ∷ (vs ++ (name_token place ∷ [])))))) (token kind at)
     (token_move (binder_in frames begun body binders place) kind at)
 binder_in_good {frames = frames} {body = body} {binders = binders} colon h w room b fit begun place kinds.In at = λ want.
@@ -166,7 +166,7 @@ binder_in_good {frames = frames} {body = body} {binders = binders} colon h w roo
     (stands_operand (spells_source colon at h w room b fit) (omega (arith, depth_pos body)))
 binder_in_good colon h w room b fit begun place _ at = tt
 
-move_good : {deep : ℕ} {state : State} {ts : List Token} → Stands deep state ts → (kind : Kind) (at : ℕ) → Good deep ts (token kind at) (token_move state kind at)
+move_good : {deep : ℕ} {state : State} {ts : List Token} → Stands deep state ts → (kind : TokenKind) (at : ℕ) → Good deep ts (token kind at) (token_move state kind at)
 move_good (stands_operand h room) kind at = operand_good h room kind at
 move_good (stands_after h w fits) kind at = after_good h w fits kind at
 move_good (stands_opening {at = begun} {function = f} h room) kind at = opening_good h room begun f kind at
@@ -183,17 +183,17 @@ step_stands {deep = deep} {state = state} {next = next} {ts = ts} h t e =
     let good : Good deep ts t (Some found.0) = subst (Good deep ts t) found.1 (move_good h t.kind t.at) in
     subst (λ s. Stands deep s (ts ++ (t ∷ []))) found.3 (good found.2)
 
-go_stands : (us : List Token) {deep : ℕ} {state next : State} {ts : List Token} → Stands deep state ts → go expressions deep state us ≡ Ok next
+go_stands : (us : List Token) {deep : ℕ} {state next : State} {ts : List Token} → Stands deep state ts → after_tokens expressions deep state us ≡ Ok next
     → Stands deep next (ts ++ us)
 go_stands [] {deep = deep} {state = state} {next = next} {ts = ts} h e =
     let same : state ≡ next = cc in
     subst (λ s. Stands deep s (ts ++ [])) same (along state (sym (append-nil ts)) h)
 go_stands (t ∷ us) {deep = deep} {state = state} {next = next} {ts = ts} h e =
-    let both = bind_ok (step expressions deep state t) (λ r. go expressions deep r us) next e in
+    let both = bind_ok (step expressions deep state t) (λ r. after_tokens expressions deep r us) next e in
     along next (append_assoc ts (t ∷ []) us) (go_stands us (step_stands h t both.1) both.2)
 
 -- what was read from the start stands
-read : (deep : ℕ) (ts : List Token) (state : State) → 1 ≤ deep → go expressions deep expressions.start ts ≡ Ok state → Stands deep state ts
+read : (deep : ℕ) (ts : List Token) (state : State) → 1 ≤ deep → after_tokens expressions deep expressions.start ts ≡ Ok state → Stands deep state ts
 read deep ts state least e = go_stands ts {deep = deep} {state = operand []} {next = state} {ts = []} (stands_operand spells_empty least) e
 
 front_at : {here deep : ℕ} {ts : List Token} → here ≤ 0 → Front 0 deep ts → Front here deep ts
@@ -259,7 +259,7 @@ stands_front {deep = deep} (stands_binder_in {at = at} {place = place} colon {fr
     wrap h (suc (suc (deep - suc (suc (length s))))) (each_binders {at = at} colon w (omega arith) (bound_front b (omega arith) (binder_name_front place))) (omega arith)
 
 -- Tokens that are read begin an expression within the depth.
-pub read_stands : (deep : ℕ) (ts : List Token) (state : State) → 1 ≤ deep → go expressions deep expressions.start ts ≡ Ok state → Front 0 deep ts
+pub read_stands : (deep : ℕ) (ts : List Token) (state : State) → 1 ≤ deep → after_tokens expressions deep expressions.start ts ≡ Ok state → Front 0 deep ts
 read_stands deep ts state least e = stands_front (read deep ts state least e)
 
 no_tokens : {deep : ℕ} {ts : List Token} → Spells deep [] ts → ts ≡ []
@@ -288,7 +288,7 @@ finished_whole (stands_after {frames = frames} {last = last} h w fits) e =
 finished_whole _ e = absurd (let never : ⊥ = cc e in never)
 
 -- Where the reader has an expression, the tokens are that expression.
-pub read_whole : (deep : ℕ) (ts : List Token) (state : State) (tree : Tree) → 1 ≤ deep → go expressions deep expressions.start ts ≡ Ok state
+pub read_whole : (deep : ℕ) (ts : List Token) (state : State) (tree : Tree) → 1 ≤ deep → after_tokens expressions deep expressions.start ts ≡ Ok state
     → expressions.finished state ≡ Some tree → Whole 0 ts tree × (depth tree ≤ deep)
 read_whole deep ts state tree least e f = finished_whole (read deep ts state least e) f
 

@@ -1,3 +1,4 @@
 pub mod Readers
 pub mod Machine
+pub mod Parts
 pub mod Parsing

@@ -1,7 +1,7 @@
 -- The parser on one token after the other: what is open, and what a token makes of it.
 use Rattle.std.specs.Prelude.{ℕ, suc, ◌+◌, Bool, true, false, List, [], ◌∷◌, length, Option, Some, None, nat_le, nat_lt, if◌then◌else◌}
-use Rattle.snesl_lexer.specs.declared.token.Kind.{Kind}
-use Rattle.snesl_lexer.specs.declared.token.Kind.TheVariants as kinds
+use Rattle.snesl_lexer.specs.declared.token.TokenKind.{TokenKind}
+use Rattle.snesl_lexer.specs.declared.token.TokenKind.TheVariants as kinds
 use Rattle.snesl_tree.specs.declared.operator.Operator.{Operator}
 use Rattle.snesl_tree.specs.declared.operator.Operator.TheVariants.{Or, And, Equal, Less, AtMost, Greater, AtLeast, Append, Add, Subtract, Multiply, Divide, Remainder, Index}
 use Rattle.snesl_tree.specs.declared.operator.Prefix.{Prefix}
@@ -12,7 +12,7 @@ use Rattle.snesl_tree.specs.declared.span.Span.{Span}
 use Rattle.snesl_tree.specs.Tree.{Tree, Trees, Binders, integer, truth, name, binary, prefix, call, apply, group, pair, binding, choice, literal, filter, each, none, none_bound, always, only_where, depth}
 use Rattle.snesl_grammar.specs.Operators.{level, left_level, prefix_level}
 use Rattle.snesl_grammar.specs.Expressions.{added, bound_also, binder_count, greatest_binder_count}
-use Rattle.snesl_expressions.specs.Readers.{TokenMove, free, Reader}
+use Rattle.snesl_expressions.specs.Readers.{TokenMove, at_any_depth, Reader}
 
 -- a form that is open, with its whole parts
 pub data Frame : Type 0 where
@@ -99,6 +99,18 @@ open_move frames next = Some (record { want = suc (suc (length frames)); next = 
 abbrev pub at_level : ℕ → List Frame → Option (TokenMove State) → Option (TokenMove State)
 at_level tightness frames found = if nat_le (floor frames) tightness then found else None
 
+-- a move that opens a frame with an operand in it
+abbrev pub frame_move : Frame → List Frame → Option (TokenMove State)
+frame_move frame frames = open_move frames (operand (frame ∷ frames))
+
+-- the same, where a frame that binds so tightly may stand bare
+abbrev pub bare_move : ℕ → Frame → List Frame → Option (TokenMove State)
+bare_move tightness frame frames = at_level tightness frames (frame_move frame frames)
+
+-- the word `let` opens one, where it may stand bare
+abbrev pub let_move : List Frame → ℕ → Option (TokenMove State)
+let_move frames at = at_level 0 frames (open_move frames (let_name frames at))
+
 -- an operator takes the expression before it as its left operand
 abbrev pub infix_move : Operator → ℕ → Folded → Option (TokenMove State)
 infix_move operator at folded = at_level (level operator) folded.frames (Some (record {
@@ -108,62 +120,62 @@ infix_move operator at folded = at_level (level operator) folded.frames (Some (r
 
 -- a parenthesis after a name opens a function's arguments
 abbrev pub apply_move : List Frame → Tree → Option (TokenMove State)
-apply_move frames (name place) = open_move frames (operand (in_apply place none ∷ frames))
+apply_move frames (name place) = frame_move (in_apply place none) frames
 apply_move frames _ = None
 
 -- a comma ends an argument, the first part of a pair, or an item
 abbrev pub comma_move : List Frame → Tree → Option (TokenMove State)
-comma_move (in_call at function given ∷ frames) last = free (operand (in_call at function (added given last) ∷ frames))
-comma_move (in_apply function given ∷ frames) last = free (operand (in_apply function (added given last) ∷ frames))
-comma_move (in_group at ∷ frames) last = free (operand (in_second at last ∷ frames))
-comma_move (in_braces at given ∷ frames) last = free (operand (in_braces at (added given last) ∷ frames))
+comma_move (in_call at function given ∷ frames) last = at_any_depth (operand (in_call at function (added given last) ∷ frames))
+comma_move (in_apply function given ∷ frames) last = at_any_depth (operand (in_apply function (added given last) ∷ frames))
+comma_move (in_group at ∷ frames) last = at_any_depth (operand (in_second at last ∷ frames))
+comma_move (in_braces at given ∷ frames) last = at_any_depth (operand (in_braces at (added given last) ∷ frames))
 comma_move _ last = None
 
 -- a parenthesis closes a call, a group or a pair
 abbrev pub paren_move : List Frame → Tree → Option (TokenMove State)
-paren_move (in_call at function given ∷ frames) last = free (after frames (call at function (added given last)))
-paren_move (in_apply function given ∷ frames) last = free (after frames (apply function (added given last)))
-paren_move (in_group at ∷ frames) last = free (after frames (group at last))
-paren_move (in_second at first ∷ frames) last = free (after frames (pair at first last))
+paren_move (in_call at function given ∷ frames) last = at_any_depth (after frames (call at function (added given last)))
+paren_move (in_apply function given ∷ frames) last = at_any_depth (after frames (apply function (added given last)))
+paren_move (in_group at ∷ frames) last = at_any_depth (after frames (group at last))
+paren_move (in_second at first ∷ frames) last = at_any_depth (after frames (pair at first last))
 paren_move _ last = None
 
 -- a brace closes a literal, an item with its condition, or a comprehension
 abbrev pub brace_move : List Frame → Tree → Option (TokenMove State)
-brace_move (in_braces at given ∷ frames) last = free (after frames (literal at (added given last)))
-brace_move (in_filter at item ∷ frames) last = free (after frames (filter at item last))
-brace_move (in_source at body binders place ∷ frames) last = free (after frames (each at body (bound_also binders place last) always))
-brace_move (in_each_condition at body binders ∷ frames) last = free (after frames (each at body binders (only_where last)))
+brace_move (in_braces at given ∷ frames) last = at_any_depth (after frames (literal at (added given last)))
+brace_move (in_filter at item ∷ frames) last = at_any_depth (after frames (filter at item last))
+brace_move (in_source at body binders place ∷ frames) last = at_any_depth (after frames (each at body (bound_also binders place last) always))
+brace_move (in_each_condition at body binders ∷ frames) last = at_any_depth (after frames (each at body binders (only_where last)))
 brace_move _ last = None
 
 -- a colon ends the body of a comprehension
 abbrev pub colon_move : List Frame → Tree → Option (TokenMove State)
-colon_move (in_braces at none ∷ frames) last = free (binder_name frames at last none_bound)
+colon_move (in_braces at none ∷ frames) last = at_any_depth (binder_name frames at last none_bound)
 colon_move _ last = None
 
 -- a bar ends an item with a condition, or the binders of a comprehension
 abbrev pub bar_move : List Frame → Tree → Option (TokenMove State)
-bar_move (in_braces at none ∷ frames) last = free (operand (in_filter at last ∷ frames))
-bar_move (in_source at body binders place ∷ frames) last = free (operand (in_each_condition at body (bound_also binders place last) ∷ frames))
+bar_move (in_braces at none ∷ frames) last = at_any_depth (operand (in_filter at last ∷ frames))
+bar_move (in_source at body binders place ∷ frames) last = at_any_depth (operand (in_each_condition at body (bound_also binders place last) ∷ frames))
 bar_move _ last = None
 
 -- a semicolon ends a binder before the eighth
 abbrev pub semicolon_move : List Frame → Tree → Option (TokenMove State)
 semicolon_move (in_source at body binders place ∷ frames) last =
-    if nat_lt (suc (binder_count binders)) greatest_binder_count then free (binder_name frames at body (bound_also binders place last)) else None
+    if nat_lt (suc (binder_count binders)) greatest_binder_count then at_any_depth (binder_name frames at body (bound_also binders place last)) else None
 semicolon_move _ last = None
 
 -- `in` ends the value of a `let`
 abbrev pub in_move : List Frame → Tree → Option (TokenMove State)
-in_move (in_value at place ∷ frames) last = free (operand (in_let_body at place last ∷ frames))
+in_move (in_value at place ∷ frames) last = at_any_depth (operand (in_let_body at place last ∷ frames))
 in_move _ last = None
 
 -- `then` ends a condition, and `else` the first branch
 abbrev pub then_move : List Frame → Tree → Option (TokenMove State)
-then_move (in_condition at ∷ frames) last = free (operand (in_positive at last ∷ frames))
+then_move (in_condition at ∷ frames) last = at_any_depth (operand (in_positive at last ∷ frames))
 then_move _ last = None
 
 abbrev pub else_move : List Frame → Tree → Option (TokenMove State)
-else_move (in_positive at condition ∷ frames) last = free (operand (in_negative at condition last ∷ frames))
+else_move (in_positive at condition ∷ frames) last = at_any_depth (operand (in_negative at condition last ∷ frames))
 else_move _ last = None
 
 -- what a closing token does, after forms that are closed with it
@@ -175,13 +187,13 @@ abbrev pub joining : Operator → ℕ → List Frame → Tree → Option (TokenM
 joining operator at frames last = infix_move operator at (reduce (left_level operator) frames last)
 
 -- the move of a token of this kind at this offset where an operand begins, if it has one
-abbrev pub operand_move : List Frame → Kind → ℕ → Option (TokenMove State)
-operand_move frames (kinds.Integer value) at = free (after frames (integer at value))
-operand_move frames kinds.True at = free (after frames (truth at true))
-operand_move frames kinds.False at = free (after frames (truth at false))
-operand_move frames (kinds.Name len) at = free (after frames (name (record { at = at; len = len })))
-operand_move frames kinds.Minus at = at_level prefix_level frames (open_move frames (operand (in_prefix at Negate ∷ frames)))
-operand_move frames kinds.Not at = at_level prefix_level frames (open_move frames (operand (in_prefix at Not ∷ frames)))
+abbrev pub operand_move : List Frame → TokenKind → ℕ → Option (TokenMove State)
+operand_move frames (kinds.Integer value) at = at_any_depth (after frames (integer at value))
+operand_move frames kinds.True at = at_any_depth (after frames (truth at true))
+operand_move frames kinds.False at = at_any_depth (after frames (truth at false))
+operand_move frames (kinds.Name len) at = at_any_depth (after frames (name (record { at = at; len = len })))
+operand_move frames kinds.Minus at = bare_move prefix_level (in_prefix at Negate) frames
+operand_move frames kinds.Not at = bare_move prefix_level (in_prefix at Not) frames
 operand_move frames kinds.Iota at = open_move frames (opening frames at builtins.Iota)
 operand_move frames kinds.ScanAdd at = open_move frames (opening frames at builtins.ScanAdd)
 operand_move frames kinds.ReduceAdd at = open_move frames (opening frames at builtins.ReduceAdd)
@@ -196,14 +208,14 @@ operand_move frames kinds.Tab at = open_move frames (opening frames at builtins.
 operand_move frames kinds.Seq at = open_move frames (opening frames at builtins.Seq)
 operand_move frames kinds.Fst at = open_move frames (opening frames at builtins.Fst)
 operand_move frames kinds.Snd at = open_move frames (opening frames at builtins.Snd)
-operand_move frames kinds.LeftParen at = open_move frames (operand (in_group at ∷ frames))
-operand_move frames kinds.LeftBrace at = open_move frames (operand (in_braces at none ∷ frames))
-operand_move frames kinds.Let at = at_level 0 frames (open_move frames (let_name frames at))
-operand_move frames kinds.If at = at_level 0 frames (open_move frames (operand (in_condition at ∷ frames)))
+operand_move frames kinds.LeftParen at = frame_move (in_group at) frames
+operand_move frames kinds.LeftBrace at = frame_move (in_braces at none) frames
+operand_move frames kinds.Let at = let_move frames at
+operand_move frames kinds.If at = bare_move 0 (in_condition at) frames
 operand_move frames _ at = None
 
 -- the same after an operand
-abbrev pub after_move : List Frame → Tree → Kind → ℕ → Option (TokenMove State)
+abbrev pub after_move : List Frame → Tree → TokenKind → ℕ → Option (TokenMove State)
 after_move frames last kinds.Or at = joining Or at frames last
 after_move frames last kinds.And at = joining And at frames last
 after_move frames last kinds.Same at = joining Equal at frames last
@@ -231,14 +243,14 @@ after_move frames last kinds.Else at = closing_move else_move frames last
 after_move frames last _ at = None
 
 -- the move of a token of this kind at this offset, if it has one
-abbrev pub token_move : State → Kind → ℕ → Option (TokenMove State)
+abbrev pub token_move : State → TokenKind → ℕ → Option (TokenMove State)
 token_move (operand frames) kind at = operand_move frames kind at
 token_move (after frames last) kind at = after_move frames last kind at
-token_move (opening frames begun function) kinds.LeftParen at = free (operand (in_call begun function none ∷ frames))
-token_move (let_name frames begun) (kinds.Name len) at = free (let_equals frames begun (record { at = at; len = len }))
-token_move (let_equals frames begun place) kinds.Equals at = free (operand (in_value begun place ∷ frames))
-token_move (binder_name frames begun body binders) (kinds.Name len) at = free (binder_in frames begun body binders (record { at = at; len = len }))
-token_move (binder_in frames begun body binders place) kinds.In at = free (operand (in_source begun body binders place ∷ frames))
+token_move (opening frames begun function) kinds.LeftParen at = at_any_depth (operand (in_call begun function none ∷ frames))
+token_move (let_name frames begun) (kinds.Name len) at = at_any_depth (let_equals frames begun (record { at = at; len = len }))
+token_move (let_equals frames begun place) kinds.Equals at = at_any_depth (operand (in_value begun place ∷ frames))
+token_move (binder_name frames begun body binders) (kinds.Name len) at = at_any_depth (binder_in frames begun body binders (record { at = at; len = len }))
+token_move (binder_in frames begun body binders place) kinds.In at = at_any_depth (operand (in_source begun body binders place ∷ frames))
 token_move _ _ at = None
 
 -- the expression, where no frame is left open

@@ -1,11 +1,10 @@
 // What stands after an operand: operators, and what ends a part of a form.
 
-ghost use Rattle.std.specs.Prelude.{◌∷◌};
-ghost use Rattle.snesl_tree.specs.View.{tree_of, trees_of, binders_of};
-ghost use Rattle.snesl_grammar.specs.Limits.{greatest_depth};
-ghost use Rattle.snesl_expressions.specs.Readers.{step, within};
-ghost use Rattle.snesl_expressions.specs.Machine.{expressions, after, joining, closing_move, apply_move, comma_move, paren_move, brace_move, colon_move, bar_move, semicolon_move, in_move, then_move, else_move, in_braces, in_source};
-ghost use Rattle.snesl_expressions.specs.Parsing.{frame_of, frames_of, Gives, ending_move};
+ghost use Rattle.snesl_expressions.specs.declared.forms.Form.TheVariants.{Braces, Source};
+ghost use Rattle.snesl_expressions.specs.declared.machine.Point.TheVariants.{After};
+ghost use Rattle.snesl_expressions.specs.Machine.{joining, closing_move, apply_move, comma_move, paren_move, brace_move, colon_move, bar_move, semicolon_move, in_move, then_move, else_move};
+ghost use Rattle.snesl_expressions.specs.Parts.{tree_in};
+ghost use Rattle.snesl_expressions.specs.Parsing.{frames_in, pile, GivesBy, GivesAt, ending_move};
 
 use crate::forms::{
     Form, Innermost, find_innermost, floor_of, left_level_of, let_go, level_of, reduced,
@@ -13,7 +12,7 @@ use crate::forms::{
 use crate::limits::{GREATEST_BINDER_COUNT, GREATEST_DEPTH};
 use crate::machine::{Machine, Point, StepError, behind, enter, go_in};
 use crate::measured::{Arguments, Bound, Measured};
-use snesl_lexer::{Kind, Token};
+use snesl_lexer::{Token, TokenKind};
 use snesl_tree::{Expr, Operator, Span};
 use std::alloc::Global;
 
@@ -38,34 +37,33 @@ pub fn after(
     last: Measured,
     token: Token,
 ) -> Result<Machine, StepError>
-    ensures { Gives result (step expressions greatest_depth
-        (after (frames_of forms.items) (tree_of last.expr.value)) token) }
+    ensures { GivesAt result forms (After last) token }
 {
     match token.kind {
-        Kind::Or => infix(alloc, forms, last, Operator::Or, token.at),
-        Kind::And => infix(alloc, forms, last, Operator::And, token.at),
-        Kind::Same => infix(alloc, forms, last, Operator::Equal, token.at),
-        Kind::Less => infix(alloc, forms, last, Operator::Less, token.at),
-        Kind::AtMost => infix(alloc, forms, last, Operator::AtMost, token.at),
-        Kind::Greater => infix(alloc, forms, last, Operator::Greater, token.at),
-        Kind::AtLeast => infix(alloc, forms, last, Operator::AtLeast, token.at),
-        Kind::Append => infix(alloc, forms, last, Operator::Append, token.at),
-        Kind::Plus => infix(alloc, forms, last, Operator::Add, token.at),
-        Kind::Minus => infix(alloc, forms, last, Operator::Subtract, token.at),
-        Kind::Star => infix(alloc, forms, last, Operator::Multiply, token.at),
-        Kind::Slash => infix(alloc, forms, last, Operator::Divide, token.at),
-        Kind::Percent => infix(alloc, forms, last, Operator::Remainder, token.at),
-        Kind::At => infix(alloc, forms, last, Operator::Index, token.at),
-        Kind::LeftParen => apply(alloc, forms, last),
-        Kind::Comma => closing_move(alloc, forms, last, Ending::Comma),
-        Kind::RightParen => closing_move(alloc, forms, last, Ending::RightParen),
-        Kind::RightBrace => closing_move(alloc, forms, last, Ending::RightBrace),
-        Kind::Colon => closing_move(alloc, forms, last, Ending::Colon),
-        Kind::Bar => closing_move(alloc, forms, last, Ending::Bar),
-        Kind::Semicolon => closing_move(alloc, forms, last, Ending::Semicolon),
-        Kind::In => closing_move(alloc, forms, last, Ending::In),
-        Kind::Then => closing_move(alloc, forms, last, Ending::Then),
-        Kind::Else => closing_move(alloc, forms, last, Ending::Else),
+        TokenKind::Or => infix(alloc, forms, last, Operator::Or, token.at),
+        TokenKind::And => infix(alloc, forms, last, Operator::And, token.at),
+        TokenKind::Same => infix(alloc, forms, last, Operator::Equal, token.at),
+        TokenKind::Less => infix(alloc, forms, last, Operator::Less, token.at),
+        TokenKind::AtMost => infix(alloc, forms, last, Operator::AtMost, token.at),
+        TokenKind::Greater => infix(alloc, forms, last, Operator::Greater, token.at),
+        TokenKind::AtLeast => infix(alloc, forms, last, Operator::AtLeast, token.at),
+        TokenKind::Append => infix(alloc, forms, last, Operator::Append, token.at),
+        TokenKind::Plus => infix(alloc, forms, last, Operator::Add, token.at),
+        TokenKind::Minus => infix(alloc, forms, last, Operator::Subtract, token.at),
+        TokenKind::Star => infix(alloc, forms, last, Operator::Multiply, token.at),
+        TokenKind::Slash => infix(alloc, forms, last, Operator::Divide, token.at),
+        TokenKind::Percent => infix(alloc, forms, last, Operator::Remainder, token.at),
+        TokenKind::At => infix(alloc, forms, last, Operator::Index, token.at),
+        TokenKind::LeftParen => apply(alloc, forms, last),
+        TokenKind::Comma => closing_move(alloc, forms, last, Ending::Comma),
+        TokenKind::RightParen => closing_move(alloc, forms, last, Ending::RightParen),
+        TokenKind::RightBrace => closing_move(alloc, forms, last, Ending::RightBrace),
+        TokenKind::Colon => closing_move(alloc, forms, last, Ending::Colon),
+        TokenKind::Bar => closing_move(alloc, forms, last, Ending::Bar),
+        TokenKind::Semicolon => closing_move(alloc, forms, last, Ending::Semicolon),
+        TokenKind::In => closing_move(alloc, forms, last, Ending::In),
+        TokenKind::Then => closing_move(alloc, forms, last, Ending::Then),
+        TokenKind::Else => closing_move(alloc, forms, last, Ending::Else),
         _ => {
             let_go(last);
             Err(StepError::Unexpected)
@@ -81,8 +79,7 @@ fn infix(
     operator: Operator,
     at: usize,
 ) -> Result<Machine, StepError>
-    ensures { Gives result (within greatest_depth
-        (joining operator at (frames_of forms.items) (tree_of last.expr.value))) }
+    ensures { GivesBy result (joining operator at (frames_in forms) (tree_in last)) }
 {
     let (outer, left) = reduced(alloc, forms, last, left_level_of(operator))?;
     if floor_of(&outer) > level_of(operator) {
@@ -98,8 +95,7 @@ fn infix(
 
 // Where a parenthesis opens after an operand: only after a function's name.
 fn apply(alloc: Global, forms: Vec<Form>, last: Measured) -> Result<Machine, StepError>
-    ensures { Gives result (within greatest_depth
-        (apply_move (frames_of forms.items) (tree_of last.expr.value))) }
+    ensures { GivesBy result (apply_move (frames_in forms) (tree_in last)) }
 {
     match &*last.expr {
         Expr::Name(name) => {
@@ -122,8 +118,7 @@ fn closing_move(
     last: Measured,
     ending: Ending,
 ) -> Result<Machine, StepError>
-    ensures { Gives result (within greatest_depth
-        (closing_move (ending_move ending) (frames_of forms.items) (tree_of last.expr.value))) }
+    ensures { GivesBy result (closing_move (ending_move ending) (frames_in forms) (tree_in last)) }
 {
     let Innermost { outer, form, whole } = find_innermost(alloc, forms, last)?;
     ended(alloc, outer, form, whole, ending)
@@ -137,8 +132,7 @@ fn ended(
     whole: Measured,
     ending: Ending,
 ) -> Result<Machine, StepError>
-    ensures { Gives result (within greatest_depth
-        (ending_move ending (frame_of form ∷ frames_of outer.items) (tree_of whole.expr.value))) }
+    ensures { GivesBy result (ending_move ending (pile form outer) (tree_in whole)) }
 {
     match ending {
         Ending::Comma => comma(outer, form, whole),
@@ -155,8 +149,7 @@ fn ended(
 
 // A comma ends an argument, the first part of a pair, or an item.
 fn comma(outer: Vec<Form>, form: Form, whole: Measured) -> Result<Machine, StepError>
-    ensures { Gives result (within greatest_depth
-        (comma_move (frame_of form ∷ frames_of outer.items) (tree_of whole.expr.value))) }
+    ensures { GivesBy result (comma_move (pile form outer) (tree_in whole)) }
 {
     match form {
         Form::Call {
@@ -198,8 +191,7 @@ fn right_paren(
     form: Form,
     whole: Measured,
 ) -> Result<Machine, StepError>
-    ensures { Gives result (within greatest_depth
-        (paren_move (frame_of form ∷ frames_of outer.items) (tree_of whole.expr.value))) }
+    ensures { GivesBy result (paren_move (pile form outer) (tree_in whole)) }
 {
     match form {
         Form::Call {
@@ -230,8 +222,7 @@ fn right_brace(
     form: Form,
     whole: Measured,
 ) -> Result<Machine, StepError>
-    ensures { Gives result (within greatest_depth
-        (brace_move (frame_of form ∷ frames_of outer.items) (tree_of whole.expr.value))) }
+    ensures { GivesBy result (brace_move (pile form outer) (tree_in whole)) }
 {
     match form {
         Form::Braces { at, given } => behind(
@@ -261,8 +252,7 @@ fn right_brace(
 
 // A colon ends the body of a comprehension.
 fn colon(alloc: Global, outer: Vec<Form>, form: Form, whole: Measured) -> Result<Machine, StepError>
-    ensures { Gives result (within greatest_depth
-        (colon_move (frame_of form ∷ frames_of outer.items) (tree_of whole.expr.value))) }
+    ensures { GivesBy result (colon_move (pile form outer) (tree_in whole)) }
 {
     match form {
         Form::Braces { at, given } => begin_binders(alloc, outer, at, given, whole),
@@ -282,9 +272,7 @@ fn begin_binders(
     given: Arguments,
     body: Measured,
 ) -> Result<Machine, StepError>
-    ensures { Gives result (within greatest_depth
-        (colon_move (in_braces at (trees_of given.exprs.items) ∷ frames_of outer.items)
-        (tree_of body.expr.value))) }
+    ensures { GivesBy result (colon_move (pile (Braces at given) outer) (tree_in body)) }
 {
     if !given.exprs.is_empty() {
         let_go(body);
@@ -299,8 +287,7 @@ fn begin_binders(
 
 // A bar ends an item with a condition, or the binders of a comprehension.
 fn bar(outer: Vec<Form>, form: Form, whole: Measured) -> Result<Machine, StepError>
-    ensures { Gives result (within greatest_depth
-        (bar_move (frame_of form ∷ frames_of outer.items) (tree_of whole.expr.value))) }
+    ensures { GivesBy result (bar_move (pile form outer) (tree_in whole)) }
 {
     match form {
         Form::Braces { at, given } => begin_filter(outer, at, given, whole),
@@ -328,9 +315,7 @@ fn begin_filter(
     given: Arguments,
     item: Measured,
 ) -> Result<Machine, StepError>
-    ensures { Gives result (within greatest_depth
-        (bar_move (in_braces at (trees_of given.exprs.items) ∷ frames_of outer.items)
-        (tree_of item.expr.value))) }
+    ensures { GivesBy result (bar_move (pile (Braces at given) outer) (tree_in item)) }
 {
     if !given.exprs.is_empty() {
         let_go(item);
@@ -341,8 +326,7 @@ fn begin_filter(
 
 // A semicolon ends a binder before the eighth.
 fn semicolon(outer: Vec<Form>, form: Form, whole: Measured) -> Result<Machine, StepError>
-    ensures { Gives result (within greatest_depth
-        (semicolon_move (frame_of form ∷ frames_of outer.items) (tree_of whole.expr.value))) }
+    ensures { GivesBy result (semicolon_move (pile form outer) (tree_in whole)) }
 {
     match form {
         Form::Source {
@@ -366,19 +350,17 @@ fn next_binder(
     body: Measured,
     bound: Bound,
     name: Span,
-    source: Measured,
+    whole: Measured,
 ) -> Result<Machine, StepError>
-    ensures { Gives result (within greatest_depth
-        (semicolon_move (in_source at (tree_of body.expr.value)
-        (binders_of bound.binders.items) name ∷ frames_of outer.items)
-        (tree_of source.expr.value))) }
+    ensures { GivesBy result
+        (semicolon_move (pile (Source at body bound name) outer) (tree_in whole)) }
 {
     if bound.binders.len() + 1 >= GREATEST_BINDER_COUNT {
         let_go(body);
-        let_go(source);
+        let_go(whole);
         return Err(StepError::Unexpected);
     }
-    let bound = bound.with(name, source)?;
+    let bound = bound.with(name, whole)?;
     Ok(Machine {
         forms: outer,
         point: Point::BinderName { at, body, bound },
@@ -387,8 +369,7 @@ fn next_binder(
 
 // `in` ends the value of a `let`.
 fn let_in(outer: Vec<Form>, form: Form, whole: Measured) -> Result<Machine, StepError>
-    ensures { Gives result (within greatest_depth
-        (in_move (frame_of form ∷ frames_of outer.items) (tree_of whole.expr.value))) }
+    ensures { GivesBy result (in_move (pile form outer) (tree_in whole)) }
 {
     match form {
         Form::Value { at, name } => go_in(
@@ -409,8 +390,7 @@ fn let_in(outer: Vec<Form>, form: Form, whole: Measured) -> Result<Machine, Step
 
 // `then` ends the condition of an `if`.
 fn then(outer: Vec<Form>, form: Form, whole: Measured) -> Result<Machine, StepError>
-    ensures { Gives result (within greatest_depth
-        (then_move (frame_of form ∷ frames_of outer.items) (tree_of whole.expr.value))) }
+    ensures { GivesBy result (then_move (pile form outer) (tree_in whole)) }
 {
     match form {
         Form::Condition { at } => go_in(
@@ -430,8 +410,7 @@ fn then(outer: Vec<Form>, form: Form, whole: Measured) -> Result<Machine, StepEr
 
 // `else` ends the first branch of an `if`.
 fn or_else(outer: Vec<Form>, form: Form, whole: Measured) -> Result<Machine, StepError>
-    ensures { Gives result (within greatest_depth
-        (else_move (frame_of form ∷ frames_of outer.items) (tree_of whole.expr.value))) }
+    ensures { GivesBy result (else_move (pile form outer) (tree_in whole)) }
 {
     match form {
         Form::Positive { at, condition } => go_in(

@@ -1,11 +1,11 @@
 // Open forms, and what closes without a token of its own.
 
-ghost use Rattle.std.specs.Prelude.{◌≡◌, ◌≤◌, ◌<◌, ◌↔◌, suc, [], ◌∷◌, length, IsTrue, IfOk};
-ghost use Rattle.snesl_tree.specs.View.{tree_of};
+ghost use Rattle.std.specs.Prelude.{◌≡◌, ◌≤◌, ◌<◌, ◌↔◌, suc, [], ◌∷◌, length, IsTrue};
 ghost use Rattle.snesl_grammar.specs.Limits.{greatest_depth};
 ghost use Rattle.snesl_grammar.specs.Operators.{level, left_level, prefix_level};
 ghost use Rattle.snesl_expressions.specs.Machine.{binds_at, closed_with, reduce, floor};
-ghost use Rattle.snesl_expressions.specs.Parsing.{frame_of, frames_of, Folding, Within};
+ghost use Rattle.snesl_expressions.specs.Parts.{tree_in, Builds};
+ghost use Rattle.snesl_expressions.specs.Parsing.{frame_of, frames_of, frames_in, FoldsTo, Within};
 
 use crate::limits::GREATEST_DEPTH;
 use crate::machine::StepError;
@@ -184,8 +184,7 @@ pub fn let_go<T: Drop>(_: T) {}
 
 // The form with its last part.
 fn closed(alloc: Global, form: Form, last: Measured) -> Result<Measured, AllocError>
-    ensures { IfOk result (λ whole. tree_of whole.expr.value ≡
-        closed_with (frame_of form) (tree_of last.expr.value)) }
+    ensures { Builds result (closed_with (frame_of form) (tree_in last)) }
 {
     match form {
         Form::Binary { at, operator, left } => Measured::binary(alloc, at, operator, left, last),
@@ -210,8 +209,7 @@ pub fn reduced(
     mut last: Measured,
     tightness: u8,
 ) -> Result<(Vec<Form>, Measured), AllocError>
-    ensures { IfOk result (λ folded. Folding folded.0 folded.1
-        (reduce tightness (frames_of forms.items) (tree_of last.expr.value))) }
+    ensures { FoldsTo result (reduce tightness (frames_in forms) (tree_in last)) }
 {
     while let Some(form) = forms.pop() {
         if !is_closed_at(&form, tightness) {
@@ -229,7 +227,7 @@ pub fn find_innermost(
     forms: Vec<Form>,
     last: Measured,
 ) -> Result<Innermost, StepError>
-    ensures { Within result (reduce 0 (frames_of forms.items) (tree_of last.expr.value)) }
+    ensures { Within result (reduce 0 (frames_in forms) (tree_in last)) }
 {
     let (mut outer, whole) = reduced(alloc, forms, last, 0)?;
     match outer.pop() {

@@ -1,12 +1,12 @@
 // The parser between two tokens, and what a token makes of it.
 
-ghost use Rattle.std.specs.Prelude.{◌≡◌, ◌∷◌, ◌↔◌, Ok, IfOk, IsTrue, All};
+ghost use Rattle.std.specs.Prelude.{◌≡◌, ◌↔◌, Ok, IfOk, IsTrue, All};
 ghost use Rattle.std.specs.Option.{is_some};
-ghost use Rattle.snesl_tree.specs.View.{tree_of};
 ghost use Rattle.snesl_grammar.specs.Limits.{greatest_depth};
-ghost use Rattle.snesl_expressions.specs.Readers.{step, within};
-ghost use Rattle.snesl_expressions.specs.Machine.{expressions, binds_at, open_move, at_level, operand, after};
-ghost use Rattle.snesl_expressions.specs.Parsing.{frame_of, frames_of, state_at, state_of, Gives, IsThis};
+ghost use Rattle.snesl_expressions.specs.Readers.{step};
+ghost use Rattle.snesl_expressions.specs.Machine.{expressions, binds_at, open_move, frame_move, bare_move, operand, after};
+ghost use Rattle.snesl_expressions.specs.Parts.{tree_in};
+ghost use Rattle.snesl_expressions.specs.Parsing.{frame_of, frames_in, pile, state_at, state_of, IsStep, GivesBy, IsThis};
 
 use crate::closings::after;
 use crate::forms::{Form, floor_of, has_room, is_closed_at, let_go, reduced};
@@ -90,7 +90,7 @@ impl<T: Drop> From<AllocFailed<T>> for StepError {
 
 /// Goes on in a form that has its room already.
 pub fn go_in(mut forms: Vec<Form>, form: Form) -> Result<Machine, StepError>
-    ensures { Gives result (Ok (operand (frame_of form ∷ frames_of forms.items))) }
+    ensures { IsStep result (Ok (operand (pile form forms))) }
 {
     forms.push(form)?;
     Ok(Machine {
@@ -101,8 +101,7 @@ pub fn go_in(mut forms: Vec<Form>, form: Form) -> Result<Machine, StepError>
 
 /// Goes on at a point of a form that is opened, where there is room for a part of it.
 pub fn open_at(forms: Vec<Form>, point: Point) -> Result<Machine, StepError>
-    ensures { Gives result (within greatest_depth
-        (open_move (frames_of forms.items) (state_at (frames_of forms.items) point))) }
+    ensures { GivesBy result (open_move (frames_in forms) (state_at (frames_in forms) point)) }
 {
     if !has_room(&forms) {
         let_go(point);
@@ -113,7 +112,7 @@ pub fn open_at(forms: Vec<Form>, point: Point) -> Result<Machine, StepError>
 
 /// After an expression.
 pub fn behind(forms: Vec<Form>, last: Measured) -> Result<Machine, StepError>
-    ensures { Gives result (Ok (after (frames_of forms.items) (tree_of last.expr.value))) }
+    ensures { IsStep result (Ok (after (frames_in forms) (tree_in last))) }
 {
     Ok(Machine {
         forms,
@@ -123,8 +122,7 @@ pub fn behind(forms: Vec<Form>, last: Measured) -> Result<Machine, StepError>
 
 /// Opens a form, where there is room for a part of it.
 pub fn enter(forms: Vec<Form>, form: Form) -> Result<Machine, StepError>
-    ensures { Gives result (within greatest_depth
-        (open_move (frames_of forms.items) (operand (frame_of form ∷ frames_of forms.items)))) }
+    ensures { GivesBy result (frame_move (frame_of form) (frames_in forms)) }
 {
     if !has_room(&forms) {
         let_go(form);
@@ -135,9 +133,7 @@ pub fn enter(forms: Vec<Form>, form: Form) -> Result<Machine, StepError>
 
 /// Opens a form that binds so tightly, where it may stand bare.
 pub fn enter_bare(forms: Vec<Form>, form: Form, tightness: u8) -> Result<Machine, StepError>
-    ensures { Gives result (within greatest_depth
-        (at_level tightness (frames_of forms.items)
-        (open_move (frames_of forms.items) (operand (frame_of form ∷ frames_of forms.items))))) }
+    ensures { GivesBy result (bare_move tightness (frame_of form) (frames_in forms)) }
 {
     if floor_of(&forms) > tightness {
         let_go(form);
@@ -165,7 +161,7 @@ impl Machine {
     /// - `TooDeep`: an expression goes on with it, and none within the greatest depth.
     /// - `NoMemory`: memory ran out.
     pub fn step(self, alloc: Global, token: Token) -> Result<Machine, StepError>
-        ensures { Gives result (step expressions greatest_depth (state_of self) token) }
+        ensures { IsStep result (step expressions greatest_depth (state_of self) token) }
     {
         let Machine { forms, point } = self;
         match point {

@@ -3,10 +3,9 @@
 // A depth over the limit is kept as one more than the limit, so that no depth is computed twice.
 
 ghost use Rattle.std.specs.Prelude.{◌≡◌, ◌+◌, suc, min, IfOk};
-ghost use Rattle.snesl_tree.specs.Tree.{depth, depth_of_all, depth_of_binders, integer, truth, name, binary, prefix, call, apply, group, pair, binding, choice, literal, filter, each, none, none_bound, always, only_where};
+ghost use Rattle.snesl_tree.specs.Tree.{depth, depth_of_all, depth_of_binders};
 ghost use Rattle.snesl_tree.specs.View.{tree_of, trees_of, binders_of};
 ghost use Rattle.snesl_grammar.specs.Limits.{greatest_depth};
-ghost use Rattle.snesl_grammar.specs.Expressions.{added, bound_also};
 
 use crate::limits::GREATEST_DEPTH;
 use snesl_tree::{Binder, Builtin, Expr, Operator, Prefix, Span};
@@ -37,22 +36,25 @@ pub struct Bound {
 }
 
 impl Measured {
+    ghost use Rattle.snesl_tree.specs.Tree.{integer, truth, name, binary, prefix, call, apply, group, pair, binding, choice, literal, filter, each, always, only_where};
+    ghost use Rattle.snesl_expressions.specs.Parts.{tree_in, trees_in, bound_in, Builds};
+
     pub fn integer(alloc: Global, at: usize, value: i128) -> Result<Measured, AllocError>
-        ensures { IfOk result (λ whole. tree_of whole.expr.value ≡ integer at value) }
+        ensures { Builds result (integer at value) }
     {
         let expr = Box::new(alloc, Expr::Integer { at, value })?;
         Ok(Measured { expr, deep: 1 })
     }
 
     pub fn truth(alloc: Global, at: usize, value: bool) -> Result<Measured, AllocError>
-        ensures { IfOk result (λ whole. tree_of whole.expr.value ≡ truth at value) }
+        ensures { Builds result (truth at value) }
     {
         let expr = Box::new(alloc, Expr::Truth { at, value })?;
         Ok(Measured { expr, deep: 1 })
     }
 
     pub fn name(alloc: Global, place: Span) -> Result<Measured, AllocError>
-        ensures { IfOk result (λ whole. tree_of whole.expr.value ≡ name place) }
+        ensures { Builds result (name place) }
     {
         let expr = Box::new(alloc, Expr::Name(place))?;
         Ok(Measured { expr, deep: 1 })
@@ -65,8 +67,7 @@ impl Measured {
         left: Measured,
         right: Measured,
     ) -> Result<Measured, AllocError>
-        ensures { IfOk result (λ whole. tree_of whole.expr.value ≡
-            binary at operator (tree_of left.expr.value) (tree_of right.expr.value)) }
+        ensures { Builds result (binary at operator (tree_in left) (tree_in right)) }
     {
         let deep = one_more(left.deep.max(right.deep));
         let expr = Expr::Binary {
@@ -85,8 +86,7 @@ impl Measured {
         operator: Prefix,
         operand: Measured,
     ) -> Result<Measured, AllocError>
-        ensures { IfOk result (λ whole. tree_of whole.expr.value ≡
-            prefix at operator (tree_of operand.expr.value)) }
+        ensures { Builds result (prefix at operator (tree_in operand)) }
     {
         let deep = one_more(operand.deep);
         let expr = Expr::Prefix {
@@ -104,8 +104,7 @@ impl Measured {
         function: Builtin,
         arguments: Arguments,
     ) -> Result<Measured, AllocError>
-        ensures { IfOk result (λ whole. tree_of whole.expr.value ≡
-            call at function (trees_of arguments.exprs.items)) }
+        ensures { Builds result (call at function (trees_in arguments)) }
     {
         let Arguments { exprs, deep } = arguments;
         let deep = one_more(deep);
@@ -123,8 +122,7 @@ impl Measured {
         function: Span,
         arguments: Arguments,
     ) -> Result<Measured, AllocError>
-        ensures { IfOk result (λ whole. tree_of whole.expr.value ≡
-            apply function (trees_of arguments.exprs.items)) }
+        ensures { Builds result (apply function (trees_in arguments)) }
     {
         let Arguments { exprs, deep } = arguments;
         let deep = one_more(deep);
@@ -137,8 +135,7 @@ impl Measured {
     }
 
     pub fn group(alloc: Global, at: usize, inner: Measured) -> Result<Measured, AllocError>
-        ensures { IfOk result (λ whole. tree_of whole.expr.value ≡
-            group at (tree_of inner.expr.value)) }
+        ensures { Builds result (group at (tree_in inner)) }
     {
         let deep = one_more(inner.deep);
         let expr = Expr::Group {
@@ -155,8 +152,7 @@ impl Measured {
         first: Measured,
         second: Measured,
     ) -> Result<Measured, AllocError>
-        ensures { IfOk result (λ whole. tree_of whole.expr.value ≡
-            pair at (tree_of first.expr.value) (tree_of second.expr.value)) }
+        ensures { Builds result (pair at (tree_in first) (tree_in second)) }
     {
         let deep = one_more(first.deep.max(second.deep));
         let expr = Expr::Pair {
@@ -175,8 +171,7 @@ impl Measured {
         value: Measured,
         body: Measured,
     ) -> Result<Measured, AllocError>
-        ensures { IfOk result (λ whole. tree_of whole.expr.value ≡
-            binding at place (tree_of value.expr.value) (tree_of body.expr.value)) }
+        ensures { Builds result (binding at place (tree_in value) (tree_in body)) }
     {
         let deep = one_more(value.deep.max(body.deep));
         let expr = Expr::Let {
@@ -196,9 +191,8 @@ impl Measured {
         positive: Measured,
         negative: Measured,
     ) -> Result<Measured, AllocError>
-        ensures { IfOk result (λ whole. tree_of whole.expr.value ≡
-            choice at (tree_of condition.expr.value) (tree_of positive.expr.value)
-            (tree_of negative.expr.value)) }
+        ensures { Builds result
+            (choice at (tree_in condition) (tree_in positive) (tree_in negative)) }
     {
         let deep = one_more(condition.deep.max(positive.deep.max(negative.deep)));
         let expr = Expr::If {
@@ -212,8 +206,7 @@ impl Measured {
     }
 
     pub fn literal(alloc: Global, at: usize, items: Arguments) -> Result<Measured, AllocError>
-        ensures { IfOk result (λ whole. tree_of whole.expr.value ≡
-            literal at (trees_of items.exprs.items)) }
+        ensures { Builds result (literal at (trees_in items)) }
     {
         let Arguments { exprs, deep } = items;
         let deep = one_more(deep);
@@ -227,8 +220,7 @@ impl Measured {
         item: Measured,
         condition: Measured,
     ) -> Result<Measured, AllocError>
-        ensures { IfOk result (λ whole. tree_of whole.expr.value ≡
-            filter at (tree_of item.expr.value) (tree_of condition.expr.value)) }
+        ensures { Builds result (filter at (tree_in item) (tree_in condition)) }
     {
         let deep = one_more(item.deep.max(condition.deep));
         let expr = Expr::Filter {
@@ -246,8 +238,7 @@ impl Measured {
         body: Measured,
         bound: Bound,
     ) -> Result<Measured, AllocError>
-        ensures { IfOk result (λ whole. tree_of whole.expr.value ≡
-            each at (tree_of body.expr.value) (binders_of bound.binders.items) always) }
+        ensures { Builds result (each at (tree_in body) (bound_in bound) always) }
     {
         let Bound { binders, deep } = bound;
         let deep = one_more(body.deep.max(deep));
@@ -268,9 +259,8 @@ impl Measured {
         bound: Bound,
         condition: Measured,
     ) -> Result<Measured, AllocError>
-        ensures { IfOk result (λ whole. tree_of whole.expr.value ≡
-            each at (tree_of body.expr.value) (binders_of bound.binders.items)
-            (only_where (tree_of condition.expr.value))) }
+        ensures { Builds result
+            (each at (tree_in body) (bound_in bound) (only_where (tree_in condition))) }
     {
         let Bound { binders, deep } = bound;
         let deep = one_more(body.deep.max(deep.max(condition.deep)));
@@ -286,8 +276,12 @@ impl Measured {
 }
 
 impl Arguments {
+    ghost use Rattle.snesl_tree.specs.Tree.{none};
+    ghost use Rattle.snesl_grammar.specs.Expressions.{added};
+    ghost use Rattle.snesl_expressions.specs.Parts.{tree_in, trees_in};
+
     pub fn none(alloc: Global) -> Arguments
-        ensures { trees_of result.exprs.items ≡ none }
+        ensures { trees_in result ≡ none }
     {
         Arguments {
             exprs: Vec::new(alloc),
@@ -296,8 +290,7 @@ impl Arguments {
     }
 
     pub fn with(self, last: Measured) -> Result<Arguments, AllocError>
-        ensures { IfOk result (λ all. trees_of all.exprs.items ≡
-            added (trees_of self.exprs.items) (tree_of last.expr.value)) }
+        ensures { IfOk result (λ all. trees_in all ≡ added (trees_in self) (tree_in last)) }
     {
         let Arguments { mut exprs, deep } = self;
         let deep = deep.max(last.deep);
@@ -307,8 +300,12 @@ impl Arguments {
 }
 
 impl Bound {
+    ghost use Rattle.snesl_tree.specs.Tree.{none_bound};
+    ghost use Rattle.snesl_grammar.specs.Expressions.{bound_also};
+    ghost use Rattle.snesl_expressions.specs.Parts.{tree_in, bound_in};
+
     pub fn none(alloc: Global) -> Bound
-        ensures { binders_of result.binders.items ≡ none_bound }
+        ensures { bound_in result ≡ none_bound }
     {
         Bound {
             binders: Vec::new(alloc),
@@ -317,8 +314,8 @@ impl Bound {
     }
 
     pub fn with(self, name: Span, source: Measured) -> Result<Bound, AllocError>
-        ensures { IfOk result (λ all. binders_of all.binders.items ≡
-            bound_also (binders_of self.binders.items) name (tree_of source.expr.value)) }
+        ensures { IfOk result
+            (λ all. bound_in all ≡ bound_also (bound_in self) name (tree_in source)) }
     {
         let Bound { mut binders, deep } = self;
         let deep = deep.max(source.deep);

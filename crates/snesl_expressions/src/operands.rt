@@ -1,79 +1,69 @@
 // What begins an operand, and what comes before one in forms that begin with words.
 
-ghost use Rattle.std.specs.Prelude.{◌∷◌};
 ghost use Rattle.snesl_tree.specs.Tree.{none};
-ghost use Rattle.snesl_tree.specs.View.{tree_of, binders_of};
-ghost use Rattle.snesl_grammar.specs.Limits.{greatest_depth};
 ghost use Rattle.snesl_grammar.specs.Operators.{prefix_level};
-ghost use Rattle.snesl_expressions.specs.Readers.{step, within};
-ghost use Rattle.snesl_expressions.specs.Machine.{expressions, operand, opening, let_name, let_equals, binder_name, binder_in, open_move, at_level, in_prefix, in_braces};
-ghost use Rattle.snesl_expressions.specs.Parsing.{frames_of, Gives};
+ghost use Rattle.snesl_expressions.specs.declared.machine.Point.TheVariants.{Operand, Opening, LetName, LetEquals, BinderName, BinderIn};
+ghost use Rattle.snesl_expressions.specs.Machine.{opening, open_move, frame_move, bare_move, let_move, in_prefix, in_braces};
+ghost use Rattle.snesl_expressions.specs.Parsing.{frames_in, GivesBy, GivesAt};
 
 use crate::forms::{Form, PREFIX_LEVEL, floor_of, let_go};
 use crate::machine::{Machine, Point, StepError, behind, enter, enter_bare, go_in, open_at};
 use crate::measured::{Arguments, Bound, Measured};
-use snesl_lexer::{Kind, Token};
+use snesl_lexer::{Token, TokenKind};
 use snesl_tree::{Builtin, Prefix, Span};
 use std::alloc::Global;
 
 /// Where an operand may begin.
 pub fn operand(alloc: Global, forms: Vec<Form>, token: Token) -> Result<Machine, StepError>
-    ensures { Gives result (step expressions greatest_depth
-        (operand (frames_of forms.items)) token) }
+    ensures { GivesAt result forms Operand token }
 {
     let at = token.at;
     match token.kind {
-        Kind::Integer(value) => behind(forms, Measured::integer(alloc, at, value)?),
-        Kind::True => behind(forms, Measured::truth(alloc, at, true)?),
-        Kind::False => behind(forms, Measured::truth(alloc, at, false)?),
-        Kind::Name(len) => behind(forms, Measured::name(alloc, Span { at, len })?),
-        Kind::Minus => enter_prefix(forms, at, Prefix::Negate),
-        Kind::Not => enter_prefix(forms, at, Prefix::Not),
-        Kind::Iota => name_call(forms, at, Builtin::Iota),
-        Kind::ScanAdd => name_call(forms, at, Builtin::ScanAdd),
-        Kind::ReduceAdd => name_call(forms, at, Builtin::ReduceAdd),
-        Kind::ReduceMax => name_call(forms, at, Builtin::ReduceMax),
-        Kind::ReduceAnd => name_call(forms, at, Builtin::ReduceAnd),
-        Kind::ReduceOr => name_call(forms, at, Builtin::ReduceOr),
-        Kind::Length => name_call(forms, at, Builtin::Length),
-        Kind::Concat => name_call(forms, at, Builtin::Concat),
-        Kind::Part => name_call(forms, at, Builtin::Part),
-        Kind::The => name_call(forms, at, Builtin::The),
-        Kind::Tab => name_call(forms, at, Builtin::Tab),
-        Kind::Seq => name_call(forms, at, Builtin::Seq),
-        Kind::Fst => name_call(forms, at, Builtin::Fst),
-        Kind::Snd => name_call(forms, at, Builtin::Snd),
-        Kind::LeftParen => enter(forms, Form::Group { at }),
-        Kind::LeftBrace => enter_braces(alloc, forms, at),
-        Kind::Let => name_let(forms, at),
-        Kind::If => enter_bare(forms, Form::Condition { at }, 0),
+        TokenKind::Integer(value) => behind(forms, Measured::integer(alloc, at, value)?),
+        TokenKind::True => behind(forms, Measured::truth(alloc, at, true)?),
+        TokenKind::False => behind(forms, Measured::truth(alloc, at, false)?),
+        TokenKind::Name(len) => behind(forms, Measured::name(alloc, Span { at, len })?),
+        TokenKind::Minus => enter_prefix(forms, at, Prefix::Negate),
+        TokenKind::Not => enter_prefix(forms, at, Prefix::Not),
+        TokenKind::Iota => name_call(forms, at, Builtin::Iota),
+        TokenKind::ScanAdd => name_call(forms, at, Builtin::ScanAdd),
+        TokenKind::ReduceAdd => name_call(forms, at, Builtin::ReduceAdd),
+        TokenKind::ReduceMax => name_call(forms, at, Builtin::ReduceMax),
+        TokenKind::ReduceAnd => name_call(forms, at, Builtin::ReduceAnd),
+        TokenKind::ReduceOr => name_call(forms, at, Builtin::ReduceOr),
+        TokenKind::Length => name_call(forms, at, Builtin::Length),
+        TokenKind::Concat => name_call(forms, at, Builtin::Concat),
+        TokenKind::Part => name_call(forms, at, Builtin::Part),
+        TokenKind::The => name_call(forms, at, Builtin::The),
+        TokenKind::Tab => name_call(forms, at, Builtin::Tab),
+        TokenKind::Seq => name_call(forms, at, Builtin::Seq),
+        TokenKind::Fst => name_call(forms, at, Builtin::Fst),
+        TokenKind::Snd => name_call(forms, at, Builtin::Snd),
+        TokenKind::LeftParen => enter(forms, Form::Group { at }),
+        TokenKind::LeftBrace => enter_braces(alloc, forms, at),
+        TokenKind::Let => name_let(forms, at),
+        TokenKind::If => enter_bare(forms, Form::Condition { at }, 0),
         _ => Err(StepError::Unexpected),
     }
 }
 
 // Opens the operand of an operator before it.
 fn enter_prefix(forms: Vec<Form>, at: usize, operator: Prefix) -> Result<Machine, StepError>
-    ensures { Gives result (within greatest_depth
-        (at_level prefix_level (frames_of forms.items)
-        (open_move (frames_of forms.items)
-        (operand (in_prefix at operator ∷ frames_of forms.items))))) }
+    ensures { GivesBy result (bare_move prefix_level (in_prefix at operator) (frames_in forms)) }
 {
     enter_bare(forms, Form::Prefix { at, operator }, PREFIX_LEVEL)
 }
 
 // Takes the name of a built-in function, where there is room for an argument.
 fn name_call(forms: Vec<Form>, at: usize, function: Builtin) -> Result<Machine, StepError>
-    ensures { Gives result (within greatest_depth
-        (open_move (frames_of forms.items) (opening (frames_of forms.items) at function))) }
+    ensures { GivesBy result (open_move (frames_in forms) (opening (frames_in forms) at function)) }
 {
     open_at(forms, Point::Opening { at, function })
 }
 
 // Takes the word `let`, where a `let` may stand bare and there is room for its value.
 fn name_let(forms: Vec<Form>, at: usize) -> Result<Machine, StepError>
-    ensures { Gives result (within greatest_depth
-        (at_level 0 (frames_of forms.items)
-        (open_move (frames_of forms.items) (let_name (frames_of forms.items) at)))) }
+    ensures { GivesBy result (let_move (frames_in forms) at) }
 {
     if floor_of(&forms) > 0 {
         return Err(StepError::Unexpected);
@@ -83,8 +73,7 @@ fn name_let(forms: Vec<Form>, at: usize) -> Result<Machine, StepError>
 
 // Opens the first item in braces, where there is room for it.
 fn enter_braces(alloc: Global, forms: Vec<Form>, at: usize) -> Result<Machine, StepError>
-    ensures { Gives result (within greatest_depth
-        (open_move (frames_of forms.items) (operand (in_braces at none ∷ frames_of forms.items)))) }
+    ensures { GivesBy result (frame_move (in_braces at none) (frames_in forms)) }
 {
     let given = Arguments::none(alloc);
     enter(forms, Form::Braces { at, given })
@@ -98,11 +87,10 @@ pub fn opening(
     function: Builtin,
     token: Token,
 ) -> Result<Machine, StepError>
-    ensures { Gives result (step expressions greatest_depth
-        (opening (frames_of forms.items) at function) token) }
+    ensures { GivesAt result forms (Opening at function) token }
 {
     match token.kind {
-        Kind::LeftParen => {
+        TokenKind::LeftParen => {
             let given = Arguments::none(alloc);
             go_in(
                 forms,
@@ -119,11 +107,10 @@ pub fn opening(
 
 /// Where the name of a `let` stands.
 pub fn let_name(forms: Vec<Form>, at: usize, token: Token) -> Result<Machine, StepError>
-    ensures { Gives result (step expressions greatest_depth
-        (let_name (frames_of forms.items) at) token) }
+    ensures { GivesAt result forms (LetName at) token }
 {
     match token.kind {
-        Kind::Name(len) => {
+        TokenKind::Name(len) => {
             let name = Span { at: token.at, len };
             Ok(Machine {
                 forms,
@@ -141,11 +128,10 @@ pub fn let_equals(
     name: Span,
     token: Token,
 ) -> Result<Machine, StepError>
-    ensures { Gives result (step expressions greatest_depth
-        (let_equals (frames_of forms.items) at name) token) }
+    ensures { GivesAt result forms (LetEquals at name) token }
 {
     match token.kind {
-        Kind::Equals => go_in(forms, Form::Value { at, name }),
+        TokenKind::Equals => go_in(forms, Form::Value { at, name }),
         _ => Err(StepError::Unexpected),
     }
 }
@@ -158,12 +144,10 @@ pub fn binder_name(
     bound: Bound,
     token: Token,
 ) -> Result<Machine, StepError>
-    ensures { Gives result (step expressions greatest_depth
-        (binder_name (frames_of forms.items) at (tree_of body.expr.value)
-        (binders_of bound.binders.items)) token) }
+    ensures { GivesAt result forms (BinderName at body bound) token }
 {
     match token.kind {
-        Kind::Name(len) => {
+        TokenKind::Name(len) => {
             let name = Span { at: token.at, len };
             Ok(Machine {
                 forms,
@@ -191,12 +175,10 @@ pub fn binder_in(
     name: Span,
     token: Token,
 ) -> Result<Machine, StepError>
-    ensures { Gives result (step expressions greatest_depth
-        (binder_in (frames_of forms.items) at (tree_of body.expr.value)
-        (binders_of bound.binders.items) name) token) }
+    ensures { GivesAt result forms (BinderIn at body bound name) token }
 {
     match token.kind {
-        Kind::In => go_in(
+        TokenKind::In => go_in(
             forms,
             Form::Source {
                 at,

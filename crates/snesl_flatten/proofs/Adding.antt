@@ -4,7 +4,7 @@ use Rattle.std.specs.Result.{IsErr, IsErrAnd}
 use Rattle.snesl_data.specs.declared.dialect.Dialect.{Dialect}
 use Rattle.snesl_data.specs.declared.refusal.Refusal.{Refusal}
 use Rattle.snesl_data.specs.declared.refusal.Refusal.TheVariants.{TooBig, NoMemory}
-use Rattle.snesl_values.specs.Inputs.{Declaration}
+use Rattle.snesl_values.specs.Inputs.{InputDeclaration}
 use Rattle.snesl_data.specs.Types.{Ty}
 use Rattle.snesl_tree.specs.Tree.{Tree}
 use Rattle.snesl_tree.specs.View.{tree_of, declaration_of}
@@ -70,7 +70,7 @@ module _ (old middle new : Steps) (at : ℕ) (context : ProgramContext) (tree : 
       (test_made at w t reads is_t is_reads middle new x test)
 
 -- the whole program
-module _ (old : Steps) (program : Program) (inputs : List Declaration) (next_is : next_in old ≡ 0) where
+module _ (old : Steps) (program : Program) (inputs : List InputDeclaration) (next_is : next_in old ≡ 0) where
   at : ℕ
   at = first_offset (tree_of program.expr)
 
@@ -98,14 +98,14 @@ module _ (old : Steps) (program : Program) (inputs : List Declaration) (next_is 
     pub control_refused : (new : Steps) (e : Refusal) (r : Result WiresData Refusal) → IsErr r × IsErrAnd r (λ g. g ≡ e) → Adds (λ (n : ℕ). n) old new (control_sourced begin (next_in old)) (Err e) → Adds wires_of old new plan r
     control_refused new e r exit adds = at_first new r (exits_first (λ (n : ℕ). n) wires_of old new new (control_sourced begin (next_in old)) (λ control k. after_control begin control k) e r exit adds)
 
-    pub inputs_refused : {C : Type 0} (view : C → Bound) (first new : Steps) (control : ℕ) (declarations : List Declaration) → declarations ≡ inputs → (e : Refusal) (r : Result WiresData Refusal) → IsErr r × IsErrAnd r (λ g. g ≡ e)
+    pub inputs_refused : {C : Type 0} (view : C → Bound) (first new : Steps) (control : ℕ) (declarations : List InputDeclaration) → declarations ≡ inputs → (e : Refusal) (r : Result WiresData Refusal) → IsErr r × IsErrAnd r (λ g. g ≡ e)
         → control_made first control → Adds view first new (inputs_sourced begin unset_cells declarations (next_in first)) (Err e) → Adds wires_of old new plan r
     inputs_refused view first new control declarations same e r exit made adds =
         at_first new r (made_then wires_of old first new (control_sourced begin (next_in old)) (λ control k. after_control begin control k) control r made
         (exits_first view wires_of first new new (inputs_sourced begin unset_cells inputs (next_in first)) (λ bound k. after_inputs begin control bound k) e r exit
         (subst (λ l. Adds view first new (inputs_sourced begin unset_cells l (next_in first)) (Err e)) same adds)))
 
-    pub program_added : (first second new : Steps) (control : ℕ) (declarations : List Declaration) (bound bound' : Bound) (context : ProgramContext) (r : Result WiresData Refusal) → declarations ≡ inputs → bound' ≡ bound
+    pub program_added : (first second new : Steps) (control : ℕ) (declarations : List InputDeclaration) (bound bound' : Bound) (context : ProgramContext) (r : Result WiresData Refusal) → declarations ≡ inputs → bound' ≡ bound
         → dialect_of_steps old ≡ program.dialect → context.text.now ≡ program.text.items → context.functions.now ≡ program.declarations.items
         → control_made first control → HasMade first second (inputs_sourced begin unset_cells declarations (next_in first)) bound
         → Adds wires_of second new (printed second begin context (tree_of program.expr) bound' control) r → Adds wires_of old new plan r

@@ -5,7 +5,7 @@ use Rattle.std.specs.Global.{Global}
 use Rattle.std.specs.Result.{IsErr, IsErrAnd}
 use Rattle.snesl_data.specs.declared.refusal.Refusal.{Refusal}
 use Rattle.snesl_data.specs.declared.ty.Ty.{Ty as TyTree}
-use Rattle.snesl_values.specs.Inputs.{Declaration, declared, declaration_of}
+use Rattle.snesl_values.specs.Inputs.{InputDeclaration, declared, declaration_of}
 use Rattle.flow_messages.specs.Cells.{Cell}
 use Rattle.snesl_translation.specs.Wires.{Wires, Bound}
 use Rattle.snesl_translation.specs.Makings.{Making, done, and_then}
@@ -19,7 +19,7 @@ use Rattle.snesl_steps.proofs.Adding.{done_made, made_then, then_done, refused_f
 same_making : {A : Type 0} (one other : Making A) → one.steps ≡ other.steps → one.given ≡ other.given → one.next ≡ other.next → one ≡ other
 same_making one other steps given next = λ i. record { steps = steps i; given = given i; next = next i }
 
-pub inputs_append : (at : ℕ) (cells : ℕ → List Cell) (xs ys : List Declaration) (next : ℕ) →
+pub inputs_append : (at : ℕ) (cells : ℕ → List Cell) (xs ys : List InputDeclaration) (next : ℕ) →
     inputs_sourced at cells (xs ++ ys) next ≡ and_then (inputs_sourced at cells xs next) (λ b k. and_then (inputs_sourced at cells ys k) (λ c k. done (b ++ c) k))
 unfolding and_then
 inputs_append at cells [] ys next = same_making _ _ (sym (append-nil (inputs_sourced at cells ys next).steps)) refl refl
@@ -37,13 +37,13 @@ inputs_append at cells (x ∷ xs) ys next =
     (ap (λ (m : Making Bound). m.next) ih)
 
 -- one input
-one_bound : (old new : Steps) (at : ℕ) (d : Declaration) (w : Wires) → HasMade old new (sourced at unset_cells d.1 (next_in old)) w → HasMade old new (inputs_sourced at unset_cells (d ∷ []) (next_in old)) ((d.0, w) ∷ [])
+one_bound : (old new : Steps) (at : ℕ) (d : InputDeclaration) (w : Wires) → HasMade old new (sourced at unset_cells d.1 (next_in old)) w → HasMade old new (inputs_sourced at unset_cells (d ∷ []) (next_in old)) ((d.0, w) ∷ [])
 one_bound old new at d w made =
     made_then (λ b. b) old new new (sourced at unset_cells d.1 (next_in old)) (λ u k. and_then (inputs_sourced at unset_cells [] k) (λ bound k. done ((d.0, u) ∷ bound) k)) w (Ok ((d.0, w) ∷ [])) made
     (then_done new new (inputs_sourced at unset_cells [] (next_in new)) (λ bound. (d.0, w) ∷ bound) [] (done_made new []))
 
 -- some inputs and then one more
-pub one_more_bound : (old middle new : Steps) (at : ℕ) (xs : List Declaration) (d : Declaration) (bound : Bound) (w : Wires) → HasMade old middle (inputs_sourced at unset_cells xs (next_in old)) bound
+pub one_more_bound : (old middle new : Steps) (at : ℕ) (xs : List InputDeclaration) (d : InputDeclaration) (bound : Bound) (w : Wires) → HasMade old middle (inputs_sourced at unset_cells xs (next_in old)) bound
     → HasMade middle new (sourced at unset_cells d.1 (next_in middle)) w → HasMade old new (inputs_sourced at unset_cells (xs ++ d ∷ []) (next_in old)) (bound ++ (d.0, w) ∷ [])
 one_more_bound old middle new at xs d bound w made one =
     subst (λ m. HasMade old new m (bound ++ (d.0, w) ∷ [])) (sym (inputs_append at unset_cells xs (d ∷ []) (next_in old)))
@@ -51,7 +51,7 @@ one_more_bound old middle new at xs d bound w made one =
     (then_done middle new (inputs_sourced at unset_cells (d ∷ []) (next_in middle)) (λ c. bound ++ c) ((d.0, w) ∷ []) (one_bound middle new at d w one)))
 
 -- one that is refused
-pub one_refused : {C : Type 0} (view : C → Bound) (old middle new : Steps) (at : ℕ) (xs : List Declaration) (d : Declaration) (others : List Declaration) (bound : Bound) (e : Refusal) (r : Result C Refusal)
+pub one_refused : {C : Type 0} (view : C → Bound) (old middle new : Steps) (at : ℕ) (xs : List InputDeclaration) (d : InputDeclaration) (others : List InputDeclaration) (bound : Bound) (e : Refusal) (r : Result C Refusal)
     → IsErr r × IsErrAnd r (λ g. g ≡ e) → HasMade old middle (inputs_sourced at unset_cells xs (next_in old)) bound
     → Adds wires_of middle new (sourced at unset_cells d.1 (next_in middle)) (Err e) → Adds view old new (inputs_sourced at unset_cells (xs ++ d ∷ others) (next_in old)) r
 one_refused view old middle new at xs d others bound e r exit made adds =

@@ -4,7 +4,7 @@ use Rattle.std.proofs.lemmas.List.{get_or-map}
 use Rattle.std.proofs.Math.ListN.{length-set}
 use Rattle.std.specs.List.{slice_get}
 use Rattle.snesl_data.specs.Types.{Ty}
-use Rattle.snesl_values.specs.Inputs.{Declaration}
+use Rattle.snesl_values.specs.Inputs.{InputDeclaration}
 use Rattle.snesl_tree.specs.Tree.{ProgramTree}
 use Rattle.flow_messages.specs.Cells.{Cell}
 use Rattle.flow_scalar.specs.Streams.{Items}
@@ -38,7 +38,7 @@ last_from plan s (step ∷ steps) at ty reads =
     let g = last_from plan (s + length kinds) steps at ty reads in
     (first ∷ (behind ++ g.0), ap (λ l. first ∷ (behind ++ l)) g.1 ∙ ap (λ l. first ∷ l) (sym (append_assoc behind g.0 (print_placed at ty reads ∷ []))))
 
-module _ (text : List ℕ) (program : ProgramTree) (inputs : List Declaration) (cells : ℕ → List Cell) where
+module _ (text : List ℕ) (program : ProgramTree) (inputs : List InputDeclaration) (cells : ℕ → List Cell) where
   abbrev at : ℕ
   at = first_offset program.expression
 

@@ -1,6 +1,6 @@
 -- The network that was assembled of the steps of a program, no source of which is set.
 use Rattle.std.proofs.Common.{◌≡◌, ℕ, List, [], refl, subst}
-use Rattle.snesl_values.specs.Inputs.{Declaration}
+use Rattle.snesl_values.specs.Inputs.{InputDeclaration}
 use Rattle.snesl_tree.specs.Tree.{ProgramTree}
 use Rattle.flow_nodes.specs.StreamNodes.{node_behaviour}
 use Rattle.flow_networks.specs.declared.edge.Edge.{Edge}
@@ -13,7 +13,7 @@ use Rattle.snesl_flatten.specs.Networks.{StreamNodeState, program_steps}
 use Rattle.snesl_flatten.specs.Sources.{HasSources}
 use Rattle.snesl_flatten.proofs.Ends.{print_opens}
 
-module _ (text : List ℕ) (program : ProgramTree) (inputs : List Declaration) (states : List StreamNodeState) (edges : List Edge) where
+module _ (text : List ℕ) (program : ProgramTree) (inputs : List InputDeclaration) (states : List StreamNodeState) (edges : List Edge) where
   -- it has its sources before any of them is set
   pub no_source_set : (steps : List Step) → steps ≡ program_steps text program inputs unset_cells → IsNetworkOfPlan node_behaviour steps states edges → AllOpen (layout steps) states
       → AreOpened node_behaviour states → HasSources text program inputs [] states edges
@@ -23,6 +23,6 @@ module _ (text : List ℕ) (program : ProgramTree) (inputs : List Declaration) (
         network = of;
         opens = subst (λ plan. AllOpen (layout plan) states) is opens;
         opened = opened;
-        print = print_opens text program inputs unset_cells states of.nodes (subst (λ plan. AllOpen (layout plan) states) is opens);
+        print = print_opens text program inputs unset_cells states of.laid.nodes (subst (λ plan. AllOpen (layout plan) states) is opens);
         places_are = refl;
       }

@@ -7,11 +7,11 @@ use Rattle.std.specs.List.{slice_get}
 use Rattle.std.specs.Option.{option_map, IsSome}
 use Rattle.snesl_data.specs.declared.dialect.Dialect.{Dialect}
 use Rattle.snesl_data.specs.Types.{Ty}
-use Rattle.snesl_values.specs.Entries.{entry_from, environment_at, IsPlaced, ArePlaced}
-use Rattle.snesl_values.specs.Inputs.{Declaration}
+use Rattle.snesl_values.specs.Entries.{entry_from, environment_at, IsSpelledAt, AreSpelledAt}
+use Rattle.snesl_values.specs.Inputs.{InputDeclaration}
 use Rattle.snesl_values.specs.Places.{value_at as spelled_at}
 use Rattle.snesl_values.specs.Spellings.{value_tokens}
-use Rattle.snesl_values.specs.declared.places.Placed.{Placed}
+use Rattle.snesl_values.specs.declared.places.InputPlace.{InputPlace}
 use Rattle.snesl_values.proofs.Entries.{reads_of}
 use Rattle.flow_messages.specs.Cells.{Cell}
 use Rattle.flow_messages.specs.declared.message.Kind.{Kind}
@@ -58,7 +58,7 @@ fresh_at sources n source fresh there =
     ∙ slice_get-map (λ (s : TextSource). source_opening (items_in s)) sources n ∙ ap (option_map (λ (s : TextSource). source_opening (items_in s))) there)
 
 -- what is written at an edge of the type of a value, and of which kind it is
-module _ (holds : TextHoldsEdges) (kinds : KindsOfEdges) (text : List ℕ) (place : ℕ) (t : Ty) (placed : (dialect : Dialect) × IsPlaced dialect text t place) (edge : ℕ) (lt : edge < width t) (source : TextSource)
+module _ (holds : TextHoldsEdges) (kinds : KindsOfEdges) (text : List ℕ) (place : ℕ) (t : Ty) (placed : (dialect : Dialect) × IsSpelledAt dialect text t place) (edge : ℕ) (lt : edge < width t) (source : TextSource)
     (is : items_in source ≡ items_from text (way_to t edge) (leaf_at t edge) place) where
   pub cells_of_edge : cells_in source ≡ flat t 0 (spelled_at text place ∷ []) edge
   cells_of_edge =
@@ -69,38 +69,38 @@ module _ (holds : TextHoldsEdges) (kinds : KindsOfEdges) (text : List ℕ) (plac
   kind_of_edge = ap (λ (x : Items). x.kind) is ∙ kinds t edge lt
 
 -- where the value of a declared input is
-pub placed_at : (dialect : Dialect) (text : List ℕ) (ds : List Declaration) (all : List Placed) (i : ℕ) (d : Declaration) → ArePlaced dialect text ds all → slice_get ds i ≡ Some d
-    → (p : Placed) × (slice_get all i ≡ Some p) × IsPlaced dialect text d.1 p.place
+pub placed_at : (dialect : Dialect) (text : List ℕ) (ds : List InputDeclaration) (all : List InputPlace) (i : ℕ) (d : InputDeclaration) → AreSpelledAt dialect text ds all → slice_get ds i ≡ Some d
+    → (p : InputPlace) × (slice_get all i ≡ Some p) × IsSpelledAt dialect text d.1 p.place
 placed_at dialect text [] all i d placed there = absurd (cc)
 placed_at dialect text (x ∷ ds) [] i d placed there = absurd placed
-placed_at dialect text (x ∷ ds) (p ∷ all) zero d placed there = let same : x ≡ d = cc in (p, refl, subst (λ (y : Declaration). IsPlaced dialect text y.1 p.place) same placed.0)
+placed_at dialect text (x ∷ ds) (p ∷ all) zero d placed there = let same : x ≡ d = cc in (p, refl, subst (λ (y : InputDeclaration). IsSpelledAt dialect text y.1 p.place) same placed.0)
 placed_at dialect text (x ∷ ds) (p ∷ all) (suc i) d placed there = placed_at dialect text ds all i d placed.1 there
 
 -- and which value
-pub value_placed : (text : List ℕ) (all : List Placed) (i : ℕ) (p : Placed) → slice_get all i ≡ Some p → value_at (environment_at text all) i ≡ Some (spelled_at text p.place)
+pub value_placed : (text : List ℕ) (all : List InputPlace) (i : ℕ) (p : InputPlace) → slice_get all i ≡ Some p → value_at (environment_at text all) i ≡ Some (spelled_at text p.place)
 value_placed text all i p there = ap (option_map (λ e. e.1)) (slice_get-map (entry_from text) all i ∙ ap (option_map (entry_from text)) there)
 
 -- a declared type has no more edges than all of them
-pub width_within : (ds : List Declaration) (i : ℕ) (d : Declaration) → slice_get ds i ≡ Some d → width d.1 ≤ length (all_kinds ds)
+pub width_within : (ds : List InputDeclaration) (i : ℕ) (d : InputDeclaration) → slice_get ds i ≡ Some d → width d.1 ≤ length (all_kinds ds)
 width_within [] i d there = absurd (cc)
-width_within (x ∷ ds) zero d there = let same : x ≡ d = cc in subst (λ (y : Declaration). width y.1 ≤ length (all_kinds (x ∷ ds))) same (omega (arith, length-append (kinds_of x.1) (all_kinds ds)))
+width_within (x ∷ ds) zero d there = let same : x ≡ d = cc in subst (λ (y : InputDeclaration). width y.1 ≤ length (all_kinds (x ∷ ds))) same (omega (arith, length-append (kinds_of x.1) (all_kinds ds)))
 width_within (x ∷ ds) (suc i) d there = omega (arith, width_within ds i d there, length-append (kinds_of x.1) (all_kinds ds))
 
 -- the place of a declared input, and the value there
-module _ (dialect : Dialect) (text : List ℕ) (ds : List Declaration) (all : List Placed) (placed : ArePlaced dialect text ds all) (i : ℕ) (d : Declaration) (there : slice_get ds i ≡ Some d) where
-  abbrev one : (p : Placed) × (slice_get all i ≡ Some p) × IsPlaced dialect text d.1 p.place
+module _ (dialect : Dialect) (text : List ℕ) (ds : List InputDeclaration) (all : List InputPlace) (placed : AreSpelledAt dialect text ds all) (i : ℕ) (d : InputDeclaration) (there : slice_get ds i ≡ Some d) where
+  abbrev one : (p : InputPlace) × (slice_get all i ≡ Some p) × IsSpelledAt dialect text d.1 p.place
   one = placed_at dialect text ds all i d placed there
 
-  pub place_there : (o : Option ℕ) → o ≡ option_map (λ (p : Placed). p.place) (slice_get all i) → IsSome o
-  place_there o is = is_there (λ (n : ℕ). n) o one.0.place (ap (option_map (λ (n : ℕ). n)) (is ∙ ap (option_map (λ (p : Placed). p.place)) one.1))
+  pub place_there : (o : Option ℕ) → o ≡ option_map (λ (p : InputPlace). p.place) (slice_get all i) → IsSome o
+  place_there o is = is_there (λ (n : ℕ). n) o one.0.place (ap (option_map (λ (n : ℕ). n)) (is ∙ ap (option_map (λ (p : InputPlace). p.place)) one.1))
 
-  place_is : (n : ℕ) → Some n ≡ option_map (λ (p : Placed). p.place) (slice_get all i) → one.0.place ≡ n
+  place_is : (n : ℕ) → Some n ≡ option_map (λ (p : InputPlace). p.place) (slice_get all i) → one.0.place ≡ n
   place_is n is =
-      let found : Some n ≡ Some one.0.place = is ∙ ap (option_map (λ (p : Placed). p.place)) one.1 in
+      let found : Some n ≡ Some one.0.place = is ∙ ap (option_map (λ (p : InputPlace). p.place)) one.1 in
       cc
 
-  pub placed_there : (n : ℕ) → Some n ≡ option_map (λ (p : Placed). p.place) (slice_get all i) → IsPlaced dialect text d.1 n
-  placed_there n is = subst (IsPlaced dialect text d.1) (place_is n is) one.2
+  pub placed_there : (n : ℕ) → Some n ≡ option_map (λ (p : InputPlace). p.place) (slice_get all i) → IsSpelledAt dialect text d.1 n
+  placed_there n is = subst (IsSpelledAt dialect text d.1) (place_is n is) one.2
 
-  pub value_there : (n : ℕ) → Some n ≡ option_map (λ (p : Placed). p.place) (slice_get all i) → value_at (environment_at text all) i ≡ Some (spelled_at text n)
+  pub value_there : (n : ℕ) → Some n ≡ option_map (λ (p : InputPlace). p.place) (slice_get all i) → value_at (environment_at text all) i ≡ Some (spelled_at text n)
   value_there n is = value_placed text all i one.0 one.1 ∙ ap (λ n. Some (spelled_at text n)) (place_is n is)

@@ -9,7 +9,7 @@ use Rattle.std.specs.Option.{option_map, IsSome}
 use Rattle.snesl_data.specs.declared.dialect.Dialect.{Dialect}
 use Rattle.snesl_data.specs.declared.ty.Ty.{Ty as TyTree}
 use Rattle.snesl_data.specs.Values.{Value}
-use Rattle.snesl_values.specs.Inputs.{Declaration, Environment, FitDeclarations, declared, declaration_of}
+use Rattle.snesl_values.specs.Inputs.{InputDeclaration, Environment, FitDeclarations, declared, declaration_of}
 use Rattle.flow_messages.specs.declared.message.Kind.{Kind}
 use Rattle.flow_base.specs.Columns.{Columns}
 use Rattle.flow_values.specs.Shapes.{is_a, kinds_of}
@@ -31,7 +31,7 @@ is_there f (Some a) b is = refl
 pub declared_at : (ds : List (Vec ℕ Global × TyTree)) (i : ℕ) (d : Vec ℕ Global × TyTree) → i < length ds → d ≡ get_or ds i d → slice_get (declared ds) i ≡ Some (declaration_of d)
 declared_at ds i d lt is = slice_get-map declaration_of ds i ∙ ap (option_map declaration_of) (slice_get-get_or ds i d lt ∙ ap Some (sym is))
 
-module _ (dialect : Dialect) (ds : List Declaration) (es : Environment) (fits : FitDeclarations dialect ds es) (i : ℕ) (d : Declaration) (there : slice_get ds i ≡ Some d) where
+module _ (dialect : Dialect) (ds : List InputDeclaration) (es : Environment) (fits : FitDeclarations dialect ds es) (i : ℕ) (d : InputDeclaration) (there : slice_get ds i ≡ Some d) where
   -- a declared input has a value
   pub has_value : (v : Value) × (value_at es i ≡ Some v)
   has_value = let g = fit_at dialect ds es i d fits there in (g.0.1, ap (option_map (λ e. e.1)) g.1)
@@ -54,17 +54,17 @@ module _ (dialect : Dialect) (ds : List Declaration) (es : Environment) (fits : 
         ap₂ (λ a b. a ++ b) so_far (ap (λ v. columns_of_values d.1 (v ∷ [])) (sym value_is))
         ∙ sym (columns_more ds es i d g.0 there g.1)
 
-pub kinds_added : (ds : List Declaration) (i : ℕ) (d : Declaration) → slice_get ds i ≡ Some d → (kinds : List Kind) → kinds ≡ all_kinds (take i ds) → kinds ++ kinds_of d.1 ≡ all_kinds (take (suc i) ds)
+pub kinds_added : (ds : List InputDeclaration) (i : ℕ) (d : InputDeclaration) → slice_get ds i ≡ Some d → (kinds : List Kind) → kinds ≡ all_kinds (take i ds) → kinds ++ kinds_of d.1 ≡ all_kinds (take (suc i) ds)
 kinds_added ds i d there kinds so_far = ap (λ l. l ++ kinds_of d.1) so_far ∙ sym (kinds_more ds i d there)
 
 -- there are as many values as declarations
-fits_length : (dialect : Dialect) (ds : List Declaration) (es : Environment) → FitDeclarations dialect ds es → length es ≡ length ds
+fits_length : (dialect : Dialect) (ds : List InputDeclaration) (es : Environment) → FitDeclarations dialect ds es → length es ≡ length ds
 fits_length dialect [] [] fits = refl
 fits_length dialect [] (e ∷ es) fits = absurd fits
 fits_length dialect (d ∷ ds) [] fits = absurd fits
 fits_length dialect (d ∷ ds) (e ∷ es) fits = ap suc (fits_length dialect ds es fits.2)
 
 -- where all inputs were gone through
-pub columns_all : (dialect : Dialect) (ds : List Declaration) (es : Environment) (n : ℕ) → FitDeclarations dialect ds es → length ds ≤ n → columns_of (take n ds) (take n es) ≡ columns_of ds es
+pub columns_all : (dialect : Dialect) (ds : List InputDeclaration) (es : Environment) (n : ℕ) → FitDeclarations dialect ds es → length ds ≤ n → columns_of (take n ds) (take n es) ≡ columns_of ds es
 columns_all dialect ds es n fits le =
     ap₂ columns_of (take_all n ds le) (take_all n es (omega (arith, fits_length dialect ds es fits)))

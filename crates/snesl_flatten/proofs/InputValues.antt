@@ -4,7 +4,7 @@ use Rattle.std.specs.List.{slice_get}
 use Rattle.snesl_data.specs.declared.dialect.Dialect.{Dialect}
 use Rattle.snesl_data.specs.Types.{Ty, int, bool, pair, vec, seq}
 use Rattle.snesl_data.specs.Values.{Value, Values, an_int, a_bool, a_pair, a_vec, a_seq, no_values, more_values, HasType, AllHaveType}
-use Rattle.snesl_values.specs.Inputs.{Declaration, Environment, FitDeclarations}
+use Rattle.snesl_values.specs.Inputs.{InputDeclaration, Environment, FitDeclarations}
 use Rattle.flow_values.specs.Shapes.{is_a, all_are, kinds_of}
 use Rattle.flow_values.specs.laws.Kinds.{and_true}
 use Rattle.flow_rows.specs.Made.{columns_of_values}
@@ -26,17 +26,17 @@ mutual
   typed_are dialect item (more_values v vs) h = and_true (is_a item v) (all_are item vs) (typed_is dialect item v h.0) (typed_are dialect item vs h.1)
 
 -- each declared input has a value of its type
-pub fit_at : (dialect : Dialect) (ds : List Declaration) (es : Environment) (i : ℕ) (d : Declaration) → FitDeclarations dialect ds es → slice_get ds i ≡ Some d
+pub fit_at : (dialect : Dialect) (ds : List InputDeclaration) (es : Environment) (i : ℕ) (d : InputDeclaration) → FitDeclarations dialect ds es → slice_get ds i ≡ Some d
     → (e : List ℕ × Value) × (slice_get es i ≡ Some e) × (is_a d.1 e.1 ≡ true)
 fit_at dialect [] es i d fits there = absurd (cc)
 fit_at dialect (x ∷ ds) [] i d fits there = absurd fits
 fit_at dialect (x ∷ ds) (e ∷ es) zero d fits there =
     let same : x ≡ d = cc in
-    (e, refl, subst (λ (y : Declaration). is_a y.1 e.1 ≡ true) same (typed_is dialect x.1 e.1 fits.1))
+    (e, refl, subst (λ (y : InputDeclaration). is_a y.1 e.1 ≡ true) same (typed_is dialect x.1 e.1 fits.1))
 fit_at dialect (x ∷ ds) (e ∷ es) (suc i) d fits there = fit_at dialect ds es i d fits.2 there
 
 -- the columns of some inputs and one more
-pub columns_more : (ds : List Declaration) (es : Environment) (i : ℕ) (d : Declaration) (e : List ℕ × Value) → slice_get ds i ≡ Some d → slice_get es i ≡ Some e
+pub columns_more : (ds : List InputDeclaration) (es : Environment) (i : ℕ) (d : InputDeclaration) (e : List ℕ × Value) → slice_get ds i ≡ Some d → slice_get es i ≡ Some e
     → columns_of (take (suc i) ds) (take (suc i) es) ≡ columns_of (take i ds) (take i es) ++ columns_of_values d.1 (e.1 ∷ [])
 columns_more [] es i d e there value = absurd (cc)
 columns_more (x ∷ ds) [] i d e there value = absurd (cc)
@@ -47,7 +47,7 @@ columns_more (x ∷ ds) (y ∷ es) zero d e there value =
 columns_more (x ∷ ds) (y ∷ es) (suc i) d e there value =
     ap (λ l. columns_of_values x.1 (y.1 ∷ []) ++ l) (columns_more ds es i d e there value) ∙ sym (append_assoc (columns_of_values x.1 (y.1 ∷ [])) (columns_of (take i ds) (take i es)) (columns_of_values d.1 (e.1 ∷ [])))
 
-pub kinds_more : (ds : List Declaration) (i : ℕ) (d : Declaration) → slice_get ds i ≡ Some d → all_kinds (take (suc i) ds) ≡ all_kinds (take i ds) ++ kinds_of d.1
+pub kinds_more : (ds : List InputDeclaration) (i : ℕ) (d : InputDeclaration) → slice_get ds i ≡ Some d → all_kinds (take (suc i) ds) ≡ all_kinds (take i ds) ++ kinds_of d.1
 kinds_more [] i d there = absurd (cc)
-kinds_more (x ∷ ds) zero d there = let same : x ≡ d = cc in append-nil (kinds_of x.1) ∙ ap (λ (y : Declaration). kinds_of y.1) same
+kinds_more (x ∷ ds) zero d there = let same : x ≡ d = cc in append-nil (kinds_of x.1) ∙ ap (λ (y : InputDeclaration). kinds_of y.1) same
 kinds_more (x ∷ ds) (suc i) d there = ap (λ l. kinds_of x.1 ++ l) (kinds_more ds i d there) ∙ sym (append_assoc (kinds_of x.1) (all_kinds (take i ds)) (kinds_of d.1))

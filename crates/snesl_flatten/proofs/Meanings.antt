@@ -8,7 +8,7 @@ use Rattle.std.specs.List.{slice_get}
 use Rattle.snesl_data.specs.declared.fault.FaultKind.{FaultKind}
 use Rattle.snesl_data.specs.Types.{Ty}
 use Rattle.snesl_data.specs.Values.{Value, HasType}
-use Rattle.snesl_values.specs.Inputs.{Declaration, Environment, FitDeclarations}
+use Rattle.snesl_values.specs.Inputs.{InputDeclaration, Environment, FitDeclarations}
 use Rattle.snesl_data.specs.Text.{text as text_of_value}
 use Rattle.snesl_tree.specs.Tree.{ProgramTree}
 use Rattle.snesl_evaluation.specs.Answer.{Answer, gives, faults}
@@ -47,26 +47,26 @@ use Rattle.snesl_flatten.proofs.InputValues.{typed_is}
 
 module _ (text : List ℕ) (program : ProgramTree) (environment : Environment) where
   -- the steps of the program whose inputs have these values
-  abbrev steps_with : List Declaration → List Step
+  abbrev steps_with : List InputDeclaration → List Step
   steps_with inputs = program_steps text program inputs (cells_of inputs environment)
 
   -- the streams of the program's value
-  abbrev given_with : List Declaration → Wires
+  abbrev given_with : List InputDeclaration → Wires
   given_with inputs = (program_plan text program inputs (cells_of inputs environment)).given
 
   -- the plan runs, and its streams carry this value
-  abbrev RunsTo : List Declaration → Ty → Value → Type 0
+  abbrev RunsTo : List InputDeclaration → Ty → Value → Type 0
   RunsTo inputs t v =
       (type_of_wires (given_with inputs) ≡ t)
       × ((streams : Columns) × (run (steps_with inputs) [] ≡ Some streams) × (streams_at (numbers_of (given_with inputs)) streams ≡ Some (columns_of_values t (v ∷ []))))
 
   -- the plan runs just where the program has a value
-  abbrev PlanMeans : List Declaration → Ty → Type 0
+  abbrev PlanMeans : List InputDeclaration → Ty → Type 0
   PlanMeans inputs t =
       ((v : Value) → program_value text program environment ≡ gives v → RunsTo inputs t v)
       × ((kind : FaultKind) (at : ℕ) → program_value text program environment ≡ faults kind at → run (steps_with inputs) [] ≡ None)
 
-  module _ (inputs : List Declaration) (t : Ty) (fits : FitDeclarations program.dialect inputs environment) (typing : HasTyping text program inputs t) where
+  module _ (inputs : List InputDeclaration) (t : Ty) (fits : FitDeclarations program.dialect inputs environment) (typing : HasTyping text program inputs t) where
     fits_typing : FitDeclarations program.dialect typing.0.inputs environment
     fits_typing = subst (λ declarations. FitDeclarations program.dialect declarations environment) (sym typing.2) fits
 
@@ -78,7 +78,7 @@ module _ (text : List ℕ) (program : ProgramTree) (environment : Environment) w
     value_is sound v is =
         typed_is program.dialect t v (subst (Safe (λ x. HasType program.dialect x t)) is (sound text program typing.0 t environment typing.1 fits_typing))
 
-module _ (text : List ℕ) (program : ProgramTree) (inputs : List Declaration) (environment : Environment) (states : List StreamNodeState) (edges : List Edge)
+module _ (text : List ℕ) (program : ProgramTree) (inputs : List InputDeclaration) (environment : Environment) (states : List StreamNodeState) (edges : List Edge)
     (is_net : IsNetwork node_behaviour states edges) (set : HasSources text program inputs (columns_of inputs environment) states edges) where
   abbrev plan : List Step
   plan = program_steps text program inputs (cells_of inputs environment)
@@ -91,13 +91,13 @@ module _ (text : List ℕ) (program : ProgramTree) (inputs : List Declaration) (
       → (k : ℕ) → suc k ≡ length states → (p : ℕ) → p < width (type_of_wires w) → slice_get columns p ≡ Some (bodies (in_edge edges k p))
   print_reads streams columns bodies read carried k last p lt =
       let placed : Placed = print_placed (first_offset program.expression) (type_of_wires w) (numbers_of w) in
-      let there : slice_get (layout plan) k ≡ Some placed = print_there text program inputs (cells_of inputs environment) k (last ∙ set.network.nodes) in
+      let there : slice_get (layout plan) k ≡ Some placed = print_there text program inputs (cells_of inputs environment) k (last ∙ set.network.laid.nodes) in
       let inside : k < length states = omega (arith, last) in
       let ports : inputs_at node_behaviour states k ≡ width (type_of_wires w) =
       get_or-map node_behaviour.inputs states k node_behaviour.sample 0 inside ∙ (set.network.performs k placed there).inputs in
-      let many : length (numbers_of w) ≡ width (type_of_wires w) = set.network.reads k placed there in
+      let many : length (numbers_of w) ≡ width (type_of_wires w) = set.network.laid.reads k placed there in
       let e = is_net.wired.in_edge k p inside (omega (arith, ports, lt)) in
-      let joined = set.network.joins (in_edge edges k p) e.0 ∙ ap₂ (λ j q. stream_to (layout plan) j q) e.1 e.2 ∙ ap (λ o. bind o (λ node. slice_get node.reads p)) there in
+      let joined = set.network.laid.joins (in_edge edges k p) e.0 ∙ ap₂ (λ j q. stream_to (layout plan) j q) e.1 e.2 ∙ ap (λ o. bind o (λ node. slice_get node.reads p)) there in
       sym (each_place (slice_get streams) (numbers_of w) columns read p (omega (arith, many, lt)))
       ∙ ap (λ o. bind o (slice_get streams)) (sym joined) ∙ carried (in_edge edges k p) e.0
 

@@ -5,10 +5,10 @@ use Rattle.std.proofs.lemmas.Option.{slice_get-map, slice_get-get_or, slice_get_
 use Rattle.std.proofs.lemmas.List.{length-map, length-set}
 use Rattle.std.specs.List.{slice_get}
 use Rattle.std.specs.Option.{option_map}
-use Rattle.snesl_values.specs.Inputs.{Declaration}
+use Rattle.snesl_values.specs.Inputs.{InputDeclaration}
 use Rattle.snesl_tree.specs.Tree.{ProgramTree}
 use Rattle.snesl_types.specs.Typed.{typed_inputs}
-use Rattle.snesl_types.specs.declared.typed.Typed.{Typed}
+use Rattle.snesl_types.specs.declared.typed.TypedProgram.{TypedProgram}
 use Rattle.flow_messages.specs.declared.message.Kind.{Kind}
 use Rattle.flow_base.specs.Columns.{Columns}
 use Rattle.flow_scalar.specs.Streams.{Items}
@@ -62,7 +62,7 @@ places_length plan k s (step ∷ steps) =
     ap suc (places_length plan (suc (k + length (all_after plan step.at s kinds))) (s + length kinds) steps)
 
 -- the next source has a place among those of the steps
-pub next_within : (text : List ℕ) (program : ProgramTree) (inputs : List Declaration) (columns : Columns) (states : List StreamNodeState) (edges : List Edge)
+pub next_within : (text : List ℕ) (program : ProgramTree) (inputs : List InputDeclaration) (columns : Columns) (states : List StreamNodeState) (edges : List Edge)
     → HasSources text program inputs columns states edges
     → (kind : Kind) → slice_get (all_kinds inputs) (length columns) ≡ Some kind → suc (length columns) < length (places (program_steps text program inputs unset_cells))
 next_within text program inputs columns states edges has kind there =
@@ -71,7 +71,7 @@ next_within text program inputs columns states edges has kind there =
     omega (arith, within, places_length steps 0 0 steps, ap length has.places_are)
 
 -- all sources have places among those of the steps
-pub sources_fit : (text : List ℕ) (program : ProgramTree) (inputs : List Declaration) → length (all_kinds inputs) < length (places (program_steps text program inputs unset_cells))
+pub sources_fit : (text : List ℕ) (program : ProgramTree) (inputs : List InputDeclaration) → length (all_kinds inputs) < length (places (program_steps text program inputs unset_cells))
 sources_fit text program inputs =
     let steps = program_steps text program inputs unset_cells in
     omega (arith, steps_enough text program inputs unset_cells, places_length steps 0 0 steps)
@@ -89,7 +89,7 @@ get_set_other (x ∷ xs) zero (suc k) y other = refl
 get_set_other (x ∷ xs) (suc j) zero y other = refl
 get_set_other (x ∷ xs) (suc j) (suc k) y other = get_set_other xs j k y (λ e. other (ap suc e))
 
-module _ (text : List ℕ) (program : ProgramTree) (inputs : List Declaration) (columns : Columns) (states : List StreamNodeState) (edges : List Edge)
+module _ (text : List ℕ) (program : ProgramTree) (inputs : List InputDeclaration) (columns : Columns) (states : List StreamNodeState) (edges : List Edge)
     (has : HasSources text program inputs columns states edges)
     (set_law : SourceIsSet node_behaviour states edges) (perform : OpeningsPerform) (items : Items) (there : slice_get (all_kinds inputs) (length columns) ≡ Some items.kind)
     (k : ℕ) (place : k ≡ get_or (places (program_steps text program inputs unset_cells)) (suc (length columns)) 0) where
@@ -161,7 +161,7 @@ module _ (text : List ℕ) (program : ProgramTree) (inputs : List Declaration) (
       }
 
 -- Setting a source changes no other node.
-pub others_stay : (typed : Typed) (before states : List StreamNodeState) (n k : ℕ) (s : StreamNodeState) → AreButSources typed before states → n < length (all_kinds (typed_inputs typed))
+pub others_stay : (typed : TypedProgram) (before states : List StreamNodeState) (n k : ℕ) (s : StreamNodeState) → AreButSources typed before states → n < length (all_kinds (typed_inputs typed))
     → k ≡ get_or (places (unset_steps typed)) (suc n) 0 → AreButSources typed before (set states k s)
 others_stay typed before states n k s so_far lt place = record {
   nodes = length-set states k s ∙ so_far.nodes;

@@ -4,7 +4,7 @@ use Rattle.std.proofs.Math.Path.{ap₂}
 use Rattle.std.proofs.lemmas.List.{set-append_left}
 use Rattle.std.proofs.lemmas.Option.{slice_get_within}
 use Rattle.std.specs.List.{slice_get}
-use Rattle.snesl_values.specs.Inputs.{Declaration}
+use Rattle.snesl_values.specs.Inputs.{InputDeclaration}
 use Rattle.snesl_tree.specs.Tree.{ProgramTree}
 use Rattle.flow_messages.specs.Cells.{Cell, unit}
 use Rattle.flow_messages.specs.declared.message.Kind.{Kind}
@@ -34,7 +34,7 @@ source_append at cells n (k ∷ ks) ls =
     ap (λ l. source_step at k (cells n) ∷ l) (source_append at cells (suc n) ks ls ∙ ap (λ m. source_steps at cells (suc n) ks ++ source_steps at cells m ls) e)
 
 -- those of all inputs
-inputs_steps : (at : ℕ) (cells : ℕ → List Cell) (ds : List Declaration) (next : ℕ) → (inputs_sourced at cells ds next).steps ≡ source_steps at cells next (all_kinds ds)
+inputs_steps : (at : ℕ) (cells : ℕ → List Cell) (ds : List InputDeclaration) (next : ℕ) → (inputs_sourced at cells ds next).steps ≡ source_steps at cells next (all_kinds ds)
 unfolding and_then
 inputs_steps at cells [] next = refl
 inputs_steps at cells (d ∷ ds) next =
@@ -42,7 +42,7 @@ inputs_steps at cells (d ∷ ds) next =
     ap (λ l. source_steps at cells next (kinds_of d.1) ++ l) (append-nil (inputs_sourced at cells ds k).steps ∙ inputs_steps at cells ds k) ∙ sym (source_append at cells next (kinds_of d.1) (all_kinds ds))
 
 -- what they write changes no number
-inputs_given : (at : ℕ) (cells other : ℕ → List Cell) (ds : List Declaration) (next : ℕ) →
+inputs_given : (at : ℕ) (cells other : ℕ → List Cell) (ds : List InputDeclaration) (next : ℕ) →
     ((inputs_sourced at cells ds next).given ≡ (inputs_sourced at other ds next).given) × ((inputs_sourced at cells ds next).next ≡ (inputs_sourced at other ds next).next)
 unfolding and_then
 inputs_given at cells other [] next = (refl, refl)
@@ -89,7 +89,7 @@ pushed_last : {A : Type 0} (xs : List A) (x : A) (d : A) → get_or (xs ++ x ∷
 pushed_last [] x d = refl
 pushed_last (y ∷ xs) x d = pushed_last xs x d
 
-module _ (text : List ℕ) (program : ProgramTree) (inputs : List Declaration) where
+module _ (text : List ℕ) (program : ProgramTree) (inputs : List InputDeclaration) where
   abbrev begin : ℕ
   begin = first_offset program.expression
 

@@ -6,7 +6,7 @@ use Rattle.std.specs.Result.{IsErr, IsErrAnd}
 use mathlib.Core.HLevel.{hedberg}
 use denote.Enum.Bare.{sameb}
 use Rattle.snesl_data.specs.declared.refusal.Refusal.{Refusal}
-use Rattle.snesl_types.specs.declared.typed.Typed.{Typed}
+use Rattle.snesl_types.specs.declared.typed.TypedProgram.{TypedProgram}
 use Rattle.snesl_types.specs.Typed.{typed_inputs, typed_text, typed_tree, typed_ty}
 use Rattle.flow_messages.specs.declared.message.Kind.{Kind}
 use Rattle.flow_messages.specs.contracts.message.Kind.{the_type}
@@ -33,7 +33,7 @@ AreWired-prop kinds [] = hlevel
 AreWired-prop kinds (step ∷ steps) = hlevel (props, Kind-set, AreWired-prop (kinds ++ kinds_written step.operation) steps)
 
 -- the steps of a typed program
-pub typed_wired : PlansAreWired → (typed : Typed) → AreWired [] (program_steps (typed_text typed) (typed_tree typed) (typed_inputs typed) unset_cells)
+pub typed_wired : PlansAreWired → (typed : TypedProgram) → AreWired [] (program_steps (typed_text typed) (typed_tree typed) (typed_inputs typed) unset_cells)
 typed_wired wired typed =
     ∥∥₁_elim typed.typed (AreWired-prop [] (program_steps (typed_text typed) (typed_tree typed) (typed_inputs typed) unset_cells)) (λ d.
     subst (λ inputs. AreWired [] (program_steps (typed_text typed) (typed_tree typed) inputs unset_cells)) d.2 (wired (typed_text typed) (typed_tree typed) d.0 (typed_ty typed) unset_cells d.1).0)

@@ -1,7 +1,7 @@
 -- The network of a program, and what it means.
 use Rattle.std.specs.Prelude.{◌≡◌, ℕ, List, length}
 use Rattle.snesl_data.specs.declared.fault.FaultKind.{FaultKind}
-use Rattle.snesl_values.specs.Inputs.{Declaration, Environment}
+use Rattle.snesl_values.specs.Inputs.{InputDeclaration, Environment}
 use Rattle.snesl_data.specs.Values.{Value}
 use Rattle.snesl_data.specs.Text.{text as text_of_value}
 use Rattle.snesl_tree.specs.Tree.{ProgramTree}
@@ -23,7 +23,7 @@ abbrev pub StreamNodeState : Type 0
 StreamNodeState = (t : NodeKind) × (member t).State
 
 -- the steps of a program of these inputs, whose sources write these cells
-abbrev pub program_steps : List ℕ → ProgramTree → List Declaration → (ℕ → List Cell) → List Step
+abbrev pub program_steps : List ℕ → ProgramTree → List InputDeclaration → (ℕ → List Cell) → List Step
 program_steps text program inputs cells = (program_plan text program inputs cells).steps
 
 -- The network has a lawful flow just where the program has a value for these inputs, and then the text that it has printed

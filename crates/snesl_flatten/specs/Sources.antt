@@ -1,6 +1,6 @@
 -- The sources of a plan as they are set one after another.
 use Rattle.std.specs.Prelude.{◌≡◌, ℕ, ◌-◌, List, [], ◌∷◌, ◌++◌, map, slice_index_or}
-use Rattle.snesl_values.specs.Inputs.{Declaration}
+use Rattle.snesl_values.specs.Inputs.{InputDeclaration}
 use Rattle.snesl_tree.specs.Tree.{ProgramTree}
 use Rattle.flow_messages.specs.Cells.{Cell}
 use Rattle.flow_messages.specs.declared.message.Kind.{Kind}
@@ -31,7 +31,7 @@ abbrev pub AreFresh : List TextSource → Type 0
 AreFresh sources = map text_source_state sources ≡ map (λ source. source_opening (items_in source)) sources
 
 -- the kinds of the streams of inputs, in order
-abbrev pub all_kinds : List Declaration → List Kind
+abbrev pub all_kinds : List InputDeclaration → List Kind
 all_kinds [] = []
 all_kinds (declaration ∷ declarations) = kinds_of declaration.1 ++ all_kinds declarations
 
@@ -42,7 +42,7 @@ source_columns columns number = slice_index_or columns (number - 1) []
 -- The network is that of the program whose first sources are set to these columns, before any step: each node is in the state
 -- in which it opens, its faults at the offset of its form. Its last node is a Print, and the nodes of its steps are where
 -- they were.
-pub record HasSources (text : List ℕ) (program : ProgramTree) (inputs : List Declaration) (columns : Columns) (states : List StreamNodeState) (edges : List Edge) : Type 0 where
+pub record HasSources (text : List ℕ) (program : ProgramTree) (inputs : List InputDeclaration) (columns : Columns) (states : List StreamNodeState) (edges : List Edge) : Type 0 where
   pub network : IsNetworkOfPlan node_behaviour (program_steps text program inputs (source_columns columns)) states edges
   pub opens : AllOpen (layout (program_steps text program inputs (source_columns columns))) states
   pub opened : AreOpened node_behaviour states

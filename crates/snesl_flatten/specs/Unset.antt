@@ -9,27 +9,27 @@ use Rattle.flow_plans.specs.Plans.{Step}
 use Rattle.flow_assembly.specs.Openings.{IsUsable}
 use Rattle.snesl_translation.specs.Programs.{unset_cells}
 use Rattle.snesl_types.specs.Typed.{typed_inputs, typed_text, typed_tree}
-use Rattle.snesl_types.specs.declared.typed.Typed.{Typed}
+use Rattle.snesl_types.specs.declared.typed.TypedProgram.{TypedProgram}
 use Rattle.snesl_flatten.specs.Networks.{StreamNodeState, program_steps}
 use Rattle.snesl_flatten.specs.Sources.{all_kinds, HasSources}
 
 -- the steps of a program, whose sources write nothing yet
-abbrev pub unset_steps : Typed → List Step
+abbrev pub unset_steps : TypedProgram → List Step
 unset_steps typed = program_steps (typed_text typed) (typed_tree typed) (typed_inputs typed) unset_cells
 
 -- The network is that of the program, no source of which is set, before any step; and the nodes of the steps are at these places.
-pub record HoldsNetwork (typed : Typed) (states : List StreamNodeState) (edges : List Edge) (at : List ℕ) : Type 0 where
+pub record HoldsNetwork (typed : TypedProgram) (states : List StreamNodeState) (edges : List Edge) (at : List ℕ) : Type 0 where
   pub sources : HasSources (typed_text typed) (typed_tree typed) (typed_inputs typed) [] states edges
   -- each of its forks has two outputs at least
   pub usable : (k : ℕ) (placed : Placed) → slice_get (layout (unset_steps typed)) k ≡ Some placed → IsUsable placed.operation
   pub places_are : at ≡ places (unset_steps typed)
 
 -- node k is the source of a stream of the inputs: those are the steps after the first one, in order
-abbrev pub IsInputSource : Typed → ℕ → Type 0
+abbrev pub IsInputSource : TypedProgram → ℕ → Type 0
 IsInputSource typed k =
     (n : ℕ) × (n < length (all_kinds (typed_inputs typed))) × (k ≡ slice_index_or (places (unset_steps typed)) (suc n) 0)
 
 -- The states are those before, but for the sources of the inputs.
-pub record AreButSources (typed : Typed) (before states : List StreamNodeState) : Type 0 where
+pub record AreButSources (typed : TypedProgram) (before states : List StreamNodeState) : Type 0 where
   pub nodes : length states ≡ length before
   pub others : (k : ℕ) → (IsInputSource typed k → ⊥) → state_at node_behaviour states k ≡ state_at node_behaviour before k

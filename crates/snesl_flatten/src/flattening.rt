@@ -15,7 +15,7 @@ use crate::plan::Plan;
 use crate::steps::steps_of_program;
 use flow_assembly::assemble;
 use snesl_data::Refusal;
-use snesl_types::Typed;
+use snesl_types::TypedProgram;
 use snesl_wiring::plans_are_wired;
 use std::alloc::Global;
 
@@ -29,7 +29,7 @@ use std::alloc::Global;
 ///
 /// - `TooBig`: the network has more than 4,096 nodes or 16,384 edges.
 /// - `NoMemory`: memory was refused.
-pub fn flatten<'a>(alloc: Global, typed: &'a Typed<'a>) -> Result<Plan<'a>, Refusal>
+pub fn flatten<'a>(alloc: Global, typed: &'a TypedProgram<'a>) -> Result<Plan<'a>, Refusal>
     ensures program { IfOk result (λ plan. plan_typed plan ≡ typed.now) }
     ensures network { IfOk result (λ plan. IsNetworkOfPlan node_behaviour
         (program_steps (typed_text typed.now) (typed_tree typed.now)

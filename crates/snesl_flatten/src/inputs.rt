@@ -4,7 +4,7 @@ ghost use Rattle.std.specs.Prelude.{◌≡◌, ◌<◌, ◌≤◌, ◌^◌, ◌+
 ghost use Rattle.std.specs.Arc.{arc_value};
 ghost use Rattle.snesl_data.specs.declared.dialect.Dialect.{Dialect};
 ghost use Rattle.snesl_data.specs.Types.{ty_of};
-ghost use Rattle.snesl_values.specs.Entries.{IsPlaced};
+ghost use Rattle.snesl_values.specs.Entries.{IsSpelledAt};
 ghost use Rattle.snesl_values.specs.Inputs.{declarations_of, declared, environment_of};
 ghost use Rattle.snesl_values.specs.Places.{value_at};
 ghost use Rattle.flow_values.specs.Shapes.{kinds_of};
@@ -52,7 +52,7 @@ fn add_sources(
     place: usize,
     ty: &Ty,
 ) -> Result<(), AllocError>
-    requires placed { (dialect : Dialect) × IsPlaced dialect (arc_value text.now).items
+    requires placed { (dialect : Dialect) × IsSpelledAt dialect (arc_value text.now).items
         (ty_of ty.now) place }
     requires fits { width (ty_of ty.now) < 2 ^ 64 }
     requires fresh { AreFresh sources.old.items }

@@ -21,7 +21,7 @@ use flow_nodes::StreamNode;
 use flow_plans::{plan_is_its_flow, source_is_set};
 use flow_texts::print_tells;
 use snesl_translation::programs_are_planned;
-use snesl_types::{Typed, soundness};
+use snesl_types::{TypedProgram, soundness};
 use snesl_values::{Inputs, inputs_fit};
 use std::alloc::{AllocError, Global};
 
@@ -30,7 +30,7 @@ use std::alloc::{AllocError, Global};
 #[derive(Drop)]
 pub struct Plan<'a> {
     pub(crate) alloc: Global,
-    pub(crate) typed: &'a Typed<'a>,
+    pub(crate) typed: &'a TypedProgram<'a>,
     pub(crate) graph: Graph<StreamNode>,
     // The number of the node of each step.
     pub(crate) places: Vec<usize>,
@@ -41,7 +41,7 @@ impl<'a> Plan<'a> {
     ghost use Rattle.snesl_flatten.specs.PlanViews.{plan_typed, plan_states, plan_edges};
 
     /// The typed program of which it is the plan.
-    pub fn typed(&self) -> &'a Typed<'a>
+    pub fn typed(&self) -> &'a TypedProgram<'a>
         ensures { result.now ≡ plan_typed self.now }
     {
         self.typed
@@ -103,7 +103,7 @@ impl<'a> Plan<'a> {
 // control stream.
 fn set_sources(
     graph: &mut Graph<StreamNode>,
-    typed: &Typed,
+    typed: &TypedProgram,
     places: &Vec<usize>,
     sources: Vec<TextSource>,
 )
@@ -129,7 +129,7 @@ fn set_sources(
 }
 
 // A law and no code to run: what the network means once the sources hold the values of these inputs.
-fn has_meaning(graph: &Graph<StreamNode>, typed: &Typed, inputs: &Inputs)
+fn has_meaning(graph: &Graph<StreamNode>, typed: &TypedProgram, inputs: &Inputs)
     requires in_dialect { dialect_of inputs.now ≡ typed_dialect typed.now }
     requires fits { declarations_of inputs.now ≡ typed_inputs typed.now }
     requires sources { HasSources (typed_text typed.now) (typed_tree typed.now)

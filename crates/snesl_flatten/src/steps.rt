@@ -20,11 +20,14 @@ use snesl_scopes::Scope;
 use snesl_steps::{Binding, Steps, Wires};
 use snesl_translator::{ProgramContext, translate};
 use snesl_tree::Expr;
-use snesl_types::Typed;
+use snesl_types::TypedProgram;
 use std::alloc::Global;
 
 // The steps of a program whose inputs are not set. `TooBig` where they are more than a graph has nodes.
-pub(crate) fn steps_of_program(alloc: Global, typed: &Typed<'_>) -> Result<Vec<Step>, Refusal>
+pub(crate) fn steps_of_program(
+    alloc: Global,
+    typed: &TypedProgram<'_>,
+) -> Result<Vec<Step>, Refusal>
     ensures steps { IfOk result (λ steps. steps_of (typed_dialect typed.now) steps.items ≡
         program_steps (typed_text typed.now) (typed_tree typed.now)
         (typed_inputs typed.now) unset_cells) }
@@ -39,7 +42,7 @@ pub(crate) fn steps_of_program(alloc: Global, typed: &Typed<'_>) -> Result<Vec<S
 }
 
 // Adds them where no step is there yet, and returns the streams of the program's value.
-fn add_program(steps: &mut Steps, typed: &Typed<'_>) -> Result<Wires, Refusal>
+fn add_program(steps: &mut Steps, typed: &TypedProgram<'_>) -> Result<Wires, Refusal>
     requires dialect { dialect_of_steps steps.old ≡ typed_dialect typed.now }
     requires next { next_in steps.old ≡ 0 }
     ensures { Adds wires_of steps.old steps.new

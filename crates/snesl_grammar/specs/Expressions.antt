@@ -2,8 +2,8 @@
 -- A place asks for a level, which says how tightly an expression has to bind to stand there bare: 0 where any
 -- expression may stand, 9 where only a name, a literal, a call or an expression in brackets may.
 use Rattle.std.specs.Prelude.{ℕ, suc, ◌≤◌, ◌<◌, ℤ, Bool, List, [], ◌∷◌, ◌++◌}
-use Rattle.snesl_lexer.specs.declared.token.Kind.{Kind}
-use Rattle.snesl_lexer.specs.declared.token.Kind.TheVariants.{Integer, Name, Let, In, If, Then, Else, LeftParen, RightParen, LeftBrace, RightBrace, Colon, Semicolon, Comma, Bar, Equals}
+use Rattle.snesl_lexer.specs.declared.token.TokenKind.{TokenKind}
+use Rattle.snesl_lexer.specs.declared.token.TokenKind.TheVariants.{Integer, Name, Let, In, If, Then, Else, LeftParen, RightParen, LeftBrace, RightBrace, Colon, Semicolon, Comma, Bar, Equals}
 use Rattle.snesl_lexer.specs.declared.token.Token.{Token}
 use Rattle.snesl_tree.specs.declared.operator.Operator.{Operator}
 use Rattle.snesl_tree.specs.declared.operator.Prefix.{Prefix}
@@ -13,7 +13,7 @@ use Rattle.snesl_tree.specs.Tree.{Tree, Trees, Binders, integer, truth, name, bi
 use Rattle.snesl_grammar.specs.Operators.{level, left_level, prefix_level, sign, prefix_sign, truth_word, word}
 
 -- the token of a kind at an offset
-abbrev pub token : Kind → ℕ → Token
+abbrev pub token : TokenKind → ℕ → Token
 token kind at = record { kind = kind; at = at }
 
 -- the token of the name at a place

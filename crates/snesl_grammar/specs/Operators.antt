@@ -1,7 +1,7 @@
 -- How operators, truth values and built-in functions are written, and how tightly operators bind.
 use Rattle.std.specs.Prelude.{ℕ, Bool, true, false}
-use Rattle.snesl_lexer.specs.declared.token.Kind.{Kind}
-use Rattle.snesl_lexer.specs.declared.token.Kind.TheVariants as kinds
+use Rattle.snesl_lexer.specs.declared.token.TokenKind.{TokenKind}
+use Rattle.snesl_lexer.specs.declared.token.TokenKind.TheVariants as kinds
 use Rattle.snesl_tree.specs.declared.operator.Operator.{Operator}
 use Rattle.snesl_tree.specs.declared.operator.Operator.TheVariants.{Or, And, Equal, Less, AtMost, Greater, AtLeast, Append, Add, Subtract, Multiply, Divide, Remainder, Index}
 use Rattle.snesl_tree.specs.declared.operator.Prefix.{Prefix}
@@ -9,7 +9,7 @@ use Rattle.snesl_tree.specs.declared.operator.Prefix.TheVariants.{Negate, Not}
 use Rattle.snesl_tree.specs.declared.operator.Builtin.{Builtin}
 use Rattle.snesl_tree.specs.declared.operator.Builtin.TheVariants as builtins
 
--- how tightly an operator binds; `let` and `if` reach as far as they can, as if they bound at 0
+-- how tightly an operator binds; `let` and `if` go on as far as they can, as if they bound at 0
 abbrev pub level : Operator → ℕ
 level Or = 1
 level And = 2
@@ -40,7 +40,7 @@ abbrev pub prefix_level : ℕ
 prefix_level = 7
 
 -- the kind of the token that an operator is written by
-abbrev pub sign : Operator → Kind
+abbrev pub sign : Operator → TokenKind
 sign Or = kinds.Or
 sign And = kinds.And
 sign Equal = kinds.Same
@@ -56,16 +56,16 @@ sign Divide = kinds.Slash
 sign Remainder = kinds.Percent
 sign Index = kinds.At
 
-abbrev pub prefix_sign : Prefix → Kind
+abbrev pub prefix_sign : Prefix → TokenKind
 prefix_sign Negate = kinds.Minus
 prefix_sign Not = kinds.Not
 
-abbrev pub truth_word : Bool → Kind
+abbrev pub truth_word : Bool → TokenKind
 truth_word true = kinds.True
 truth_word false = kinds.False
 
 -- the kind of the token that a function is named by
-abbrev pub word : Builtin → Kind
+abbrev pub word : Builtin → TokenKind
 word builtins.Iota = kinds.Iota
 word builtins.ScanAdd = kinds.ScanAdd
 word builtins.ReduceAdd = kinds.ReduceAdd

@@ -2,19 +2,19 @@
 use Rattle.std.specs.Prelude.{ℕ, suc, pos, max, ◌≤◌, List, [], ◌∷◌, ◌++◌}
 use Rattle.snesl_data.specs.declared.dialect.Dialect.{Dialect}
 use Rattle.snesl_data.specs.declared.dialect.Dialect.TheVariants.{One, Two}
-use Rattle.snesl_lexer.specs.declared.token.Kind.TheVariants.{Integer, Dialect as DialectWord, Input, Function, LeftParen, RightParen, Colon, Semicolon, Comma, Equals}
+use Rattle.snesl_lexer.specs.declared.token.TokenKind.TheVariants.{Integer, Dialect as DialectWord, Input, Function, LeftParen, RightParen, Colon, Semicolon, Comma, Equals}
 use Rattle.snesl_lexer.specs.declared.token.Token.{Token}
 use Rattle.snesl_tree.specs.declared.span.Span.{Span}
-use Rattle.snesl_tree.specs.Tree.{Tree, depth, TypeTree, type_depth, Typed, DeclarationTree, declares_input, declares_function, ProgramTree}
+use Rattle.snesl_tree.specs.Tree.{Tree, depth, TypeTree, type_depth, TypedName, DeclarationTree, declares_input, declares_function, ProgramTree}
 use Rattle.snesl_grammar.specs.Expressions.{token, name_token, Whole, Front}
 use Rattle.snesl_grammar.specs.Types.{WholeType, FrontType}
 
 -- the name at a place, with its type
-abbrev pub typed : Span → TypeTree → Typed
+abbrev pub typed : Span → TypeTree → TypedName
 typed place written = record { place = place; written = written }
 
 -- the depth of the deepest type among these parameters'
-abbrev pub parameters_depth : List Typed → ℕ
+abbrev pub parameters_depth : List TypedName → ℕ
 parameters_depth [] = 0
 parameters_depth (first ∷ others) = max (type_depth first.written) (parameters_depth others)
 
@@ -32,12 +32,12 @@ abbrev pub program_depth : ProgramTree → ℕ
 program_depth program = max (declarations_depth program.declarations) (depth program.expression)
 
 -- the tokens are these parameters, parted by commas: one or more
-pub data WholeParameters : List Token → List Typed → Type 0 where
+pub data WholeParameters : List Token → List TypedName → Type 0 where
   -- one parameter: a name, and after a colon its type
   one_parameter : (place : Span) (colon : ℕ) {ts : List Token} {written : TypeTree}
       → WholeType ts written → WholeParameters (name_token place ∷ token Colon colon ∷ ts) (typed place written ∷ [])
   -- parameters, and after a comma one more
-  more_parameters : (comma : ℕ) (place : Span) (colon : ℕ) {ts us : List Token} {given : List Typed} {written : TypeTree}
+  more_parameters : (comma : ℕ) (place : Span) (colon : ℕ) {ts us : List Token} {given : List TypedName} {written : TypeTree}
       → WholeParameters ts given → WholeType us written
       → WholeParameters (ts ++ (token Comma comma ∷ name_token place ∷ token Colon colon ∷ us)) (given ++ typed place written ∷ [])
 
@@ -50,7 +50,7 @@ pub data WholeDeclaration : List Token → DeclarationTree → Type 0 where
       (declares_input (typed place written))
   -- `function name(parameters) : type = body;`
   function_rule : (at : ℕ) (place : Span) (opened closed colon equals semicolon : ℕ) {ts us vs : List Token}
-      {parameters : List Typed} {result : TypeTree} {body : Tree}
+      {parameters : List TypedName} {result : TypeTree} {body : Tree}
       → WholeParameters ts parameters → WholeType us result → Whole 0 vs body
       → WholeDeclaration (token Function at ∷ name_token place ∷ token LeftParen opened
       ∷ (ts ++ (token RightParen closed ∷ token Colon colon ∷ (us ++ (token Equals equals ∷ (vs ++ (token Semicolon semicolon ∷ [])))))))
@@ -89,7 +89,7 @@ pub data FrontParameters : ℕ → List Token → Type 0 where
   -- the tokens end in the first parameter
   first_parameter : {deep : ℕ} {ts : List Token} → FrontParameter deep ts → FrontParameters deep ts
   -- the tokens end in a later parameter
-  next_parameter : {deep : ℕ} (comma : ℕ) {ts us : List Token} {given : List Typed}
+  next_parameter : {deep : ℕ} (comma : ℕ) {ts us : List Token} {given : List TypedName}
       → WholeParameters ts given → parameters_depth given ≤ deep → FrontParameter deep us
       → FrontParameters deep (ts ++ (token Comma comma ∷ us))
 
@@ -106,15 +106,15 @@ pub data FrontDeclaration : ℕ → List Token → Type 0 where
   function_parameters : {deep : ℕ} (at : ℕ) (place : Span) (opened : ℕ) {ts : List Token}
       → FrontParameters deep ts → FrontDeclaration deep (token Function at ∷ name_token place ∷ token LeftParen opened ∷ ts)
   -- the tokens end after the parameters, in the type of the result, in the body
-  function_closed : {deep : ℕ} (at : ℕ) (place : Span) (opened closed : ℕ) {ts : List Token} {parameters : List Typed}
+  function_closed : {deep : ℕ} (at : ℕ) (place : Span) (opened closed : ℕ) {ts : List Token} {parameters : List TypedName}
       → WholeParameters ts parameters → parameters_depth parameters ≤ deep
       → FrontDeclaration deep (token Function at ∷ name_token place ∷ token LeftParen opened ∷ (ts ++ (token RightParen closed ∷ [])))
-  function_result : {deep : ℕ} (at : ℕ) (place : Span) (opened closed colon : ℕ) {ts us : List Token} {parameters : List Typed}
+  function_result : {deep : ℕ} (at : ℕ) (place : Span) (opened closed colon : ℕ) {ts us : List Token} {parameters : List TypedName}
       → WholeParameters ts parameters → parameters_depth parameters ≤ deep → FrontType deep us
       → FrontDeclaration deep (token Function at ∷ name_token place ∷ token LeftParen opened
       ∷ (ts ++ (token RightParen closed ∷ token Colon colon ∷ us)))
   function_body : {deep : ℕ} (at : ℕ) (place : Span) (opened closed colon equals : ℕ) {ts us vs : List Token}
-      {parameters : List Typed} {result : TypeTree}
+      {parameters : List TypedName} {result : TypeTree}
       → WholeParameters ts parameters → parameters_depth parameters ≤ deep → WholeType us result → type_depth result ≤ deep
       → Front 0 deep vs
       → FrontDeclaration deep (token Function at ∷ name_token place ∷ token LeftParen opened

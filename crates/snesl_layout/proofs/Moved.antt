@@ -4,7 +4,7 @@ use Rattle.std.proofs.lemmas.List.{map-append}
 use Rattle.snesl_lexer.specs.declared.token.Token.{Token}
 use Rattle.snesl_data.specs.declared.dialect.Dialect.{Dialect}
 use Rattle.snesl_tree.specs.declared.span.Span.{Span}
-use Rattle.snesl_tree.specs.Tree.{Tree, Trees, Binders, Condition, integer, truth, name, binary, prefix, call, apply, group, pair, binding, choice, literal, filter, each, none, both, none_bound, binder, always, only_where, depth, depth_of_all, depth_of_binders, depth_of_condition, TypeTree, int_type, bool_type, pair_type, vector_type, sequence_type, type_depth, Typed, DeclarationTree, declares_input, declares_function, ProgramTree}
+use Rattle.snesl_tree.specs.Tree.{Tree, Trees, Binders, Condition, integer, truth, name, binary, prefix, call, apply, group, pair, binding, choice, literal, filter, each, none, both, none_bound, binder, always, only_where, depth, depth_of_all, depth_of_binders, depth_of_condition, TypeTree, int_type, bool_type, pair_type, vector_type, sequence_type, type_depth, TypedName, DeclarationTree, declares_input, declares_function, ProgramTree}
 use Rattle.snesl_grammar.specs.Expressions.{added, bound_also, binder_count, greatest_binder_count, Whole, integer_rule, truth_rule, name_rule, binary_rule, prefix_rule, call_rule, apply_rule, group_rule, pair_rule, let_rule, if_rule, literal_rule, filter_rule, each_rule, each_where_rule, WholeArguments, one_rule, more_rule, WholeBinders, one_binder, more_binders}
 use Rattle.snesl_grammar.specs.Types.{WholeType, int_rule, bool_rule, pair_type_rule, vector_rule, sequence_rule}
 use Rattle.snesl_grammar.specs.Programs.{parameters_depth, declaration_depth, declarations_depth, program_depth, WholeParameters, one_parameter, more_parameters, WholeDeclaration, input_rule, function_rule, WholeDeclarations, no_declarations, more_declarations, WholeDialect, no_dialect, dialect_rule, WholeProgram, program_rule}
@@ -53,7 +53,7 @@ module _ (move : ℕ → ℕ) where
   type_moved (vector_type at item) = vector_type (move at) (type_moved item)
   type_moved (sequence_type at item) = sequence_type (move at) (type_moved item)
 
-  abbrev pub typed_moved : Typed → Typed
+  abbrev pub typed_moved : TypedName → TypedName
   typed_moved typed = record { place = place_moved typed.place; written = type_moved typed.written }
 
   abbrev pub declaration_moved : DeclarationTree → DeclarationTree
@@ -133,7 +133,7 @@ module _ (move : ℕ → ℕ) where
   type_whole_moved (sequence_rule {at = at} closed item) =
       simp map-append (sequence_rule {at = move at} (move closed) (type_whole_moved item))
 
-  parameters_moved : {ts : List Token} {parameters : List Typed} → WholeParameters ts parameters
+  parameters_moved : {ts : List Token} {parameters : List TypedName} → WholeParameters ts parameters
       → WholeParameters (map token_moved ts) (map typed_moved parameters)
   parameters_moved (one_parameter place colon written) = one_parameter (place_moved place) (move colon) (type_whole_moved written)
   parameters_moved (more_parameters comma place colon given written) =
@@ -200,7 +200,7 @@ module _ (move : ℕ → ℕ) where
   type_depth_moved (vector_type at item) = ap suc (type_depth_moved item)
   type_depth_moved (sequence_type at item) = ap suc (type_depth_moved item)
 
-  parameters_depth_moved : (parameters : List Typed) → parameters_depth (map typed_moved parameters) ≡ parameters_depth parameters
+  parameters_depth_moved : (parameters : List TypedName) → parameters_depth (map typed_moved parameters) ≡ parameters_depth parameters
   parameters_depth_moved [] = refl
   parameters_depth_moved (first ∷ others) = rw (type_depth_moved first.written, parameters_depth_moved others) refl
 

@@ -1,10 +1,10 @@
 -- Programs whose offsets are moved to the same names are the same programs.
 use Rattle.std.proofs.Common.{ℕ, List, [], ◌∷◌, ◌++◌, map, refl, subst, sym}
-use Rattle.snesl_lexer.specs.declared.token.Kind.{Kind}
-use Rattle.snesl_lexer.specs.declared.token.Kind.TheVariants.{Name}
+use Rattle.snesl_lexer.specs.declared.token.TokenKind.{TokenKind}
+use Rattle.snesl_lexer.specs.declared.token.TokenKind.TheVariants.{Name}
 use Rattle.snesl_lexer.specs.declared.token.Token.{Token}
 use Rattle.snesl_tree.specs.declared.span.Span.{Span}
-use Rattle.snesl_tree.specs.Tree.{Tree, Trees, Binders, TypeTree, int_type, bool_type, pair_type, vector_type, sequence_type, none, both, none_bound, binder, Typed, DeclarationTree, ProgramTree}
+use Rattle.snesl_tree.specs.Tree.{Tree, Trees, Binders, TypeTree, int_type, bool_type, pair_type, vector_type, sequence_type, none, both, none_bound, binder, TypedName, DeclarationTree, ProgramTree}
 use Rattle.snesl_grammar.specs.Expressions.{token, added, bound_also, Whole, integer_rule, truth_rule, name_rule, binary_rule, prefix_rule, call_rule, apply_rule, group_rule, pair_rule, let_rule, if_rule, literal_rule, filter_rule, each_rule, each_where_rule, WholeArguments, one_rule, more_rule, WholeBinders, one_binder, more_binders}
 use Rattle.snesl_grammar.specs.Programs.{WholeParameters, one_parameter, more_parameters, WholeDeclaration, input_rule, function_rule, WholeDeclarations, no_declarations, more_declarations, WholeProgram, program_rule}
 use Rattle.snesl_layout.specs.Same.{IsSameName, IsSame, same_integer, same_truth, same_name, same_binary, same_prefix, same_call, same_apply, same_group, same_pair, same_binding, same_choice, same_literal, same_filter, same_each, AreSame, same_none, same_both, HaveSameBinders, same_none_bound, same_binder, same_always, same_where, IsSameType, same_int, same_bool, same_pair_type, same_vector, same_sequence, IsSameTyped, HaveSameParameters, same_parameter, IsSameDeclaration, same_input, same_function, HaveSameDeclarations, same_declaration, IsSameProgram}
@@ -13,7 +13,7 @@ use Rattle.std.proofs.lemmas.List.{map-append}
 use Rattle.snesl_layout.proofs.Moved.{place_moved, moved, all_moved, binders_moved, added_moved, bound_moved, type_moved, typed_moved, declaration_moved, program_moved}
 
 -- where the token is a name, the texts have it at both offsets
-abbrev pub IsNameKept : (one other : List ℕ) → Kind → (at its_at : ℕ) → Type 0
+abbrev pub IsNameKept : (one other : List ℕ) → TokenKind → (at its_at : ℕ) → Type 0
 IsNameKept one other (Name len) at its_at = IsSameName one other (record { at = at; len = len }) (record { at = its_at; len = len })
 IsNameKept one other _ at its_at = Unit {0}
 
@@ -93,7 +93,7 @@ module _ (one other : List ℕ) (move : ℕ → ℕ) where
   type_same (sequence_type at item) = same_sequence (type_same item)
 
   -- parameters and one more, and declarations
-  also_parameter : (given its_given : List Typed) (last its_last : Typed) → HaveSameParameters one other given its_given → IsSameTyped one other last its_last
+  also_parameter : (given its_given : List TypedName) (last its_last : TypedName) → HaveSameParameters one other given its_given → IsSameTyped one other last its_last
       → HaveSameParameters one other (given ++ last ∷ []) (its_given ++ its_last ∷ [])
   also_parameter [] its_given last its_last same_parameters more = same_parameter more same_parameters
   also_parameter (first ∷ others) its_given last its_last (same_parameter {its_others = its_others} h rest) more =
@@ -106,11 +106,11 @@ module _ (one other : List ℕ) (move : ℕ → ℕ) where
   also_declared (first ∷ others) its_given last its_last (same_declaration {its_others = its_others} h rest) more =
       same_declaration h (also_declared others its_others last its_last rest more)
 
-  parameters_same : {ts : List Token} {parameters : List Typed} → WholeParameters ts parameters → AreNamesKept ts
+  parameters_same : {ts : List Token} {parameters : List TypedName} → WholeParameters ts parameters → AreNamesKept ts
       → HaveSameParameters one other parameters (map (typed_moved move) parameters)
   parameters_same (one_parameter place colon {written = written} whole) kept = same_parameter (kept.0, type_same written) same_parameters
   parameters_same (more_parameters comma place colon {ts = ts} {given = given} {written = written} whole of_type) kept =
-      let last : Typed = record { place = place; written = written } in
+      let last : TypedName = record { place = place; written = written } in
       subst (HaveSameParameters one other (given ++ last ∷ [])) (sym (map-append (typed_moved move) given (last ∷ [])))
       (also_parameter given (map (typed_moved move) given) last (typed_moved move last) (parameters_same whole (front ts _ kept))
       ((back ts _ kept).1.0, type_same written))

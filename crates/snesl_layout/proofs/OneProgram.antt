@@ -4,10 +4,10 @@ use Rattle.std.specs.Result.{IfOk}
 use Rattle.std.proofs.lemmas.Bool.{cond-true, cond-false, eq-eqb, ne_eqb}
 use Rattle.snesl_data.specs.declared.dialect.Dialect.{Dialect}
 use Rattle.snesl_data.specs.declared.refusal.Refusal.{Refusal}
-use Rattle.snesl_lexer.specs.declared.token.Kind.{Kind}
-use Rattle.snesl_lexer.specs.declared.token.Kind.TheVariants.{Name}
+use Rattle.snesl_lexer.specs.declared.token.TokenKind.{TokenKind}
+use Rattle.snesl_lexer.specs.declared.token.TokenKind.TheVariants.{Name}
 use Rattle.snesl_lexer.specs.declared.token.Token.{Token}
-use Rattle.snesl_lexer.specs.declared.lexer.First.TheVariants.{Found}
+use Rattle.snesl_lexer.specs.declared.lexer.Foremost.TheVariants.{Found}
 use Rattle.snesl_lexer.specs.Lexical.{dialect_of, first, Tokens, none_left, skips, takes}
 use Rattle.snesl_lexer.proofs.Longest.{found_some}
 use Rattle.snesl_lexer.proofs.OneReading.{one_tokens}
@@ -31,7 +31,7 @@ data Alike (one other : List ℕ) : List Token → List Token → Type 0 where
       → Alike one other (it ∷ ts) (its ∷ us)
 
 -- tokens with the same word have the same kind, and a name is kept
-name_kept : (one other : List ℕ) (dialect : Dialect) (kind : Kind) (at its_at : ℕ) (word : List ℕ) → first dialect word ≡ Found kind (length word)
+name_kept : (one other : List ℕ) (dialect : Dialect) (kind : TokenKind) (at its_at : ℕ) (word : List ℕ) → first dialect word ≡ Found kind (length word)
     → take (length word) (drop at one) ≡ word → take (length word) (drop its_at other) ≡ word → IsNameKept one other kind at its_at
 name_kept one other dialect (Name len) at its_at word e stands its_stands =
     let size : len ≡ length word = name_len dialect word len (length word) e in

@@ -12,11 +12,11 @@ use Rattle.snesl_data.specs.declared.dialect.Dialect.{Dialect}
 use Rattle.snesl_data.specs.Integers.{greatest_integer}
 use Rattle.snesl_data.specs.Blanks.{is_blank}
 use Rattle.snesl_data.specs.Characters.{is_word, value_from}
-use Rattle.snesl_lexer.specs.declared.token.Kind.{Kind}
-use Rattle.snesl_lexer.specs.declared.token.Kind.TheVariants.{Name, Integer}
+use Rattle.snesl_lexer.specs.declared.token.TokenKind.{TokenKind}
+use Rattle.snesl_lexer.specs.declared.token.TokenKind.TheVariants.{Name, Integer}
 use Rattle.snesl_lexer.specs.declared.token.Token.{Token}
-use Rattle.snesl_lexer.specs.declared.lexer.First.{First}
-use Rattle.snesl_lexer.specs.declared.lexer.First.TheVariants.{Blank, Found, Bad}
+use Rattle.snesl_lexer.specs.declared.lexer.Foremost.{Foremost}
+use Rattle.snesl_lexer.specs.declared.lexer.Foremost.TheVariants.{Blank, Found, Bad}
 use Rattle.snesl_lexer.specs.Tables.{kind_in}
 use Rattle.snesl_lexer.specs.Words.{word_kind, reserved_words}
 use Rattle.snesl_lexer.specs.Signs.{one_byte_signs, two_byte_signs, longer_sign, sign_token}
@@ -27,11 +27,11 @@ use Rattle.snesl_lexer.proofs.Tables.{kind_in_passes}
 use Rattle.snesl_layout.specs.Spacing.{is_printed, next_at, token_bytes}
 
 -- what stands first in bytes is all that stands in its own bytes
-longest_at : (dialect : Dialect) (bytes : List ℕ) (kind : Kind) (len : ℕ) → first dialect bytes ≡ Found kind len
+longest_at : (dialect : Dialect) (bytes : List ℕ) (kind : TokenKind) (len : ℕ) → first dialect bytes ≡ Found kind len
     → IsLongest dialect bytes len (token kind)
 longest_at dialect bytes kind len e = (first_is_longest dialect bytes (Found kind len)).0 e
 
-reads_alone : (dialect : Dialect) (bytes : List ℕ) (kind : Kind) (len : ℕ) → first dialect bytes ≡ Found kind len
+reads_alone : (dialect : Dialect) (bytes : List ℕ) (kind : TokenKind) (len : ℕ) → first dialect bytes ≡ Found kind len
     → first dialect (take len bytes) ≡ Found kind len
 reads_alone dialect bytes kind len e =
     let longest = longest_at dialect bytes kind len e in
@@ -69,7 +69,7 @@ lexeme_printed dialect (b ∷ bs) meaning (a_sign {kind = kind} e) = kind_in_pas
 lexeme_printed dialect (b ∷ bs) meaning (a_long_sign {kind = kind} e) = kind_in_passes (list_all is_printed) two_byte_signs (b ∷ bs) kind refl e
 
 -- a word has one kind in all dialects
-number_kind : (dialect : Dialect) (digits : List ℕ) (kind : Kind) (len : ℕ) → number dialect digits ≡ Found kind len
+number_kind : (dialect : Dialect) (digits : List ℕ) (kind : TokenKind) (len : ℕ) → number dialect digits ≡ Found kind len
     → kind ≡ Integer (pos (value_from 0 digits))
 number_kind dialect digits kind len e = by_test (leb (value_from 0 digits) (greatest_integer dialect)) e
   where
@@ -78,12 +78,12 @@ number_kind dialect digits kind len e = by_test (leb (value_from 0 digits) (grea
     by_test true f = cc
     by_test false f = cc
 
-pub one_kind : (dialect its_dialect : Dialect) (word : List ℕ) (kind its_kind : Kind) (len its_len : ℕ)
+pub one_kind : (dialect its_dialect : Dialect) (word : List ℕ) (kind its_kind : TokenKind) (len its_len : ℕ)
     → first dialect word ≡ Found kind len → first its_dialect word ≡ Found its_kind its_len → kind ≡ its_kind
 one_kind dialect its_dialect [] kind its_kind len its_len e f = cc
 one_kind dialect its_dialect (b ∷ bs) kind its_kind len its_len e f = by_class (is_blank b) (is_ascii_alphabetic b) (is_ascii_digit b) e f
   where
-    word : First
+    word : Foremost
     word = let word = take_while is_word (b ∷ bs) in Found (word_kind word) (length word)
 
     digits : List ℕ
@@ -97,15 +97,15 @@ one_kind dialect its_dialect (b ∷ bs) kind its_kind len its_len e f = by_class
     by_class false false false g h = cc
 
 -- a name is as long as its word
-abbrev is_no_name : Kind → Bool
+abbrev is_no_name : TokenKind → Bool
 is_no_name (Name len) = false
 is_no_name _ = true
 
-kinds_pass : (p : Kind → Bool) (rows : List (List ℕ × Kind)) (text : List ℕ) (kind : Kind)
-    → list_all (λ (row : List ℕ × Kind). p row.1) rows ≡ true → kind_in rows text ≡ Some kind → p kind ≡ true
+kinds_pass : (p : TokenKind → Bool) (rows : List (List ℕ × TokenKind)) (text : List ℕ) (kind : TokenKind)
+    → list_all (λ (row : List ℕ × TokenKind). p row.1) rows ≡ true → kind_in rows text ≡ Some kind → p kind ≡ true
 kinds_pass p [] text kind all found = cc
 kinds_pass p (row ∷ rows) text kind all found =
-    let parts = and_parts (p row.1) (list_all (λ (r : List ℕ × Kind). p r.1) rows) all in
+    let parts = and_parts (p row.1) (list_all (λ (r : List ℕ × TokenKind). p r.1) rows) all in
     by_test (bytes_eq text row.0) parts.0 (kinds_pass p rows text kind parts.1) found
   where
     by_test : (b : Bool) → p row.1 ≡ true → (kind_in rows text ≡ Some kind → p kind ≡ true)
@@ -113,22 +113,22 @@ kinds_pass p (row ∷ rows) text kind all found =
     by_test true here later found = let same : row.1 ≡ kind = cc in ap p (sym same) ∙ here
     by_test false here later found = later found
 
-no_name : (rows : List (List ℕ × Kind)) (text : List ℕ) (len : ℕ)
-    → list_all (λ (row : List ℕ × Kind). is_no_name row.1) rows ≡ true → kind_in rows text ≡ Some (Name len) → ⊥
+no_name : (rows : List (List ℕ × TokenKind)) (text : List ℕ) (len : ℕ)
+    → list_all (λ (row : List ℕ × TokenKind). is_no_name row.1) rows ≡ true → kind_in rows text ≡ Some (Name len) → ⊥
 no_name rows text len all found = let none : is_no_name (Name len) ≡ true = kinds_pass is_no_name rows text (Name len) all found in cc
 
 word_len : (word : List ℕ) (len : ℕ) → word_kind word ≡ Name len → len ≡ length word
 word_len word len e = by_row (kind_in reserved_words word) refl e
   where
-    by_row : (row : Option Kind) → kind_in reserved_words word ≡ row → unwrap_or row (Name (length word)) ≡ Name len → len ≡ length word
+    by_row : (row : Option TokenKind) → kind_in reserved_words word ≡ row → unwrap_or row (Name (length word)) ≡ Name len → len ≡ length word
     by_row (Some kind) f g = absurd (no_name reserved_words word len refl (f ∙ ap Some g))
     by_row None f g = cc
 
 no_sign_name : (b next len n : ℕ) → sign_token b next ≡ Found (Name len) n → ⊥
 no_sign_name b next len n e = by_signs (kind_in two_byte_signs (b ∷ next ∷ [])) refl (kind_in one_byte_signs (b ∷ [])) refl e
   where
-    by_signs : (two : Option Kind) → kind_in two_byte_signs (b ∷ next ∷ []) ≡ two
-        → (one : Option Kind) → kind_in one_byte_signs (b ∷ []) ≡ one → longer_sign two one ≡ Found (Name len) n → ⊥
+    by_signs : (two : Option TokenKind) → kind_in two_byte_signs (b ∷ next ∷ []) ≡ two
+        → (one : Option TokenKind) → kind_in one_byte_signs (b ∷ []) ≡ one → longer_sign two one ≡ Found (Name len) n → ⊥
     by_signs (Some kind) f one g h = let same : kind ≡ Name len = cc in no_name two_byte_signs (b ∷ next ∷ []) len refl (f ∙ ap Some same)
     by_signs None f (Some kind) g h = let same : kind ≡ Name len = cc in no_name one_byte_signs (b ∷ []) len refl (g ∙ ap Some same)
     by_signs None f None g h = cc
@@ -210,7 +210,7 @@ pub record IsWordOf (dialect : Dialect) (text : List ℕ) (it : Token) (word : L
   pub reads : first dialect word ≡ Found it.kind (length word)
   pub stands : take (length word) (drop it.at text) ≡ word
 
-word_of : (dialect : Dialect) (text : List ℕ) {ts : List Token} (at len : ℕ) (kind : Kind) → at ≤ length text
+word_of : (dialect : Dialect) (text : List ℕ) {ts : List Token} (at len : ℕ) (kind : TokenKind) → at ≤ length text
     → first dialect (drop at text) ≡ Found kind len → Tokens dialect (at + len) (drop len (drop at text)) ts
     → IsWordOf dialect text (record { kind = kind; at = at }) (token_bytes text (record { kind = kind; at = at }) ts)
 word_of dialect text {ts = ts} at len kind within e h =

@@ -7,7 +7,7 @@ use Rattle.snesl_tree.specs.declared.operator.Operator.{Operator}
 use Rattle.snesl_tree.specs.declared.operator.Prefix.{Prefix}
 use Rattle.snesl_tree.specs.declared.span.Span.{Span}
 use Rattle.snesl_tree.specs.Spelling.{spelling}
-use Rattle.snesl_tree.specs.Tree.{Tree, Trees, Binders, Condition, integer, truth, name, binary, prefix, call, apply, group, pair, binding, choice, literal, filter, each, none, both, none_bound, binder, always, only_where, TypeTree, int_type, bool_type, pair_type, vector_type, sequence_type, Typed, DeclarationTree, declares_input, declares_function, ProgramTree}
+use Rattle.snesl_tree.specs.Tree.{Tree, Trees, Binders, Condition, integer, truth, name, binary, prefix, call, apply, group, pair, binding, choice, literal, filter, each, none, both, none_bound, binder, always, only_where, TypeTree, int_type, bool_type, pair_type, vector_type, sequence_type, TypedName, DeclarationTree, declares_input, declares_function, ProgramTree}
 use Rattle.snesl_syntax.specs.Parse.{Parses}
 
 -- one text has at one place the bytes that the other has at the other: the same name
@@ -83,21 +83,21 @@ pub data IsSameType : TypeTree → TypeTree → Type 0 where
       → IsSameType item its_item → IsSameType (sequence_type at item) (sequence_type its_at its_item)
 
 -- two names with their types are the same but for offsets
-abbrev pub IsSameTyped : (one other : List ℕ) → Typed → Typed → Type 0
+abbrev pub IsSameTyped : (one other : List ℕ) → TypedName → TypedName → Type 0
 IsSameTyped one other typed its_typed = IsSameName one other typed.place its_typed.place × IsSameType typed.written its_typed.written
 
 -- so are parameters, in their order
-pub data HaveSameParameters (one other : List ℕ) : List Typed → List Typed → Type 0 where
+pub data HaveSameParameters (one other : List ℕ) : List TypedName → List TypedName → Type 0 where
   no_parameters : HaveSameParameters one other [] []
-  same_parameter : {first its_first : Typed} {others its_others : List Typed}
+  same_parameter : {first its_first : TypedName} {others its_others : List TypedName}
       → IsSameTyped one other first its_first → HaveSameParameters one other others its_others
       → HaveSameParameters one other (first ∷ others) (its_first ∷ its_others)
 
 -- so are two declarations
 pub data IsSameDeclaration (one other : List ℕ) : DeclarationTree → DeclarationTree → Type 0 where
-  same_input : {typed its_typed : Typed}
+  same_input : {typed its_typed : TypedName}
       → IsSameTyped one other typed its_typed → IsSameDeclaration one other (declares_input typed) (declares_input its_typed)
-  same_function : {place its_place : Span} {parameters its_parameters : List Typed} {result its_result : TypeTree} {body its_body : Tree}
+  same_function : {place its_place : Span} {parameters its_parameters : List TypedName} {result its_result : TypeTree} {body its_body : Tree}
       → IsSameName one other place its_place → HaveSameParameters one other parameters its_parameters
       → IsSameType result its_result → IsSame one other body its_body
       → IsSameDeclaration one other (declares_function place parameters result body)

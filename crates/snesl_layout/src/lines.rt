@@ -4,7 +4,7 @@ ghost use Rattle.std.specs.Prelude.{◌≡◌, ◌≤◌};
 ghost use Rattle.snesl_layout.specs.Lines.{begins_statement, ends, ends_line, ends_statement, fits_behind, flat_after, gap_before, gap_len, in_line_after, begins_body, breaks_after, breaks_before, fills, follows_then, is_beyond, is_broken, is_cut, is_let_end, is_literal, levels_after, line_levels, margin, may_break, part_after, part_of, room_after, start, state_after, stop_of, then_begins_after, wraps, breaks};
 
 use crate::spacing::{closes, deeper, depth_after, is_glued, opens, token_bytes};
-use snesl_lexer::{Kind, Token};
+use snesl_lexer::{Token, TokenKind};
 
 // The bytes of a line are so many, and one more for what closes it.
 const WIDTH: usize = 99;
@@ -64,8 +64,8 @@ pub struct State {
     pub after_let: bool,
     /// Whether the last `then` in what does not fit begins a line.
     pub then_begins: bool,
-    pub before: Kind,
-    pub last: Kind,
+    pub before: TokenKind,
+    pub last: TokenKind,
 }
 
 // Before all tokens.
@@ -80,38 +80,43 @@ pub fn start() -> State
         room: WIDTH,
         after_let: false,
         then_begins: false,
-        before: Kind::Semicolon,
-        last: Kind::Semicolon,
+        before: TokenKind::Semicolon,
+        last: TokenKind::Semicolon,
     }
 }
 
 // Whether a line always breaks beside the token.
-fn ends_line(kind: Kind) -> bool
+fn ends_line(kind: TokenKind) -> bool
     ensures { result ≡ ends_line kind }
 {
     matches!(
         kind,
-        Kind::Comma | Kind::Semicolon | Kind::Colon | Kind::Bar | Kind::In
+        TokenKind::Comma | TokenKind::Semicolon | TokenKind::Colon | TokenKind::Bar | TokenKind::In
     )
 }
 
 // Whether a line may break before the token.
-fn wraps(kind: Kind) -> bool
+fn wraps(kind: TokenKind) -> bool
     ensures { result ≡ wraps kind }
 {
     matches!(
         kind,
-        Kind::Then | Kind::Else | Kind::Or | Kind::And | Kind::Append | Kind::Plus
+        TokenKind::Then
+            | TokenKind::Else
+            | TokenKind::Or
+            | TokenKind::And
+            | TokenKind::Append
+            | TokenKind::Plus
     )
 }
 
 // Whether what is looked at ends before the token.
-fn ends(stop: Stop, kind: Kind) -> bool
+fn ends(stop: Stop, kind: TokenKind) -> bool
     ensures { result ≡ ends stop kind }
 {
     match stop {
-        Stop::Bracket => !closes(kind) && !matches!(kind, Kind::Comma | Kind::Semicolon),
-        Stop::Statement => matches!(kind, Kind::Semicolon),
+        Stop::Bracket => !closes(kind) && !matches!(kind, TokenKind::Comma | TokenKind::Semicolon),
+        Stop::Statement => matches!(kind, TokenKind::Semicolon),
         Stop::Line => closes(kind) || ends_line(kind),
         Stop::Piece => closes(kind) || ends_line(kind) || wraps(kind),
     }
@@ -119,17 +124,17 @@ fn ends(stop: Stop, kind: Kind) -> bool
 
 // Whether a line breaks anyway behind the token, up to where it is looked: a `let` that does not stand in brackets goes on in a new
 // line behind its `in`.
-fn is_cut(stop: Stop, kind: Kind) -> bool
+fn is_cut(stop: Stop, kind: TokenKind) -> bool
     ensures { result ≡ is_cut stop kind }
 {
     match stop {
-        Stop::Line => matches!(kind, Kind::Let),
+        Stop::Line => matches!(kind, TokenKind::Let),
         _ => false,
     }
 }
 
 // How many bytes stand between two tokens of a line.
-fn gap_len(before: Kind, last: Kind, next: Kind) -> usize
+fn gap_len(before: TokenKind, last: TokenKind, next: TokenKind) -> usize
     ensures count { result ≡ gap_len before last next }
     ensures few { result ≤ 1 }
 {
@@ -141,8 +146,8 @@ fn fits_behind(
     text: &[u8],
     stop: Stop,
     room: usize,
-    before: Kind,
-    last: Kind,
+    before: TokenKind,
+    last: TokenKind,
     tokens: &[Token],
 ) -> bool
     ensures { result ≡ fits_behind text.now stop room before last tokens.now }
@@ -176,7 +181,7 @@ fn fits_behind(
 fn ends_statement(state: State) -> bool
     ensures { result ≡ ends_statement state }
 {
-    matches!(state.last, Kind::Semicolon) && state.levels == 0 && state.flat == 0
+    matches!(state.last, TokenKind::Semicolon) && state.levels == 0 && state.flat == 0
 }
 
 // Whether a declaration or the expression begins.
@@ -194,7 +199,7 @@ fn begins_body(state: State) -> bool
     ensures { result ≡ begins_body state }
 {
     match (state.part, state.last) {
-        (Part::Header, Kind::Equals) => true,
+        (Part::Header, TokenKind::Equals) => true,
         _ => false,
     }
 }
@@ -207,62 +212,65 @@ fn is_broken(state: State) -> bool
 }
 
 // Whether an item may be just this token: an integer or a truth value.
-fn is_literal(kind: Kind) -> bool
+fn is_literal(kind: TokenKind) -> bool
     ensures { result ≡ is_literal kind }
 {
-    matches!(kind, Kind::Integer(_) | Kind::True | Kind::False)
+    matches!(
+        kind,
+        TokenKind::Integer(_) | TokenKind::True | TokenKind::False
+    )
 }
 
 // Whether an item that begins so goes on in the line of the one before: behind a literal a literal, or `-`.
-fn fills(before: Kind, kind: Kind) -> bool
+fn fills(before: TokenKind, kind: TokenKind) -> bool
     ensures { result ≡ fills before kind }
 {
-    is_literal(before) && (is_literal(kind) || matches!(kind, Kind::Minus))
+    is_literal(before) && (is_literal(kind) || matches!(kind, TokenKind::Minus))
 }
 
 // Whether a line breaks there after the last token.
-fn breaks_after(state: State, kind: Kind) -> bool
+fn breaks_after(state: State, kind: TokenKind) -> bool
     ensures { result ≡ breaks_after state kind }
 {
     match state.last {
-        Kind::LeftBrace | Kind::Semicolon => true,
-        Kind::Comma => !fills(state.before, kind),
-        Kind::In => state.after_let,
+        TokenKind::LeftBrace | TokenKind::Semicolon => true,
+        TokenKind::Comma => !fills(state.before, kind),
+        TokenKind::In => state.after_let,
         _ => begins_body(state),
     }
 }
 
 // Whether a line breaks there before a token.
-fn breaks_before(state: State, kind: Kind) -> bool
+fn breaks_before(state: State, kind: TokenKind) -> bool
     ensures { result ≡ breaks_before state kind }
 {
     match kind {
-        Kind::RightBrace | Kind::Bar => true,
-        Kind::Colon => state.levels > 0,
+        TokenKind::RightBrace | TokenKind::Bar => true,
+        TokenKind::Colon => state.levels > 0,
         _ => false,
     }
 }
 
 // Whether a line breaks there where what follows does not fit.
-fn may_break(state: State, kind: Kind) -> bool
+fn may_break(state: State, kind: TokenKind) -> bool
     ensures { result ≡ may_break state kind }
 {
-    wraps(kind) || matches!(state.last, Kind::Comma)
+    wraps(kind) || matches!(state.last, TokenKind::Comma)
 }
 
 // Whether the token is the `else` of an `if` whose `then` begins a line.
-fn follows_then(state: State, kind: Kind) -> bool
+fn follows_then(state: State, kind: TokenKind) -> bool
     ensures { result ≡ follows_then state kind }
 {
-    matches!(kind, Kind::Else) && state.then_begins
+    matches!(kind, TokenKind::Else) && state.then_begins
 }
 
 // Up to where it is looked whether a line breaks before a token.
-fn stop_of(kind: Kind) -> Stop
+fn stop_of(kind: TokenKind) -> Stop
     ensures { result ≡ stop_of kind }
 {
     match kind {
-        Kind::Then | Kind::Else => Stop::Line,
+        TokenKind::Then | TokenKind::Else => Stop::Line,
         _ => Stop::Piece,
     }
 }
@@ -303,11 +311,11 @@ fn breaks(text: &[u8], state: State, token: Token, after: &[Token]) -> bool
 }
 
 // By how many levels a line is indented.
-fn line_levels(state: State, kind: Kind) -> u8
+fn line_levels(state: State, kind: TokenKind) -> u8
     ensures { result ≡ line_levels state kind }
 {
     let levels = match kind {
-        Kind::RightBrace => state.levels.saturating_sub(1),
+        TokenKind::RightBrace => state.levels.saturating_sub(1),
         _ => state.levels,
     };
     match state.part {
@@ -317,12 +325,12 @@ fn line_levels(state: State, kind: Kind) -> u8
 }
 
 // What stands before a declaration or the expression: nothing before the first, and an empty line but between inputs.
-fn margin(part: Part, kind: Kind) -> Gap
+fn margin(part: Part, kind: TokenKind) -> Gap
     ensures { result ≡ margin part kind }
 {
     match (part, kind) {
         (Part::Start, _) => Gap::Nothing,
-        (Part::Input, Kind::Input) => Gap::Line(0),
+        (Part::Input, TokenKind::Input) => Gap::Line(0),
         _ => Gap::EmptyLine,
     }
 }
@@ -355,18 +363,18 @@ fn room_after(state: State, gap: Gap, len: usize) -> usize
 }
 
 // What begins with a token of this kind.
-fn part_of(kind: Kind) -> Part
+fn part_of(kind: TokenKind) -> Part
     ensures { result ≡ part_of kind }
 {
     match kind {
-        Kind::Input => Part::Input,
-        Kind::Function => Part::Header,
+        TokenKind::Input => Part::Input,
+        TokenKind::Function => Part::Header,
         _ => Part::Other,
     }
 }
 
 // In what the token stands.
-fn part_after(state: State, kind: Kind) -> Part
+fn part_after(state: State, kind: TokenKind) -> Part
     ensures { result ≡ part_after state kind }
 {
     if begins_statement(state) {
@@ -379,7 +387,7 @@ fn part_after(state: State, kind: Kind) -> Part
 }
 
 // Whether a declaration or the expression fits into a line: that is looked up where it begins, and where the body does.
-fn in_line_after(text: &[u8], state: State, room: usize, kind: Kind, after: &[Token]) -> bool
+fn in_line_after(text: &[u8], state: State, room: usize, kind: TokenKind, after: &[Token]) -> bool
     ensures { result ≡ in_line_after text.now state room kind after.now }
 {
     if begins_statement(state) || begins_body(state) {
@@ -390,7 +398,7 @@ fn in_line_after(text: &[u8], state: State, room: usize, kind: Kind, after: &[To
 }
 
 // How many brackets are open then of those that fit.
-fn flat_after(state: State, in_line: bool, fits: bool, kind: Kind) -> u8
+fn flat_after(state: State, in_line: bool, fits: bool, kind: TokenKind) -> u8
     ensures { result ≡ flat_after state in_line fits kind }
 {
     if !opens(kind) || in_line || state.flat > 0 {
@@ -403,35 +411,35 @@ fn flat_after(state: State, in_line: bool, fits: bool, kind: Kind) -> u8
 }
 
 // How many braces are open then that do not fit.
-fn levels_after(state: State, in_line: bool, fits: bool, kind: Kind) -> u8
+fn levels_after(state: State, in_line: bool, fits: bool, kind: TokenKind) -> u8
     ensures { result ≡ levels_after state in_line fits kind }
 {
     if in_line || state.flat > 0 {
         return state.levels;
     }
     match kind {
-        Kind::LeftBrace if !fits => deeper(state.levels),
-        Kind::RightBrace => state.levels.saturating_sub(1),
+        TokenKind::LeftBrace if !fits => deeper(state.levels),
+        TokenKind::RightBrace => state.levels.saturating_sub(1),
         _ => state.levels,
     }
 }
 
 // Whether the token is the `in` of a `let`: that of a binder stands behind a name and `:` or `;`.
-fn is_let_end(state: State, kind: Kind) -> bool
+fn is_let_end(state: State, kind: TokenKind) -> bool
     ensures { result ≡ is_let_end kind state.before }
 {
     match (kind, state.before) {
-        (Kind::In, Kind::Colon | Kind::Semicolon) => false,
-        (Kind::In, _) => true,
+        (TokenKind::In, TokenKind::Colon | TokenKind::Semicolon) => false,
+        (TokenKind::In, _) => true,
         _ => false,
     }
 }
 
 // Whether the last `then` in what does not fit begins a line.
-fn then_begins_after(state: State, gap: Gap, kind: Kind) -> bool
+fn then_begins_after(state: State, gap: Gap, kind: TokenKind) -> bool
     ensures { result ≡ then_begins_after state gap kind }
 {
-    if is_broken(state) && matches!(kind, Kind::Then) {
+    if is_broken(state) && matches!(kind, TokenKind::Then) {
         matches!(gap, Gap::Line(_))
     } else {
         state.then_begins

@@ -5,22 +5,25 @@ ghost use Rattle.std.specs.List.{prefix_len};
 ghost use Rattle.snesl_layout.specs.Spacing.{closes, depth_after, ends_operand, is_glued, is_prefix_minus, is_printed, names_function, deeper, opens, token_bytes, next_at};
 
 use snesl_data::is_blank;
-use snesl_lexer::{Kind, Token};
+use snesl_lexer::{Token, TokenKind};
 
 // Whether a bracket opens.
-pub fn opens(kind: Kind) -> bool
+pub fn opens(kind: TokenKind) -> bool
     ensures { result ≡ opens kind }
 {
-    matches!(kind, Kind::LeftParen | Kind::LeftBracket | Kind::LeftBrace)
+    matches!(
+        kind,
+        TokenKind::LeftParen | TokenKind::LeftBracket | TokenKind::LeftBrace
+    )
 }
 
 // Whether a bracket closes.
-pub fn closes(kind: Kind) -> bool
+pub fn closes(kind: TokenKind) -> bool
     ensures { result ≡ closes kind }
 {
     matches!(
         kind,
-        Kind::RightParen | Kind::RightBracket | Kind::RightBrace
+        TokenKind::RightParen | TokenKind::RightBracket | TokenKind::RightBrace
     )
 }
 
@@ -32,7 +35,7 @@ pub fn deeper(depth: u8) -> u8
 }
 
 // How many brackets are open after a token.
-pub fn depth_after(depth: u8, kind: Kind) -> u8
+pub fn depth_after(depth: u8, kind: TokenKind) -> u8
     ensures { result ≡ depth_after depth kind }
 {
     if opens(kind) {
@@ -45,59 +48,59 @@ pub fn depth_after(depth: u8, kind: Kind) -> u8
 }
 
 // Whether an expression may end with the token, so that `-` behind it has two operands.
-fn ends_operand(kind: Kind) -> bool
+fn ends_operand(kind: TokenKind) -> bool
     ensures { result ≡ ends_operand kind }
 {
     match kind {
-        Kind::Integer(_) | Kind::Name(_) | Kind::True | Kind::False => true,
+        TokenKind::Integer(_) | TokenKind::Name(_) | TokenKind::True | TokenKind::False => true,
         _ => closes(kind),
     }
 }
 
 // Whether the token is the name of a function where `(` follows.
-fn names_function(kind: Kind) -> bool
+fn names_function(kind: TokenKind) -> bool
     ensures { result ≡ names_function kind }
 {
     matches!(
         kind,
-        Kind::Name(_)
-            | Kind::Iota
-            | Kind::ScanAdd
-            | Kind::ReduceAdd
-            | Kind::ReduceMax
-            | Kind::ReduceAnd
-            | Kind::ReduceOr
-            | Kind::Length
-            | Kind::Concat
-            | Kind::Part
-            | Kind::The
-            | Kind::Tab
-            | Kind::Seq
-            | Kind::Fst
-            | Kind::Snd
+        TokenKind::Name(_)
+            | TokenKind::Iota
+            | TokenKind::ScanAdd
+            | TokenKind::ReduceAdd
+            | TokenKind::ReduceMax
+            | TokenKind::ReduceAnd
+            | TokenKind::ReduceOr
+            | TokenKind::Length
+            | TokenKind::Concat
+            | TokenKind::Part
+            | TokenKind::The
+            | TokenKind::Tab
+            | TokenKind::Seq
+            | TokenKind::Fst
+            | TokenKind::Snd
     )
 }
 
 // Whether the last token is a `-` with one operand, by the token before it.
-fn is_prefix_minus(before: Kind, last: Kind) -> bool
+fn is_prefix_minus(before: TokenKind, last: TokenKind) -> bool
     ensures { result ≡ is_prefix_minus before last }
 {
     match last {
-        Kind::Minus => !ends_operand(before),
+        TokenKind::Minus => !ends_operand(before),
         _ => false,
     }
 }
 
 // Whether nothing stands between the last token and the next one in a line.
-pub fn is_glued(before: Kind, last: Kind, next: Kind) -> bool
+pub fn is_glued(before: TokenKind, last: TokenKind, next: TokenKind) -> bool
     ensures { result ≡ is_glued before last next }
 {
     if opens(last) || closes(next) || is_prefix_minus(before, last) {
         return true;
     }
     match next {
-        Kind::Comma | Kind::Semicolon => true,
-        Kind::LeftParen => names_function(last),
+        TokenKind::Comma | TokenKind::Semicolon => true,
+        TokenKind::LeftParen => names_function(last),
         _ => false,
     }
 }

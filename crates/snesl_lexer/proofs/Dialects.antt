@@ -8,11 +8,11 @@ use Rattle.snesl_data.specs.declared.dialect.Dialect.TheVariants.{One, Two}
 use Rattle.snesl_data.specs.Integers.{greatest_integer}
 use Rattle.snesl_data.specs.Blanks.{is_blank}
 use Rattle.snesl_data.specs.Characters.{is_word, value_from}
-use Rattle.snesl_lexer.specs.declared.token.Kind.{Kind}
-use Rattle.snesl_lexer.specs.declared.token.Kind.TheVariants as kinds
+use Rattle.snesl_lexer.specs.declared.token.TokenKind.{TokenKind}
+use Rattle.snesl_lexer.specs.declared.token.TokenKind.TheVariants as kinds
 use Rattle.snesl_lexer.specs.declared.token.Token.{Token}
-use Rattle.snesl_lexer.specs.declared.lexer.First.{First}
-use Rattle.snesl_lexer.specs.declared.lexer.First.TheVariants.{Blank, Found, Bad}
+use Rattle.snesl_lexer.specs.declared.lexer.Foremost.{Foremost}
+use Rattle.snesl_lexer.specs.declared.lexer.Foremost.TheVariants.{Blank, Found, Bad}
 use Rattle.snesl_lexer.specs.Words.{word_kind}
 use Rattle.snesl_lexer.specs.Signs.{sign_token}
 use Rattle.snesl_lexer.specs.Lexical.{number, head_or, first, after_blanks, kind_found, kinds_from, first_kinds, dialect_named, dialect_of, Tokens, none_left, skips, takes}
@@ -21,7 +21,7 @@ use Rattle.snesl_lexer.specs.Readings.{TokensNameTheirDialect}
 use Rattle.snesl_lexer.proofs.Longest.{stands_first}
 
 -- a token that the first dialect finds is found in each
-number_kept : (dialect : Dialect) (cs : List ℕ) (kind : Kind) (len : ℕ) → number One cs ≡ Found kind len → number dialect cs ≡ Found kind len
+number_kept : (dialect : Dialect) (cs : List ℕ) (kind : TokenKind) (len : ℕ) → number One cs ≡ Found kind len → number dialect cs ≡ Found kind len
 number_kept One cs kind len e = e
 number_kept Two cs kind len e = by_test (leb (value_from 0 cs) (greatest_integer One)) refl e
   where
@@ -33,11 +33,11 @@ number_kept Two cs kind len e = by_test (leb (value_from 0 cs) (greatest_integer
         cond-true _ _ _ (le-leb _ _ wider) ∙ g
     by_test false f g = cc
 
-found_kept : (dialect : Dialect) (bytes : List ℕ) (kind : Kind) (len : ℕ) → first One bytes ≡ Found kind len → first dialect bytes ≡ Found kind len
+found_kept : (dialect : Dialect) (bytes : List ℕ) (kind : TokenKind) (len : ℕ) → first One bytes ≡ Found kind len → first dialect bytes ≡ Found kind len
 found_kept dialect [] kind len e = e
 found_kept dialect (b ∷ bs) kind len e = by_class (is_blank b) (is_ascii_alphabetic b) (is_ascii_digit b) e
   where
-    word : First
+    word : Foremost
     word = let word = take (prefix_len is_word (b ∷ bs)) (b ∷ bs) in Found (word_kind word) (length word)
 
     digits : List ℕ
@@ -53,7 +53,7 @@ found_kept dialect (b ∷ bs) kind len e = by_class (is_blank b) (is_ascii_alpha
 -- bytes that begin with no blank are no tokens, or a token and those after it
 data Next (dialect : Dialect) : List ℕ → List Token → Type 0 where
   ends : Next dialect [] []
-  comes : {bs : List ℕ} {ts : List Token} (at : ℕ) (kind : Kind) (len : ℕ) → first dialect bs ≡ Found kind len
+  comes : {bs : List ℕ} {ts : List Token} (at : ℕ) (kind : TokenKind) (len : ℕ) → first dialect bs ≡ Found kind len
       → Tokens dialect (at + len) (drop len bs) ts → Next dialect bs (record { kind = kind; at = at } ∷ ts)
 
 -- the tokens of bytes are those after their blanks
@@ -70,7 +70,7 @@ next_token dialect (takes {at = at} {bs = b ∷ bs} {ts = ts} kind len e h) = by
     by_test true f = let blank : first dialect (b ∷ bs) ≡ Blank = cond-true _ _ _ f in cc
     by_test false f = comes at kind len e h
 
-abbrev kinds_of : List Token → List Kind
+abbrev kinds_of : List Token → List TokenKind
 kinds_of ts = map (λ (t : Token). t.kind) ts
 
 -- the first tokens of the first dialect are of the first kinds
@@ -94,8 +94,8 @@ of_all_kinds : (dialect : Dialect) (n : ℕ) → AreOfKinds dialect n
 of_all_kinds dialect zero at bs ts h all = refl
 of_all_kinds dialect (suc n) at bs ts h all = by_next (of_all_kinds dialect n) (after_blanks bs) ts (next_token dialect h) all
   where
-    by_first : AreOfKinds dialect n → (rest : List ℕ) (at : ℕ) (us : List Token) (kind : Kind) (len : ℕ) → first dialect rest ≡ Found kind len
-        → Tokens dialect (at + len) (drop len rest) us → (it : First) → first One rest ≡ it
+    by_first : AreOfKinds dialect n → (rest : List ℕ) (at : ℕ) (us : List Token) (kind : TokenKind) (len : ℕ) → first dialect rest ≡ Found kind len
+        → Tokens dialect (at + len) (drop len rest) us → (it : Foremost) → first One rest ≡ it
         → length (kinds_from (kind_found rest it) (first_kinds n)) ≡ suc n
         → kind ∷ kinds_of (take n us) ≡ kinds_from (kind_found rest it) (first_kinds n)
     by_first others rest at us kind len e more Blank f many = absurd (omega arith)
@@ -116,7 +116,7 @@ of_all_kinds dialect (suc n) at bs ts h all = by_next (of_all_kinds dialect n) (
     by_next others rest us (comes {ts = vs} at kind len e more) many = by_first others rest at vs kind len e more (first One rest) refl many
 
 -- three kinds name the second dialect
-three_named : (ks : List Kind) → dialect_named ks ≡ Two → length ks ≡ 3
+three_named : (ks : List TokenKind) → dialect_named ks ≡ Two → length ks ≡ 3
 three_named (kinds.Dialect ∷ kinds.Integer (pos number) ∷ kinds.Semicolon ∷ []) e = refl
 three_named ks e = cc
 

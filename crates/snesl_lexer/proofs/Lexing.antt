@@ -5,10 +5,10 @@ use Rattle.std.proofs.Common.{length-drop, inl, inr, take_all}
 use Rattle.std.specs.List.{AllByRecursion, prefix_len}
 use Rattle.snesl_data.specs.declared.dialect.Dialect.{Dialect}
 use Rattle.snesl_data.specs.Integers.{greatest_integer}
-use Rattle.snesl_lexer.specs.declared.token.Kind.{Kind}
-use Rattle.snesl_lexer.specs.declared.token.Kind.TheVariants.{Integer}
+use Rattle.snesl_lexer.specs.declared.token.TokenKind.{TokenKind}
+use Rattle.snesl_lexer.specs.declared.token.TokenKind.TheVariants.{Integer}
 use Rattle.snesl_lexer.specs.declared.token.Token.{Token}
-use Rattle.snesl_lexer.specs.declared.lexer.First.TheVariants.{Blank, Found, Bad}
+use Rattle.snesl_lexer.specs.declared.lexer.Foremost.TheVariants.{Blank, Found, Bad}
 use Rattle.snesl_lexer.specs.Tables.{kind_in}
 use Rattle.snesl_lexer.specs.Signs.{one_byte_signs, two_byte_signs, longer_sign, sign_token}
 use Rattle.snesl_lexer.proofs.Tables.{kind_in_passes}
@@ -45,7 +45,7 @@ prefix_passes p (x ∷ xs) = by_test (p x) refl (prefix_passes p xs)
 pub sign_within : (b next n : ℕ) → 0 < n → (n ≡ 1 → next ≡ 0) → IsTokenWithin n (sign_token b next)
 sign_within b next n some alone = by_signs (kind_in two_byte_signs (b ∷ next ∷ [])) refl (kind_in one_byte_signs (b ∷ []))
   where
-    by_signs : (two : Option Kind) → kind_in two_byte_signs (b ∷ next ∷ []) ≡ two → (one : Option Kind) → IsTokenWithin n (longer_sign two one)
+    by_signs : (two : Option TokenKind) → kind_in two_byte_signs (b ∷ next ∷ []) ≡ two → (one : Option TokenKind) → IsTokenWithin n (longer_sign two one)
     by_signs (Some kind) e one =
         let no_zero : not (eqb next 0) ≡ true = kind_in_passes (λ text. not (eqb (get_or text 1 1) 0)) two_byte_signs (b ∷ next ∷ []) kind refl e in
         let some_byte : next ≡ 0 → ⊥ = eqb-false next 0 (not-true (eqb next 0) no_zero) in
@@ -67,7 +67,7 @@ pub blank_on : (dialect : Dialect) → (text : List ℕ) (at : ℕ) (ts : List T
     → Tokens dialect (at + 1) (drop (at + 1) text) ts → Tokens dialect at (drop at text) ts
 blank_on dialect text at ts e h = skips (sym (e ∙ ap (first dialect) (rest_is text at))) (subst (λ bs. Tokens dialect (at + 1) bs ts) (sym (drop-drop 1 at text)) h)
 
-pub found_on : (dialect : Dialect) → (text : List ℕ) (at : ℕ) (k : Kind) (len : ℕ) (ts : List Token) → Found k len ≡ first dialect (rest_of text at)
+pub found_on : (dialect : Dialect) → (text : List ℕ) (at : ℕ) (k : TokenKind) (len : ℕ) (ts : List Token) → Found k len ≡ first dialect (rest_of text at)
     → Tokens dialect (at + len) (drop (at + len) text) ts → Tokens dialect at (drop at text) (record { kind = k; at = at } ∷ ts)
 found_on dialect text at k len ts e h = takes k len (sym (e ∙ ap (first dialect) (rest_is text at))) (subst (λ bs. Tokens dialect (at + len) bs ts) (sym (drop-drop len at text)) h)
 
@@ -75,7 +75,7 @@ pub blank_bad : (dialect : Dialect) → (text : List ℕ) (at n : ℕ) → Blank
     → BadAt dialect (at + 1) (drop (at + 1) text) n → BadAt dialect at (drop at text) n
 blank_bad dialect text at n e h = bad_later (sym (e ∙ ap (first dialect) (rest_is text at))) (subst (λ bs. BadAt dialect (at + 1) bs n) (sym (drop-drop 1 at text)) h)
 
-pub found_bad : (dialect : Dialect) → (text : List ℕ) (at : ℕ) (k : Kind) (len n : ℕ) → Found k len ≡ first dialect (rest_of text at)
+pub found_bad : (dialect : Dialect) → (text : List ℕ) (at : ℕ) (k : TokenKind) (len n : ℕ) → Found k len ≡ first dialect (rest_of text at)
     → BadAt dialect (at + len) (drop (at + len) text) n → BadAt dialect at (drop at text) n
 found_bad dialect text at k len n e h = bad_after k len (sym (e ∙ ap (first dialect) (rest_is text at))) (subst (λ bs. BadAt dialect (at + len) bs n) (sym (drop-drop len at text)) h)
 

@@ -10,10 +10,10 @@ use Rattle.std.proofs.lemmas.List.{length-take-le}
 use Rattle.std.proofs.lemmas.List.Folds.{length-prefix_len}
 use Rattle.snesl_data.specs.declared.dialect.Dialect.{Dialect}
 use Rattle.snesl_data.specs.Integers.{greatest_integer}
-use Rattle.snesl_lexer.specs.declared.token.Kind.{Kind}
-use Rattle.snesl_lexer.specs.declared.token.Kind.TheVariants.{Integer}
-use Rattle.snesl_lexer.specs.declared.lexer.First.{First}
-use Rattle.snesl_lexer.specs.declared.lexer.First.TheVariants.{Blank, Found, Bad}
+use Rattle.snesl_lexer.specs.declared.token.TokenKind.{TokenKind}
+use Rattle.snesl_lexer.specs.declared.token.TokenKind.TheVariants.{Integer}
+use Rattle.snesl_lexer.specs.declared.lexer.Foremost.{Foremost}
+use Rattle.snesl_lexer.specs.declared.lexer.Foremost.TheVariants.{Blank, Found, Bad}
 use Rattle.snesl_lexer.specs.Tables.{kind_in}
 use Rattle.snesl_lexer.specs.Words.{word_kind}
 use Rattle.snesl_lexer.specs.Signs.{one_byte_signs, two_byte_signs, longer_sign, sign_token}
@@ -51,8 +51,8 @@ digit_no_letter b h = grind (arith, nat_tests)
 data Row : List ℕ → LexemeMeaning → Type 0 where
   word_row : {b : ℕ} {bs : List ℕ} {m : LexemeMeaning} → is_ascii_alphabetic b ≡ true → list_all is_word bs ≡ true → Row (b ∷ bs) m
   digits_row : {b : ℕ} {bs : List ℕ} {m : LexemeMeaning} → is_ascii_digit b ≡ true → list_all is_ascii_digit bs ≡ true → Row (b ∷ bs) m
-  one_row : {b : ℕ} {kind : Kind} → IsMark b → kind_in one_byte_signs (b ∷ []) ≡ Some kind → Row (b ∷ []) (token kind)
-  two_row : {b c : ℕ} {kind : Kind} → IsMark b → kind_in two_byte_signs (b ∷ c ∷ []) ≡ Some kind → Row (b ∷ c ∷ []) (token kind)
+  one_row : {b : ℕ} {kind : TokenKind} → IsMark b → kind_in one_byte_signs (b ∷ []) ≡ Some kind → Row (b ∷ []) (token kind)
+  two_row : {b c : ℕ} {kind : TokenKind} → IsMark b → kind_in two_byte_signs (b ∷ c ∷ []) ≡ Some kind → Row (b ∷ c ∷ []) (token kind)
 
 -- a sign of one byte, and one of two
 data IsOneMark : List ℕ → Type 0 where
@@ -64,7 +64,7 @@ data IsTwoMarks : List ℕ → Type 0 where
 abbrev is_sign_of : ℕ → List ℕ → Bool
 is_sign_of n text = eqb (length text) n && is_mark (head_or text)
 
-one_byte : (text : List ℕ) (kind : Kind) → kind_in one_byte_signs text ≡ Some kind → IsOneMark text
+one_byte : (text : List ℕ) (kind : TokenKind) → kind_in one_byte_signs text ≡ Some kind → IsOneMark text
 one_byte text kind e = by_cases text (and_parts (eqb (length text) 1) (is_mark (head_or text)) (kind_in_passes (is_sign_of 1) one_byte_signs text kind refl e))
   where
     by_cases : (t : List ℕ) → (eqb (length t) 1 ≡ true) × (is_mark (head_or t) ≡ true) → IsOneMark t
@@ -72,7 +72,7 @@ one_byte text kind e = by_cases text (and_parts (eqb (length text) 1) (is_mark (
     by_cases (b ∷ []) p = one_mark (is_mark-true b p.1)
     by_cases (b ∷ c ∷ cs) p = absurd (omega (arith, eqb-true (suc (suc (length cs))) 1 p.0))
 
-two_bytes : (text : List ℕ) (kind : Kind) → kind_in two_byte_signs text ≡ Some kind → IsTwoMarks text
+two_bytes : (text : List ℕ) (kind : TokenKind) → kind_in two_byte_signs text ≡ Some kind → IsTwoMarks text
 two_bytes text kind e = by_cases text (and_parts (eqb (length text) 2) (is_mark (head_or text)) (kind_in_passes (is_sign_of 2) two_byte_signs text kind refl e))
   where
     by_cases : (t : List ℕ) → (eqb (length t) 2 ≡ true) × (is_mark (head_or t) ≡ true) → IsTwoMarks t
@@ -81,10 +81,10 @@ two_bytes text kind e = by_cases text (and_parts (eqb (length text) 2) (is_mark 
     by_cases (b ∷ c ∷ []) p = two_marks (is_mark-true b p.1)
     by_cases (b ∷ c ∷ d ∷ cs) p = absurd (omega (arith, eqb-true (suc (suc (suc (length cs)))) 2 p.0))
 
-row_of_one : (text : List ℕ) (kind : Kind) → IsOneMark text → kind_in one_byte_signs text ≡ Some kind → Row text (token kind)
+row_of_one : (text : List ℕ) (kind : TokenKind) → IsOneMark text → kind_in one_byte_signs text ≡ Some kind → Row text (token kind)
 row_of_one text kind (one_mark mark) e = one_row mark e
 
-row_of_two : (text : List ℕ) (kind : Kind) → IsTwoMarks text → kind_in two_byte_signs text ≡ Some kind → Row text (token kind)
+row_of_two : (text : List ℕ) (kind : TokenKind) → IsTwoMarks text → kind_in two_byte_signs text ≡ Some kind → Row text (token kind)
 row_of_two text kind (two_marks mark) e = two_row mark e
 
 row_of : (dialect : Dialect) → (text : List ℕ) (m : LexemeMeaning) → Lexeme dialect text m → Row text m
@@ -143,8 +143,8 @@ digit_row b bs m t (two_row mark e) = absurd (both_ways _ mark.no_digit t)
 -- the signs that bytes may begin with: one byte, or the byte after it too
 Signs : ℕ → List ℕ → Type 0
 Signs b bs =
-    ((bs ≡ []) × (kind : Kind) × (kind_in one_byte_signs (b ∷ []) ≡ Some kind))
-    ⊎ ((length bs ≡ 1) × (kind : Kind) × (kind_in two_byte_signs (b ∷ head_or bs ∷ []) ≡ Some kind))
+    ((bs ≡ []) × (kind : TokenKind) × (kind_in one_byte_signs (b ∷ []) ≡ Some kind))
+    ⊎ ((length bs ≡ 1) × (kind : TokenKind) × (kind_in two_byte_signs (b ∷ head_or bs ∷ []) ≡ Some kind))
 
 mark_row : (b : ℕ) (bs : List ℕ) (m : LexemeMeaning) → IsMark b → Row (b ∷ bs) m → Signs b bs
 unfolding Signs
@@ -214,14 +214,14 @@ head_take (suc n) [] some = refl
 head_take (suc n) (b ∷ bs) some = refl
 
 -- no sign ends in a byte 0, which stands for no byte
-no_zero : (b : ℕ) (kind : Kind) → kind_in two_byte_signs (b ∷ 0 ∷ []) ≡ Some kind → ⊥
+no_zero : (b : ℕ) (kind : TokenKind) → kind_in two_byte_signs (b ∷ 0 ∷ []) ≡ Some kind → ⊥
 no_zero b kind e =
     let ends : false ≡ true = kind_in_passes (λ text. not (eqb (get_or text 1 1) 0)) two_byte_signs (b ∷ 0 ∷ []) kind refl e in cc
 
 -- a sign at the front is that of the byte after the first one, or of the first one alone
 data Standing (b : ℕ) (bs : List ℕ) : ℕ → Type 0 where
-  alone : {kind : Kind} → kind_in one_byte_signs (b ∷ []) ≡ Some kind → Standing b bs 0
-  with_next : {kind : Kind} → kind_in two_byte_signs (b ∷ head_or bs ∷ []) ≡ Some kind → Standing b bs 1
+  alone : {kind : TokenKind} → kind_in one_byte_signs (b ∷ []) ≡ Some kind → Standing b bs 0
+  with_next : {kind : TokenKind} → kind_in two_byte_signs (b ∷ head_or bs ∷ []) ≡ Some kind → Standing b bs 1
 
 standing : (b : ℕ) (bs : List ℕ) (n : ℕ) (m : LexemeMeaning) → IsMark b → n ≤ length bs → Row (b ∷ take n bs) m → Standing b bs n
 unfolding Signs
@@ -249,7 +249,7 @@ none_standing : {b n : ℕ} {bs : List ℕ} → kind_in two_byte_signs (b ∷ he
 none_standing none nor (alone e) = cc
 none_standing none nor (with_next e) = cc
 
-two_first : (dialect : Dialect) → (b : ℕ) (bs : List ℕ) (kind : Kind) → IsMark b → kind_in two_byte_signs (b ∷ head_or bs ∷ []) ≡ Some kind
+two_first : (dialect : Dialect) → (b : ℕ) (bs : List ℕ) (kind : TokenKind) → IsMark b → kind_in two_byte_signs (b ∷ head_or bs ∷ []) ≡ Some kind
     → IsLongest dialect (b ∷ bs) 2 (token kind)
 two_first dialect b [] kind mark e = absurd (no_zero b kind e)
 two_first dialect b (c ∷ bs) kind mark e = record {
@@ -261,8 +261,8 @@ two_first dialect b (c ∷ bs) kind mark e = record {
 sign_first : (dialect : Dialect) → (b : ℕ) (bs : List ℕ) → IsMark b → StandsFirst dialect (b ∷ bs) (sign_token b (head_or bs))
 sign_first dialect b bs mark = by_signs (kind_in two_byte_signs (b ∷ head_or bs ∷ [])) refl (kind_in one_byte_signs (b ∷ [])) refl
   where
-    by_signs : (two : Option Kind) → kind_in two_byte_signs (b ∷ head_or bs ∷ []) ≡ two
-        → (one : Option Kind) → kind_in one_byte_signs (b ∷ []) ≡ one → StandsFirst dialect (b ∷ bs) (longer_sign two one)
+    by_signs : (two : Option TokenKind) → kind_in two_byte_signs (b ∷ head_or bs ∷ []) ≡ two
+        → (one : Option TokenKind) → kind_in one_byte_signs (b ∷ []) ≡ one → StandsFirst dialect (b ∷ bs) (longer_sign two one)
     by_signs (Some kind) e one f = two_first dialect b bs kind mark e
     by_signs None e (Some kind) f = record {
       within = omega arith;
@@ -285,7 +285,7 @@ stands_first dialect (b ∷ bs) = by_class (is_blank b) refl (is_ascii_alphabeti
     by_class false e false f false g = sign_first dialect b bs (record { no_blank = e; no_letter = f; no_digit = g })
 
 -- what the lexer finds in a lexeme alone
-abbrev alone_is : ℕ → LexemeMeaning → First
+abbrev alone_is : ℕ → LexemeMeaning → Foremost
 alone_is len (token kind) = Found kind len
 alone_is len too_great = Bad
 
@@ -318,17 +318,17 @@ digits_alone dialect (b ∷ bs) h =
     let parts = and_parts (is_ascii_digit b) (list_all is_ascii_digit bs) h in
     first_digit dialect b bs parts.0 ∙ ap (number dialect) (whole_run is_ascii_digit b bs parts.0 parts.1)
 
-no_next : (b : ℕ) (two : Option Kind) → kind_in two_byte_signs (b ∷ 0 ∷ []) ≡ two → two ≡ None
+no_next : (b : ℕ) (two : Option TokenKind) → kind_in two_byte_signs (b ∷ 0 ∷ []) ≡ two → two ≡ None
 no_next b None e = refl
 no_next b (Some kind) e = absurd (no_zero b kind e)
 
-one_alone : (dialect : Dialect) → (text : List ℕ) (kind : Kind) → IsOneMark text → kind_in one_byte_signs text ≡ Some kind → first dialect text ≡ Found kind (length text)
+one_alone : (dialect : Dialect) → (text : List ℕ) (kind : TokenKind) → IsOneMark text → kind_in one_byte_signs text ≡ Some kind → first dialect text ≡ Found kind (length text)
 one_alone dialect text kind (one_mark {b = b} mark) e =
     first_mark dialect b [] mark
     ∙ ap (λ two. longer_sign two (kind_in one_byte_signs (b ∷ []))) (no_next b (kind_in two_byte_signs (b ∷ 0 ∷ [])) refl)
     ∙ ap (longer_sign None) e
 
-two_alone : (dialect : Dialect) → (text : List ℕ) (kind : Kind) → IsTwoMarks text → kind_in two_byte_signs text ≡ Some kind → first dialect text ≡ Found kind (length text)
+two_alone : (dialect : Dialect) → (text : List ℕ) (kind : TokenKind) → IsTwoMarks text → kind_in two_byte_signs text ≡ Some kind → first dialect text ≡ Found kind (length text)
 two_alone dialect text kind (two_marks {b = b} {c = c} mark) e =
     first_mark dialect b (c ∷ []) mark ∙ ap (λ two. longer_sign two (kind_in one_byte_signs (b ∷ []))) e
 
@@ -362,7 +362,7 @@ one_longest dialect {bytes = bytes} {k = k} {l = l} {m = m} {n = n} h j =
     one_meaning dialect (take k bytes) m n h.reads (subst (λ i. Lexeme dialect (take i bytes) n) (sym (one_length dialect h j)) j.reads)
 
 -- one thing stands first at most
-only_one : (dialect : Dialect) → (bytes : List ℕ) (x y : First) → StandsFirst dialect bytes x → StandsFirst dialect bytes y → x ≡ y
+only_one : (dialect : Dialect) → (bytes : List ℕ) (x y : Foremost) → StandsFirst dialect bytes x → StandsFirst dialect bytes y → x ≡ y
 only_one dialect bytes Blank Blank h j = refl
 only_one dialect bytes Blank (Found k len) h j = absurd (h.1 len (token k) j.reads)
 only_one dialect bytes Blank Bad h (inl j) = absurd (j.0 h.0)
@@ -384,7 +384,7 @@ first_is_longest dialect bytes it =
     (λ e. subst (StandsFirst dialect bytes) e (stands_first dialect bytes), λ h. only_one dialect bytes (first dialect bytes) it (stands_first dialect bytes) h)
 
 -- a token has at least one byte
-pub found_some : (dialect : Dialect) → (bytes : List ℕ) (kind : Kind) (len : ℕ) → first dialect bytes ≡ Found kind len → 0 < len
+pub found_some : (dialect : Dialect) → (bytes : List ℕ) (kind : TokenKind) (len : ℕ) → first dialect bytes ≡ Found kind len → 0 < len
 found_some dialect bytes kind len e = by_len len (subst (StandsFirst dialect bytes) e (stands_first dialect bytes))
   where
     by_len : (n : ℕ) → IsLongest dialect bytes n (token kind) → 0 < n

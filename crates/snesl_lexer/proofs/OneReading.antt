@@ -2,8 +2,8 @@
 use Rattle.std.proofs.Common.{◌≡◌, ℕ, zero, suc, ◌+◌, ◌≤◌, ◌<◌, List, [], ◌∷◌, length, drop, Result, Ok, Err, ◌⊎◌, inl, inr, refl, ap, subst, arith, length-drop}
 use Rattle.snesl_data.specs.declared.dialect.Dialect.{Dialect}
 use Rattle.snesl_lexer.specs.declared.token.Token.{Token}
-use Rattle.snesl_lexer.specs.declared.lexer.First.{First}
-use Rattle.snesl_lexer.specs.declared.lexer.First.TheVariants.{Blank, Found, Bad}
+use Rattle.snesl_lexer.specs.declared.lexer.Foremost.{Foremost}
+use Rattle.snesl_lexer.specs.declared.lexer.Foremost.TheVariants.{Blank, Found, Bad}
 use Rattle.snesl_lexer.specs.Lexical.{first, dialect_of, Tokens, none_left, skips, takes, BadAt, bad_here, bad_later, bad_after}
 use Rattle.snesl_lexer.specs.Readings.{Reads, HaveOneReading}
 use Rattle.snesl_lexer.proofs.Longest.{found_some}
@@ -58,7 +58,7 @@ some_reading dialect zero at (b ∷ bs) below = absurd (omega arith)
 some_reading dialect (suc n) at (b ∷ bs) below =
     by_first (first dialect (b ∷ bs)) refl (λ len some. some_reading dialect n (at + len) (drop len (b ∷ bs)) (omega (arith, length-drop len (b ∷ bs))))
   where
-    by_first : (it : First) → first dialect (b ∷ bs) ≡ it
+    by_first : (it : Foremost) → first dialect (b ∷ bs) ≡ it
         → ((len : ℕ) → 0 < len → ((ts : List Token) × Tokens dialect (at + len) (drop len (b ∷ bs)) ts) ⊎ ((m : ℕ) × BadAt dialect (at + len) (drop len (b ∷ bs)) m))
         → ((ts : List Token) × Tokens dialect at (b ∷ bs) ts) ⊎ ((m : ℕ) × BadAt dialect at (b ∷ bs) m)
     by_first Blank e rest = elim (rest 1 (omega arith)) [

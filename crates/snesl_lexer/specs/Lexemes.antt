@@ -4,10 +4,10 @@ use Rattle.std.specs.List.{list_all}
 use Rattle.std.specs.Char.{is_ascii_digit, is_ascii_alphabetic}
 use Rattle.snesl_data.specs.declared.dialect.Dialect.{Dialect}
 use Rattle.snesl_data.specs.Integers.{greatest_integer}
-use Rattle.snesl_lexer.specs.declared.token.Kind.{Kind}
-use Rattle.snesl_lexer.specs.declared.token.Kind.TheVariants.{Integer}
-use Rattle.snesl_lexer.specs.declared.lexer.First.{First}
-use Rattle.snesl_lexer.specs.declared.lexer.First.TheVariants.{Blank, Found, Bad}
+use Rattle.snesl_lexer.specs.declared.token.TokenKind.{TokenKind}
+use Rattle.snesl_lexer.specs.declared.token.TokenKind.TheVariants.{Integer}
+use Rattle.snesl_lexer.specs.declared.lexer.Foremost.{Foremost}
+use Rattle.snesl_lexer.specs.declared.lexer.Foremost.TheVariants.{Blank, Found, Bad}
 use Rattle.snesl_lexer.specs.Tables.{kind_in}
 use Rattle.snesl_lexer.specs.Words.{word_kind}
 use Rattle.snesl_lexer.specs.Signs.{one_byte_signs, two_byte_signs}
@@ -27,7 +27,7 @@ IsDigits (b ∷ bs) = IsTrue (list_all is_ascii_digit (b ∷ bs))
 
 -- what a lexeme stands for: a token, or an integer over the limit of the dialect
 pub data LexemeMeaning : Type 0 where
-  token : Kind → LexemeMeaning
+  token : TokenKind → LexemeMeaning
   too_great : LexemeMeaning
 
 -- The table of lexemes: a text, and what it stands for.
@@ -40,9 +40,9 @@ pub data Lexeme (dialect : Dialect) : List ℕ → LexemeMeaning → Type 0 wher
   -- digits of an integer over the limit
   an_excess : {text : List ℕ} → IsDigits text → greatest_integer dialect < value_from 0 text → Lexeme dialect text too_great
   -- a sign of one byte, by its table
-  a_sign : {text : List ℕ} {kind : Kind} → kind_in one_byte_signs text ≡ Some kind → Lexeme dialect text (token kind)
+  a_sign : {text : List ℕ} {kind : TokenKind} → kind_in one_byte_signs text ≡ Some kind → Lexeme dialect text (token kind)
   -- a sign of two bytes, by its table
-  a_long_sign : {text : List ℕ} {kind : Kind} → kind_in two_byte_signs text ≡ Some kind → Lexeme dialect text (token kind)
+  a_long_sign : {text : List ℕ} {kind : TokenKind} → kind_in two_byte_signs text ≡ Some kind → Lexeme dialect text (token kind)
 
 -- the longest lexeme that the bytes begin with has this length and this meaning
 pub record IsLongest (dialect : Dialect) (bytes : List ℕ) (len : ℕ) (meaning : LexemeMeaning) : Type 0 where
@@ -60,7 +60,7 @@ BeginsWithBlank [] = ⊥
 BeginsWithBlank (b ∷ bs) = IsTrue (is_blank b)
 
 -- what stands first in bytes, by the table: a blank, the longest lexeme, or nothing lawful
-abbrev pub StandsFirst : Dialect → List ℕ → First → Type 0
+abbrev pub StandsFirst : Dialect → List ℕ → Foremost → Type 0
 StandsFirst dialect bytes Blank = BeginsWithBlank bytes × BeginsWithNone dialect bytes
 StandsFirst dialect bytes (Found kind len) = IsLongest dialect bytes len (token kind)
 StandsFirst dialect bytes Bad =
@@ -68,4 +68,4 @@ StandsFirst dialect bytes Bad =
 
 -- what the lexer finds first is what stands first by the table, and nothing else does
 abbrev pub FirstIsLongest : Type 0
-FirstIsLongest = (dialect : Dialect) (bytes : List ℕ) (found : First) → (first dialect bytes ≡ found) ↔ StandsFirst dialect bytes found
+FirstIsLongest = (dialect : Dialect) (bytes : List ℕ) (found : Foremost) → (first dialect bytes ≡ found) ↔ StandsFirst dialect bytes found

@@ -2,13 +2,13 @@
 use Rattle.std.specs.Prelude.{ℕ, List, [], ◌∷◌, Option, Some, None}
 use lib.Chars.{codes}
 use Rattle.snesl_lexer.specs.Tables.{kind_in}
-use Rattle.snesl_lexer.specs.declared.token.Kind.{Kind}
-use Rattle.snesl_lexer.specs.declared.token.Kind.TheVariants as kinds
-use Rattle.snesl_lexer.specs.declared.lexer.First.{First}
-use Rattle.snesl_lexer.specs.declared.lexer.First.TheVariants.{Found, Bad}
+use Rattle.snesl_lexer.specs.declared.token.TokenKind.{TokenKind}
+use Rattle.snesl_lexer.specs.declared.token.TokenKind.TheVariants as kinds
+use Rattle.snesl_lexer.specs.declared.lexer.Foremost.{Foremost}
+use Rattle.snesl_lexer.specs.declared.lexer.Foremost.TheVariants.{Found, Bad}
 
 -- the signs of two bytes
-abbrev pub two_byte_signs : List (List ℕ × Kind)
+abbrev pub two_byte_signs : List (List ℕ × TokenKind)
 two_byte_signs =
     (codes "==", kinds.Same) ∷
     (codes "<=", kinds.AtMost) ∷
@@ -17,7 +17,7 @@ two_byte_signs =
     []
 
 -- the signs of one byte
-abbrev pub one_byte_signs : List (List ℕ × Kind)
+abbrev pub one_byte_signs : List (List ℕ × TokenKind)
 one_byte_signs =
     (codes "(", kinds.LeftParen) ∷
     (codes ")", kinds.RightParen) ∷
@@ -41,11 +41,11 @@ one_byte_signs =
     []
 
 -- the longer of two signs, the one of two bytes and the one of one
-abbrev pub longer_sign : Option Kind → Option Kind → First
+abbrev pub longer_sign : Option TokenKind → Option TokenKind → Foremost
 longer_sign (Some kind) _ = Found kind 2
 longer_sign None (Some kind) = Found kind 1
 longer_sign None None = Bad
 
 -- the token of a sign, by its first byte and the byte after it
-abbrev pub sign_token : ℕ → ℕ → First
+abbrev pub sign_token : ℕ → ℕ → Foremost
 sign_token b next = longer_sign (kind_in two_byte_signs (b ∷ next ∷ [])) (kind_in one_byte_signs (b ∷ []))

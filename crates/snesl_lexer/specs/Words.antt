@@ -3,11 +3,11 @@ use Rattle.std.specs.Prelude.{ℕ, List, [], ◌∷◌, length}
 use Rattle.std.specs.Option.{unwrap_or}
 use lib.Chars.{codes}
 use Rattle.snesl_lexer.specs.Tables.{kind_in}
-use Rattle.snesl_lexer.specs.declared.token.Kind.{Kind}
-use Rattle.snesl_lexer.specs.declared.token.Kind.TheVariants as kinds
+use Rattle.snesl_lexer.specs.declared.token.TokenKind.{TokenKind}
+use Rattle.snesl_lexer.specs.declared.token.TokenKind.TheVariants as kinds
 
 -- the reserved words
-abbrev pub reserved_words : List (List ℕ × Kind)
+abbrev pub reserved_words : List (List ℕ × TokenKind)
 reserved_words =
     (codes "input", kinds.Input) ∷
     (codes "function", kinds.Function) ∷
@@ -41,5 +41,5 @@ reserved_words =
     []
 
 -- the kind of a word: a reserved word, or else a name of its length
-abbrev pub word_kind : List ℕ → Kind
+abbrev pub word_kind : List ℕ → TokenKind
 word_kind word = unwrap_or (kind_in reserved_words word) (kinds.Name (length word))

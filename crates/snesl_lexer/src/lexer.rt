@@ -13,110 +13,110 @@ ghost use Rattle.snesl_lexer.specs.Lexical.{number, first, after_blanks, next_ki
 ghost use Rattle.snesl_lexer.specs.Lexemes.{FirstIsLongest};
 ghost use Rattle.snesl_lexer.specs.Readings.{HaveOneReading, TokensNameTheirDialect};
 
-use crate::token::{Kind, Token};
+use crate::token::{Token, TokenKind};
 use snesl_data::{Dialect, Refusal, digits_len, is_blank, word_len};
 use std::alloc::Global;
 
 /// What stands first in bytes.
 #[derive(Clone, Copy, Debug, PartialEq, Eq)]
-pub enum First {
+pub enum Foremost {
     /// A blank, of one byte.
     Blank,
     /// A token of this kind and of this many bytes.
-    Found(Kind, usize),
+    Found(TokenKind, usize),
     /// No blank and no token, or an integer over the limit of the dialect.
     Bad,
 }
 
 // The kind of a word: a reserved word, or else a name.
-fn word_kind(word: &[u8]) -> Kind
+fn word_kind(word: &[u8]) -> TokenKind
     ensures { result ≡ word_kind word.now }
 {
     match word {
-        b"input" => Kind::Input,
-        b"function" => Kind::Function,
-        b"let" => Kind::Let,
-        b"in" => Kind::In,
-        b"if" => Kind::If,
-        b"then" => Kind::Then,
-        b"else" => Kind::Else,
-        b"true" => Kind::True,
-        b"false" => Kind::False,
-        b"not" => Kind::Not,
-        b"and" => Kind::And,
-        b"or" => Kind::Or,
-        b"int" => Kind::Int,
-        b"bool" => Kind::Bool,
-        b"dialect" => Kind::Dialect,
-        b"iota" => Kind::Iota,
-        b"scan_add" => Kind::ScanAdd,
-        b"reduce_add" => Kind::ReduceAdd,
-        b"reduce_max" => Kind::ReduceMax,
-        b"reduce_and" => Kind::ReduceAnd,
-        b"reduce_or" => Kind::ReduceOr,
-        b"length" => Kind::Length,
-        b"concat" => Kind::Concat,
-        b"part" => Kind::Part,
-        b"the" => Kind::The,
-        b"tab" => Kind::Tab,
-        b"seq" => Kind::Seq,
-        b"fst" => Kind::Fst,
-        b"snd" => Kind::Snd,
-        _ => Kind::Name(word.len()),
+        b"input" => TokenKind::Input,
+        b"function" => TokenKind::Function,
+        b"let" => TokenKind::Let,
+        b"in" => TokenKind::In,
+        b"if" => TokenKind::If,
+        b"then" => TokenKind::Then,
+        b"else" => TokenKind::Else,
+        b"true" => TokenKind::True,
+        b"false" => TokenKind::False,
+        b"not" => TokenKind::Not,
+        b"and" => TokenKind::And,
+        b"or" => TokenKind::Or,
+        b"int" => TokenKind::Int,
+        b"bool" => TokenKind::Bool,
+        b"dialect" => TokenKind::Dialect,
+        b"iota" => TokenKind::Iota,
+        b"scan_add" => TokenKind::ScanAdd,
+        b"reduce_add" => TokenKind::ReduceAdd,
+        b"reduce_max" => TokenKind::ReduceMax,
+        b"reduce_and" => TokenKind::ReduceAnd,
+        b"reduce_or" => TokenKind::ReduceOr,
+        b"length" => TokenKind::Length,
+        b"concat" => TokenKind::Concat,
+        b"part" => TokenKind::Part,
+        b"the" => TokenKind::The,
+        b"tab" => TokenKind::Tab,
+        b"seq" => TokenKind::Seq,
+        b"fst" => TokenKind::Fst,
+        b"snd" => TokenKind::Snd,
+        _ => TokenKind::Name(word.len()),
     }
 }
 
 // The sign that these two bytes are.
-fn two_byte_sign(b: u8, next: u8) -> Option<Kind>
+fn two_byte_sign(b: u8, next: u8) -> Option<TokenKind>
     ensures { result ≡ kind_in two_byte_signs (b ∷ next ∷ []) }
 {
     match (b, next) {
-        (b'=', b'=') => Some(Kind::Same),
-        (b'<', b'=') => Some(Kind::AtMost),
-        (b'>', b'=') => Some(Kind::AtLeast),
-        (b'+', b'+') => Some(Kind::Append),
+        (b'=', b'=') => Some(TokenKind::Same),
+        (b'<', b'=') => Some(TokenKind::AtMost),
+        (b'>', b'=') => Some(TokenKind::AtLeast),
+        (b'+', b'+') => Some(TokenKind::Append),
         _ => None,
     }
 }
 
 // The sign that this byte is.
-fn one_byte_sign(b: u8) -> Option<Kind>
+fn one_byte_sign(b: u8) -> Option<TokenKind>
     ensures { result ≡ kind_in one_byte_signs (b ∷ []) }
 {
     match b {
-        b'(' => Some(Kind::LeftParen),
-        b')' => Some(Kind::RightParen),
-        b'{' => Some(Kind::LeftBrace),
-        b'}' => Some(Kind::RightBrace),
-        b'[' => Some(Kind::LeftBracket),
-        b']' => Some(Kind::RightBracket),
-        b':' => Some(Kind::Colon),
-        b';' => Some(Kind::Semicolon),
-        b',' => Some(Kind::Comma),
-        b'|' => Some(Kind::Bar),
-        b'=' => Some(Kind::Equals),
-        b'<' => Some(Kind::Less),
-        b'>' => Some(Kind::Greater),
-        b'+' => Some(Kind::Plus),
-        b'-' => Some(Kind::Minus),
-        b'*' => Some(Kind::Star),
-        b'/' => Some(Kind::Slash),
-        b'%' => Some(Kind::Percent),
-        b'!' => Some(Kind::At),
+        b'(' => Some(TokenKind::LeftParen),
+        b')' => Some(TokenKind::RightParen),
+        b'{' => Some(TokenKind::LeftBrace),
+        b'}' => Some(TokenKind::RightBrace),
+        b'[' => Some(TokenKind::LeftBracket),
+        b']' => Some(TokenKind::RightBracket),
+        b':' => Some(TokenKind::Colon),
+        b';' => Some(TokenKind::Semicolon),
+        b',' => Some(TokenKind::Comma),
+        b'|' => Some(TokenKind::Bar),
+        b'=' => Some(TokenKind::Equals),
+        b'<' => Some(TokenKind::Less),
+        b'>' => Some(TokenKind::Greater),
+        b'+' => Some(TokenKind::Plus),
+        b'-' => Some(TokenKind::Minus),
+        b'*' => Some(TokenKind::Star),
+        b'/' => Some(TokenKind::Slash),
+        b'%' => Some(TokenKind::Percent),
+        b'!' => Some(TokenKind::At),
         _ => None,
     }
 }
 
 // The token of a sign: the longest is taken.
-fn sign_token(b: u8, next: u8) -> First
+fn sign_token(b: u8, next: u8) -> Foremost
     ensures { result ≡ sign_token b next }
 {
     if let Some(kind) = two_byte_sign(b, next) {
-        return First::Found(kind, 2);
+        return Foremost::Found(kind, 2);
     }
     match one_byte_sign(b) {
-        Some(kind) => First::Found(kind, 1),
-        None => First::Bad,
+        Some(kind) => Foremost::Found(kind, 1),
+        None => Foremost::Bad,
     }
 }
 
@@ -129,7 +129,7 @@ fn greatest_literal(dialect: Dialect) -> u128
 }
 
 // The token of digits: an integer, or bad where it is over the limit of the dialect.
-fn number(dialect: Dialect, digits: &[u8]) -> First
+fn number(dialect: Dialect, digits: &[u8]) -> Foremost
     requires { AllByRecursion (λ c. IsTrue (is_ascii_digit c)) digits.now }
     ensures { result ≡ number dialect digits.now }
 {
@@ -138,26 +138,26 @@ fn number(dialect: Dialect, digits: &[u8]) -> First
     for c in digits {
         let digit = u128::from(*c - b'0');
         if value > (greatest - digit) / 10 {
-            return First::Bad;
+            return Foremost::Bad;
         }
         value = 10 * value + digit;
     }
-    First::Found(Kind::Integer(value as i128), digits.len())
+    Foremost::Found(TokenKind::Integer(value as i128), digits.len())
 }
 
 // What stands first in a text of this dialect.
-fn first_token(dialect: Dialect, text: &[u8]) -> First
+fn first_token(dialect: Dialect, text: &[u8]) -> Foremost
     requires { 0 < length text.now }
     ensures found { result ≡ first dialect text.now }
     ensures within { IsTokenWithin (length text.now) result }
 {
     let b = text[0];
     if is_blank(b) {
-        return First::Blank;
+        return Foremost::Blank;
     }
     if b.is_ascii_alphabetic() {
         let len = word_len(text);
-        return First::Found(word_kind(&text[..len]), len);
+        return Foremost::Found(word_kind(&text[..len]), len);
     }
     if b.is_ascii_digit() {
         let len = digits_len(text);
@@ -184,7 +184,7 @@ fn after_blanks(text: &[u8]) -> &[u8]
 
 // The kind of the token that comes next after blanks, and the bytes after it. The first dialect
 // reads it.
-fn next_kind(text: &[u8]) -> Option<(Kind, &[u8])>
+fn next_kind(text: &[u8]) -> Option<(TokenKind, &[u8])>
     ensures { MatchOption result
         (next_kind text.now ≡ None)
         (λ found. next_kind text.now ≡ Some (found.0, found.1.now)) }
@@ -194,8 +194,8 @@ fn next_kind(text: &[u8]) -> Option<(Kind, &[u8])>
         return None;
     }
     match first_token(Dialect::One, rest) {
-        First::Found(kind, len) => Some((kind, &rest[len..])),
-        First::Blank | First::Bad => None,
+        Foremost::Found(kind, len) => Some((kind, &rest[len..])),
+        Foremost::Blank | Foremost::Bad => None,
     }
 }
 
@@ -203,13 +203,13 @@ fn next_kind(text: &[u8]) -> Option<(Kind, &[u8])>
 fn dialect_of(text: &[u8]) -> Dialect
     ensures { result ≡ dialect_of text.now }
 {
-    let Some((Kind::Dialect, text)) = next_kind(text) else {
+    let Some((TokenKind::Dialect, text)) = next_kind(text) else {
         return Dialect::One;
     };
-    let Some((Kind::Integer(2), text)) = next_kind(text) else {
+    let Some((TokenKind::Integer(2), text)) = next_kind(text) else {
         return Dialect::One;
     };
-    let Some((Kind::Semicolon, _)) = next_kind(text) else {
+    let Some((TokenKind::Semicolon, _)) = next_kind(text) else {
         return Dialect::One;
     };
     Dialect::Two
@@ -224,12 +224,12 @@ fn tokens_in(dialect: Dialect, alloc: Global, text: &[u8]) -> Result<Vec<Token>,
     let mut at = 0usize;
     while at < text.len() {
         match first_token(dialect, &text[at..]) {
-            First::Blank => at += 1,
-            First::Found(kind, len) => {
+            Foremost::Blank => at += 1,
+            Foremost::Found(kind, len) => {
                 tokens.push(Token { kind, at })?;
                 at += len;
             }
-            First::Bad => return Err(Refusal::Lex(at)),
+            Foremost::Bad => return Err(Refusal::Lex(at)),
         }
     }
     Ok(tokens)

@@ -5,4 +5,4 @@ pub mod lexer;
 pub mod token;
 
 pub use lexer::{longest_lexeme, one_reading, tokens_name_their_dialect, tokens_of};
-pub use token::{Kind, Token};
+pub use token::{Token, TokenKind};

@@ -2,7 +2,7 @@
 
 /// What a token is. A reserved word is named for its text.
 #[derive(Clone, Copy, Debug, PartialEq, Eq)]
-pub enum Kind {
+pub enum TokenKind {
     /// An integer literal, by its value, from 0 to the greatest integer of the text's dialect.
     Integer(i128),
     /// A name, by its length in bytes.
@@ -117,7 +117,7 @@ pub enum Kind {
 #[derive(Clone, Copy, Debug, PartialEq, Eq)]
 pub struct Token {
     /// What it is.
-    pub kind: Kind,
+    pub kind: TokenKind,
     /// The offset of its first byte, counted from 0.
     pub at: usize,
 }

@@ -4,7 +4,7 @@ use Rattle.std.proofs.Math.Nat.{eq-or-lt_of_le}
 use Rattle.snesl_look.specs.Functions.{BeginsDeclaration, EndsDeclaration, depth_at}
 
 -- the last declaration that began, not after the offset, has not ended before a place
-pub record Reaches (text : List ℕ) (offset start place : ℕ) : Type 0 where
+pub record DeclarationSoFar (text : List ℕ) (offset start place : ℕ) : Type 0 where
   pub begins : BeginsDeclaration text start
   pub reached : start ≤ place
   pub behind : start ≤ offset
@@ -12,7 +12,7 @@ pub record Reaches (text : List ℕ) (offset start place : ℕ) : Type 0 where
 
 -- it ends there, and the next one begins
 pub restarts : (text : List ℕ) (offset place depth : ℕ) → place < length text → place < offset
-    → depth ≡ depth_at text place → slice_index text place ≡ 59 → depth ≡ 0 → Reaches text offset (place + 1) (place + 1)
+    → depth ≡ depth_at text place → slice_index text place ≡ 59 → depth ≡ 0 → DeclarationSoFar text offset (place + 1) (place + 1)
 restarts text offset place depth within early deep is none = record {
   begins = inr (place, refl, (within, is, sym deep ∙ none));
   reached = omega arith;
@@ -21,8 +21,8 @@ restarts text offset place depth within early deep is none = record {
 }
 
 -- it does not end there
-pub goes_on : (text : List ℕ) (offset start place depth : ℕ) → Reaches text offset start place
-    → depth ≡ depth_at text place → (slice_index text place ≡ 59 → depth ≡ 0 → ⊥) → Reaches text offset start (place + 1)
+pub goes_on : (text : List ℕ) (offset start place depth : ℕ) → DeclarationSoFar text offset start place
+    → depth ≡ depth_at text place → (slice_index text place ≡ 59 → depth ≡ 0 → ⊥) → DeclarationSoFar text offset start (place + 1)
 goes_on text offset start place depth so_far deep goes = record {
   begins = so_far.begins;
   reached = omega (arith, so_far.reached);

@@ -15,14 +15,14 @@ pub told_apart : (test : Bool) (xs ys : List ℕ) → test ≡ bytes_eq xs ys �
 told_apart test xs ys is fails same = both_ways (bytes_eq xs ys) ((bytes_eq-Decides xs ys).1 same) (sym is ∙ fails)
 
 -- of the others before `end` that at `found`, if one is within the limit, is the first of the nearest
-pub record Reaches (IsOne : ℕ → Type 0) (distance : ℕ → ℕ) (limit end found least : ℕ) : Type 0 where
+pub record NearestSoFar (IsOne : ℕ → Type 0) (distance : ℕ → ℕ) (limit end found least : ℕ) : Type 0 where
   pub nearest : (k : ℕ) → k < end → IsOne k → least ≤ distance k
   pub first : (k : ℕ) → k < found → IsOne k → least < distance k
   pub reached : found ≤ end
   pub is : (least ≡ limit) ⊎ (IsOne found × (distance found ≡ least))
 
 -- before the first place none is
-pub begins : (IsOne : ℕ → Type 0) (distance : ℕ → ℕ) (limit : ℕ) → Reaches IsOne distance limit 0 0 limit
+pub begins : (IsOne : ℕ → Type 0) (distance : ℕ → ℕ) (limit : ℕ) → NearestSoFar IsOne distance limit 0 0 limit
 begins IsOne distance limit = record {
   nearest = λ k before. absurd (omega (arith, before));
   first = λ k before. absurd (omega (arith, before));
@@ -31,8 +31,8 @@ begins IsOne distance limit = record {
 }
 
 -- one that is nearer is found
-pub nearer : (IsOne : ℕ → Type 0) (distance : ℕ → ℕ) (limit end found least edits : ℕ) → Reaches IsOne distance limit end found least
-    → IsOne end → edits ≡ distance end → edits < least → Reaches IsOne distance limit (end + 1) end edits
+pub nearer : (IsOne : ℕ → Type 0) (distance : ℕ → ℕ) (limit end found least edits : ℕ) → NearestSoFar IsOne distance limit end found least
+    → IsOne end → edits ≡ distance end → edits < least → NearestSoFar IsOne distance limit (end + 1) end edits
 nearer IsOne distance limit end found least edits so_far one is less = record {
   nearest = λ k before other. ⊎_elim
       (λ (e : k ≡ end). rw e (omega (arith, is)))
@@ -44,8 +44,8 @@ nearer IsOne distance limit end found least edits so_far one is less = record {
 }
 
 -- one that is no nearer is passed by, and so is a place with none
-pub goes_on : (IsOne : ℕ → Type 0) (distance : ℕ → ℕ) (limit end found least : ℕ) → Reaches IsOne distance limit end found least
-    → (IsOne end → least ≤ distance end) → Reaches IsOne distance limit (end + 1) found least
+pub goes_on : (IsOne : ℕ → Type 0) (distance : ℕ → ℕ) (limit end found least : ℕ) → NearestSoFar IsOne distance limit end found least
+    → (IsOne end → least ≤ distance end) → NearestSoFar IsOne distance limit (end + 1) found least
 goes_on IsOne distance limit end found least so_far far = record {
   nearest = λ k before other. ⊎_elim
       (λ (e : k ≡ end). rw e (far (subst IsOne e other)))
@@ -58,7 +58,7 @@ goes_on IsOne distance limit end found least so_far far = record {
 
 -- at the end of the text the one that was found is the first of the nearest
 pub is_nearest : (text : List ℕ) (at : ℕ) (word : List ℕ) (limit end found least : ℕ) → limit ≡ most_edits word + 1 → length text ≤ end
-    → Reaches (IsOther text at) (distance_at text word) limit end found least → least < limit → IsNearestAt text at word found
+    → NearestSoFar (IsOther text at) (distance_at text word) limit end found least → least < limit → IsNearestAt text at word found
 is_nearest text at word limit end found least bound over whole less = ⊎_elim
     (λ (e : least ≡ limit). absurd (omega (arith, e, less)))
     (λ (one : IsOther text at found × (distance_at text word found ≡ least)). let is = one.1 in record {

@@ -8,12 +8,12 @@ use Rattle.snesl_data.specs.declared.refusal.Refusal.{Refusal}
 use Rattle.snesl_data.specs.declared.refusal.Refusal.TheVariants.{TooBig, Streamed}
 use Rattle.snesl_data.specs.Types.{Ty, int, bool, pair, vec, seq, is_concrete}
 use Rattle.snesl_data.specs.Values.{Value}
-use Rattle.snesl_values.specs.Inputs.{Declaration, Environment, InputMeans, lawful, spells, OneInputMeaning}
+use Rattle.snesl_values.specs.Inputs.{InputDeclaration, Environment, InputMeans, lawful, spells, OneInputMeaning}
 use Rattle.snesl_lexer.specs.declared.token.Token.{Token}
 use Rattle.snesl_lexer.specs.Lexical.{dialect_of, Tokens}
 use Rattle.snesl_lexer.proofs.OneReading.{one_tokens}
 use Rattle.snesl_tree.specs.Spelling.{spelling}
-use Rattle.snesl_tree.specs.Tree.{TypeTree, int_type, bool_type, pair_type, vector_type, sequence_type, Typed, DeclarationTree, ProgramTree}
+use Rattle.snesl_tree.specs.Tree.{TypeTree, int_type, bool_type, pair_type, vector_type, sequence_type, TypedName, DeclarationTree, ProgramTree}
 use Rattle.snesl_grammar.specs.Programs.{WholeProgram, program_depth}
 use Rattle.snesl_syntax.specs.Parse.{AnswersTokens, accepted, Parses, read}
 use Rattle.snesl_syntax.specs.DialectMachine.{reader}
@@ -61,7 +61,7 @@ written_from (sequence_type at item) t e =
 
 -- the inputs that are declared
 
-names_are : {text : List ℕ} {earlier all : List Declaration} {first : Typed} → NamesType text earlier (first ∷ []) all
+names_are : {text : List ℕ} {earlier all : List InputDeclaration} {first : TypedName} → NamesType text earlier (first ∷ []) all
     → all ≡ earlier ++ ((spelling text first.place, type_of_tree first.written) ∷ [])
 names_are {text = text} {earlier = earlier} (more_names {first = first} {t = t} e w no_names) =
     ap (λ u. earlier ++ ((spelling text first.place, u) ∷ [])) (sym (written_from first.written t w))
@@ -88,7 +88,7 @@ accepted_text {tokens = tokens} text t (accepted w h) = record { tokens = tokens
 is_text : {text : List ℕ} {program : ProgramTree} → Parses text (Ok program) → IsTextOf text program
 is_text {text = text} (read h t answers) = accepted_text text t answers
 
-is_input : {dialect : Dialect} {declarations : List Declaration} {text : List ℕ} {environment : Environment} → InputMeans dialect declarations text (spells environment)
+is_input : {dialect : Dialect} {declarations : List InputDeclaration} {text : List ℕ} {environment : Environment} → InputMeans dialect declarations text (spells environment)
     → IsInputOf dialect declarations text environment
 is_input (lawful {tokens = tokens} {end = end} short has none values) =
     record { is_short = short; tokens = tokens; end = end; has_tokens = has; no_more = none; are_values = values }
@@ -135,7 +135,7 @@ one_text : {text : List ℕ} {p q : ProgramTree} → IsTextOf text p → IsTextO
 one_text {text = text} {p = p} {q = q} one other =
     one_whole one.is_whole (subst (λ ts. WholeProgram ts q) (one_tokens (dialect_of text) other.are_tokens one.tokens one.are_tokens) other.is_whole)
 
-one_input : OneInputMeaning → {dialect : Dialect} {declarations : List Declaration} {text : List ℕ} {f g : Environment}
+one_input : OneInputMeaning → {dialect : Dialect} {declarations : List InputDeclaration} {text : List ℕ} {f g : Environment}
     → IsInputOf dialect declarations text f → IsInputOf dialect declarations text g → f ≡ g
 one_input inputs {dialect = dialect} {declarations = declarations} {text = text} {f = f} {g = g} one other =
     let same = inputs dialect declarations text (spells f) (spells g)

@@ -7,10 +7,10 @@ use Rattle.std.proofs.lemmas.Bool.{le-leb, and_parts}
 use Rattle.snesl_data.specs.declared.dialect.Dialect.{Dialect}
 use Rattle.snesl_data.specs.declared.dialect.Dialect.TheVariants.{One, Two}
 use Rattle.snesl_data.specs.Integers.{is_integer}
-use Rattle.snesl_lexer.specs.declared.token.Kind.{Kind}
-use Rattle.snesl_lexer.specs.declared.token.Kind.TheVariants as kinds
+use Rattle.snesl_lexer.specs.declared.token.TokenKind.{TokenKind}
+use Rattle.snesl_lexer.specs.declared.token.TokenKind.TheVariants as kinds
 use Rattle.snesl_lexer.specs.declared.token.Token.{Token}
-use Rattle.snesl_lexer.specs.declared.lexer.First.TheVariants.{Found}
+use Rattle.snesl_lexer.specs.declared.lexer.Foremost.TheVariants.{Found}
 use Rattle.snesl_lexer.specs.Tables.{kind_in}
 use Rattle.snesl_lexer.specs.Words.{reserved_words}
 use Rattle.snesl_lexer.specs.Signs.{one_byte_signs, two_byte_signs}
@@ -32,7 +32,7 @@ use Rattle.snesl_types.specs.Ranges.{IsInRange, AreInRange, BindersInRange, Decl
 
 module _ (dialect : Dialect) where
   -- an integer of a token is one of the dialect
-  abbrev fits : Kind → Bool
+  abbrev fits : TokenKind → Bool
   fits (kinds.Integer value) = is_integer dialect value
   fits kind = true
 
@@ -40,11 +40,11 @@ module _ (dialect : Dialect) where
   Fit = AllByRecursion (λ (t : Token). fits t.kind ≡ true)
 
   -- what a table holds fits where all its kinds do
-  row_fits : (rows : List (List ℕ × Kind)) (text : List ℕ) (kind : Kind)
-      → list_all (λ (row : List ℕ × Kind). fits row.1) rows ≡ true → kind_in rows text ≡ Some kind → fits kind ≡ true
+  row_fits : (rows : List (List ℕ × TokenKind)) (text : List ℕ) (kind : TokenKind)
+      → list_all (λ (row : List ℕ × TokenKind). fits row.1) rows ≡ true → kind_in rows text ≡ Some kind → fits kind ≡ true
   row_fits [] text kind all found = cc
   row_fits (row ∷ rows) text kind all found =
-      let parts = and_parts (fits row.1) (list_all (λ (r : List ℕ × Kind). fits r.1) rows) all in
+      let parts = and_parts (fits row.1) (list_all (λ (r : List ℕ × TokenKind). fits r.1) rows) all in
       by_test (bytes_eq text row.0) parts.0 (row_fits rows text kind parts.1) found
     where
       by_test : (b : Bool) → fits row.1 ≡ true → (kind_in rows text ≡ Some kind → fits kind ≡ true)
@@ -59,7 +59,7 @@ module _ (dialect : Dialect) where
   lexeme_fits : (text : List ℕ) (m : LexemeMeaning) → Lexeme dialect text m → MeaningFits m
   lexeme_fits text m (a_word w) = by_row (kind_in reserved_words text) refl
     where
-      by_row : (found : Option Kind) → kind_in reserved_words text ≡ found → fits (unwrap_or found (kinds.Name (length text))) ≡ true
+      by_row : (found : Option TokenKind) → kind_in reserved_words text ≡ found → fits (unwrap_or found (kinds.Name (length text))) ≡ true
       by_row (Some kind) e = row_fits reserved_words text kind refl e
       by_row None e = refl
   lexeme_fits text m (an_integer digits within) = le-leb _ _ within
@@ -145,7 +145,7 @@ module _ (dialect : Dialect) where
       let p = parts ts us fit in with_last given last (declarations_fit wd p.0) (declaration_fits w p.1)
 
 -- the word that begins the naming of a dialect
-abbrev is_dialect_word : Kind → Bool
+abbrev is_dialect_word : TokenKind → Bool
 is_dialect_word kinds.Dialect = true
 is_dialect_word _ = false
 
@@ -210,7 +210,7 @@ declarations_begin no_declarations us h = h
 declarations_begin (more_declarations {ts = ts} {us = vs} wd w) us h =
     subst BeginsOtherwise (sym (append_assoc ts vs us)) (declarations_begin wd (vs ++ us) (longer_begins vs us (declaration_begins w)))
 
-abbrev kinds_of : List Token → List Kind
+abbrev kinds_of : List Token → List TokenKind
 kinds_of tokens = map (λ (t : Token). t.kind) (take 3 tokens)
 
 -- such tokens name the first dialect
@@ -218,10 +218,10 @@ names_the_first : (ts : List Token) → BeginsOtherwise ts → dialect_named (ki
 names_the_first [] h = refl
 names_the_first (t ∷ ts) h = by_kind t.kind (kinds_of_rest ts) h
   where
-    kinds_of_rest : List Token → List Kind
+    kinds_of_rest : List Token → List TokenKind
     kinds_of_rest us = map (λ (u : Token). u.kind) (take 2 us)
 
-    by_kind : (kind : Kind) (others : List Kind) → is_dialect_word kind ≡ false → dialect_named (kind ∷ others) ≡ One
+    by_kind : (kind : TokenKind) (others : List TokenKind) → is_dialect_word kind ≡ false → dialect_named (kind ∷ others) ≡ One
     by_kind kinds.Dialect others other = cc
     by_kind _ others other = refl
 

@@ -6,7 +6,7 @@ use Rattle.snesl_data.specs.declared.fault.FaultKind.{FaultKind}
 use Rattle.snesl_data.specs.Types.{Ty, int, bool, pair, vec, seq}
 use Rattle.snesl_data.specs.Values.{Value}
 use Rattle.snesl_values.specs.InputTokens.{Token as InputToken, HasTokens, next_token}
-use Rattle.snesl_values.specs.Inputs.{Declaration, Environment, Spells, greatest_input_length}
+use Rattle.snesl_values.specs.Inputs.{InputDeclaration, Environment, Spells, greatest_input_length}
 use Rattle.snesl_lexer.specs.declared.token.Token.{Token}
 use Rattle.snesl_lexer.specs.Lexical.{dialect_of, Tokens}
 use Rattle.snesl_tree.specs.Spelling.{spelling}
@@ -25,7 +25,7 @@ type_of_tree (vector_type at item) = vec (type_of_tree item)
 type_of_tree (sequence_type at item) = seq (type_of_tree item)
 
 -- the inputs that are declared
-abbrev pub declared_inputs : List ℕ → List DeclarationTree → List Declaration
+abbrev pub declared_inputs : List ℕ → List DeclarationTree → List InputDeclaration
 declared_inputs text [] = []
 declared_inputs text (declares_input declared ∷ others) = (spelling text declared.place, type_of_tree declared.written) ∷ declared_inputs text others
 declared_inputs text (declares_function place parameters result body ∷ others) = declared_inputs text others
@@ -37,7 +37,7 @@ pub record IsTextOf (text : List ℕ) (program : ProgramTree) : Type 0 where
   pub is_whole : WholeProgram tokens program
 
 -- The input text spells these values, one for each declared input.
-pub record IsInputOf (dialect : Dialect) (declarations : List Declaration) (text : List ℕ) (environment : Environment) : Type 0 where
+pub record IsInputOf (dialect : Dialect) (declarations : List InputDeclaration) (text : List ℕ) (environment : Environment) : Type 0 where
   pub is_short : length text ≤ greatest_input_length
   pub tokens : List InputToken
   pub end : ℕ

@@ -5,7 +5,7 @@ use Rattle.snesl_values.specs.declared.inputs.InputError.{InputError}
 use Rattle.snesl_values.specs.declared.inputs.InputError.TheVariants.{Bad, NoMemory as NoInputMemory}
 use Rattle.snesl_data.specs.declared.refusal.Refusal.{Refusal}
 use Rattle.snesl_data.specs.declared.refusal.Refusal.TheVariants.{TooBig, NoMemory}
-use Rattle.snesl_values.specs.Inputs.{Declaration, Environment, InputAnswer, InputMeans, spells, refused_at, refusal_of}
+use Rattle.snesl_values.specs.Inputs.{InputDeclaration, Environment, InputAnswer, InputMeans, spells, refused_at, refusal_of}
 use Rattle.snesl_tree.specs.Tree.{ProgramTree}
 use Rattle.snesl_grammar.specs.declared.program.Program.{Program}
 use Rattle.snesl_grammar.specs.View.{program_of as tree_of_program}
@@ -14,7 +14,7 @@ use Rattle.snesl_types.specs.Programs.{HasTyping}
 use Rattle.snesl_types.specs.Verdicts.{program_verdict}
 use Rattle.snesl_types.proofs.ProgramAnswers.{capped_all, program_complete}
 use Rattle.snesl_types.specs.Typed.{program_of, typed_dialect, typed_inputs, typed_text, typed_tree, typed_ty}
-use Rattle.snesl_types.specs.declared.typed.Typed.{Typed}
+use Rattle.snesl_types.specs.declared.typed.TypedProgram.{TypedProgram}
 use Rattle.snesl_meaning.specs.Meaning.{bad_input}
 use Rattle.flow_nodes.specs.StreamNodes.{node_behaviour}
 use Rattle.flow_networks.specs.declared.edge.Edge.{Edge}
@@ -28,15 +28,15 @@ use Rattle.snesl_network.specs.Driven.{ExceedsGraph, FitsInGraph, IsAccepted}
 use Rattle.snesl_network.specs.Meant.{IsMeantFor, HasNoNetwork}
 
 -- these nodes and edges are the network of this program with these inputs
-abbrev pub IsItsNetwork : Environment → List StreamNodeState → List Edge → List ℕ → ProgramTree → List Declaration → Type 0
+abbrev pub IsItsNetwork : Environment → List StreamNodeState → List Edge → List ℕ → ProgramTree → List InputDeclaration → Type 0
 IsItsNetwork environment states edges text program inputs =
     IsNetworkOfPlan node_behaviour (program_steps text program inputs (cells_of inputs environment)) states edges
 
 -- each of these nodes opens as this program says with these inputs
-abbrev pub AllOpenFor : Environment → List StreamNodeState → List ℕ → ProgramTree → List Declaration → Type 0
+abbrev pub AllOpenFor : Environment → List StreamNodeState → List ℕ → ProgramTree → List InputDeclaration → Type 0
 AllOpenFor environment states text program inputs = AllOpen (layout (program_steps text program inputs (cells_of inputs environment))) states
 
-module _ (text input : List ℕ) (parsed : Program) (typed : Typed) (parses : Parses text (Ok (tree_of_program parsed))) (kept : parsed.text.items ≡ text)
+module _ (text input : List ℕ) (parsed : Program) (typed : TypedProgram) (parses : Parses text (Ok (tree_of_program parsed))) (kept : parsed.text.items ≡ text)
     (same : program_of typed ≡ parsed) (typing : HasTyping parsed.text.items (tree_of_program parsed) (typed_inputs typed) (typed_ty typed)) where
   abbrev program : ProgramTree
   program = tree_of_program parsed
@@ -50,13 +50,13 @@ module _ (text input : List ℕ) (parsed : Program) (typed : Typed) (parses : Pa
   by_rules = program_complete text program of_text.0 (typed_ty typed) of_text.1
 
   -- what holds of the typed program holds of the text, its program and what this declares
-  of_program : (P : List ℕ → ProgramTree → List Declaration → Type 0) → P (typed_text typed) (typed_tree typed) (typed_inputs typed) → P text program of_text.0.inputs
+  of_program : (P : List ℕ → ProgramTree → List InputDeclaration → Type 0) → P (typed_text typed) (typed_tree typed) (typed_inputs typed) → P text program of_text.0.inputs
   of_program P h =
       subst (λ inputs. P text program inputs) (sym of_text.2)
       (subst (λ bytes. P bytes program (typed_inputs typed)) kept
       (subst (λ (p : Program). P p.text.items (tree_of_program p) (typed_inputs typed)) same h))
 
-  module _ (dialect : Dialect) (inputs : List Declaration) (in_dialect : dialect ≡ typed_dialect typed) (declares : inputs ≡ typed_inputs typed) where
+  module _ (dialect : Dialect) (inputs : List InputDeclaration) (in_dialect : dialect ≡ typed_dialect typed) (declares : inputs ≡ typed_inputs typed) where
     -- what the input text means for the declared inputs
     for_declared : (answer : InputAnswer) → InputMeans dialect inputs input answer → InputMeans program.dialect of_text.0.inputs input answer
     for_declared answer means =
@@ -109,7 +109,7 @@ module _ (text input : List ℕ) (parsed : Program) (typed : Typed) (parses : Pa
             parses = parses;
             types = by_rules;
             inputs = for_declared (spells environment) spelled;
-            network = of_program (IsItsNetwork environment states edges) network;
+            network = (of_program (IsItsNetwork environment states edges) network).laid;
             opens = of_program (AllOpenFor environment states) opens;
             opened = opened;
             joined = joined;

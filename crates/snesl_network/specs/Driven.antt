@@ -4,7 +4,7 @@ use Rattle.snesl_data.specs.declared.fault.Fault.{Fault}
 use Rattle.snesl_data.specs.declared.fault.FaultKind.{FaultKind}
 use Rattle.snesl_data.specs.declared.refusal.Refusal.{Refusal}
 use Rattle.snesl_data.specs.declared.refusal.Refusal.TheVariants.{TooBig, BadConfig, NoMemory, NoThread, Output, Short}
-use Rattle.snesl_values.specs.Inputs.{Declaration, Environment, InputMeans, spells}
+use Rattle.snesl_values.specs.Inputs.{InputDeclaration, Environment, InputMeans, spells}
 use Rattle.snesl_data.specs.Types.{Ty}
 use Rattle.snesl_data.specs.Values.{Value}
 use Rattle.snesl_data.specs.Text.{text as text_of_value}
@@ -24,7 +24,7 @@ use Rattle.flow_networks.specs.Networks.{AreOpened, network_of, configuration_of
 use Rattle.flow_networks.specs.Laws.{IsNetwork}
 use Rattle.flow_networks.specs.Flows.{IsLawfulFlow}
 use Rattle.flow_networks.specs.Shapes.{IsSameNetwork}
-use Rattle.flow_plans.specs.Layouts.{layout, edges_needed, IsNetworkOfPlan}
+use Rattle.flow_plans.specs.Layouts.{layout, edges_needed, FollowsLayout}
 use Rattle.flow_assembly.specs.Openings.{AllOpen}
 use Rattle.snesl_translation.specs.Programs.{cells_of, unset_cells}
 use Rattle.flow_drives.specs.declared.config.Config.{Config}
@@ -43,13 +43,13 @@ abbrev pub IsNamed : FinalView StreamNodeState → Fault → Type 0
 IsNamed rest f = NamesFault node_behaviour.process (network_of node_behaviour rest.states rest.edges) (configuration_of node_behaviour rest.states rest.traffic) f
 
 -- the network of a program of these inputs has no more nodes and edges than a graph may have
-abbrev pub FitsInGraph : List ℕ → ProgramTree → List Declaration → Type 0
+abbrev pub FitsInGraph : List ℕ → ProgramTree → List InputDeclaration → Type 0
 FitsInGraph text program inputs =
     let nodes = layout (program_steps text program inputs unset_cells) in
     (length nodes ≤ most_nodes) × (edges_needed nodes ≤ most_edges)
 
 -- or it has more
-abbrev pub ExceedsGraph : List ℕ → ProgramTree → List Declaration → Type 0
+abbrev pub ExceedsGraph : List ℕ → ProgramTree → List InputDeclaration → Type 0
 ExceedsGraph text program inputs =
     let nodes = layout (program_steps text program inputs unset_cells) in
     (most_nodes < length nodes) ⊎ (most_edges < edges_needed nodes)
@@ -66,7 +66,7 @@ module _ (text input : List ℕ) where
     pub parses : Parses text (Ok program)
     pub types : program_verdict text program ≡ Ok (declared, ty)
     pub inputs : InputMeans program.dialect declared.inputs input (spells environment)
-    pub network : IsNetworkOfPlan node_behaviour (program_steps text program declared.inputs (cells_of declared.inputs environment)) states edges
+    pub network : FollowsLayout (program_steps text program declared.inputs (cells_of declared.inputs environment)) states edges
     pub opens : AllOpen (layout (program_steps text program declared.inputs (cells_of declared.inputs environment))) states
     pub opened : AreOpened node_behaviour states
     pub joined : IsNetwork node_behaviour states edges

@@ -2,7 +2,7 @@
 use Rattle.std.specs.Prelude.{ℕ, ◌==◌, ◌++◌, if◌then◌else◌, List, [], ◌∷◌, Option, Some, None, map, option_map}
 use Rattle.std.specs.Option.{option_or}
 use Rattle.snesl_tree.specs.declared.span.Span.{Span}
-use Rattle.snesl_tree.specs.Tree.{Tree, Trees, Binders, Condition, integer, truth, name, binary, prefix, call, apply, group, pair, binding, choice, literal, filter, each, none, both, none_bound, binder, always, only_where, Typed, DeclarationTree, declares_input, declares_function, ProgramTree}
+use Rattle.snesl_tree.specs.Tree.{Tree, Trees, Binders, Condition, integer, truth, name, binary, prefix, call, apply, group, pair, binding, choice, literal, filter, each, none, both, none_bound, binder, always, only_where, TypedName, DeclarationTree, declares_input, declares_function, ProgramTree}
 
 -- the names that may stand there: of values, innermost first, or of functions
 pub data CandidateNames : Type 0 where
@@ -63,7 +63,7 @@ enclosed places declared (values inner) = values (inner ++ places)
 enclosed places declared (functions inner) = functions (inner ++ declared)
 
 -- the names of inputs or parameters
-abbrev pub places_of : List Typed → List Span
+abbrev pub places_of : List TypedName → List Span
 places_of typed = map (λ one. one.place) typed
 
 -- the names of the inputs among declarations

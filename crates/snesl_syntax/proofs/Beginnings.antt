@@ -1,9 +1,9 @@
 -- What the grammar lists as the beginning of a program after its dialect can be completed to one.
 use Rattle.std.proofs.Common.{◌≡◌, ℕ, max, ◌≤◌, List, [], ◌∷◌, ◌++◌, refl, sym, ◌∙◌, ap, subst, arith, append_assoc}
-use Rattle.snesl_lexer.specs.declared.token.Kind.TheVariants.{Int, Function, LeftParen, RightParen, Colon, Semicolon, Comma, Equals}
+use Rattle.snesl_lexer.specs.declared.token.TokenKind.TheVariants.{Int, Function, LeftParen, RightParen, Colon, Semicolon, Comma, Equals}
 use Rattle.snesl_lexer.specs.declared.token.Token.{Token}
 use Rattle.snesl_tree.specs.declared.span.Span.{Span}
-use Rattle.snesl_tree.specs.Tree.{Tree, name, depth, TypeTree, int_type, type_depth, Typed, DeclarationTree, declares_input, declares_function}
+use Rattle.snesl_tree.specs.Tree.{Tree, name, depth, TypeTree, int_type, type_depth, TypedName, DeclarationTree, declares_input, declares_function}
 use Rattle.snesl_grammar.specs.Expressions.{token, name_token, name_rule}
 use Rattle.snesl_expressions.specs.Readers.{Reader}
 use Rattle.snesl_grammar.specs.Types.{WholeType, int_rule}
@@ -35,7 +35,7 @@ record CompletedParameter (d : ℕ) (ts : List Token) : Type 0 where
 -- the same of parameters
 record CompletedParameters (d : ℕ) (ts : List Token) : Type 0 where
   pub rest : List Token
-  pub parameters : List Typed
+  pub parameters : List TypedName
   pub whole : WholeParameters (ts ++ rest) parameters
   pub shallow : parameters_depth parameters ≤ d
 
@@ -89,7 +89,7 @@ completed_parameters (first_parameter f) =
 completed_parameters (next_parameter comma {ts = ts} {us = us} {given = given} ws k f) =
     let c = completed_parameter f in
     let h : type_depth c.written ≤ _ = c.shallow in
-    let last : Typed = typed c.place c.written in
+    let last : TypedName = typed c.place c.written in
     let deep : parameters_depth (given ++ last ∷ []) ≡ max (parameters_depth given) (type_depth c.written) = depth-parameters given last in
     record {
       rest = c.rest;
@@ -100,7 +100,7 @@ completed_parameters (next_parameter comma {ts = ts} {us = us} {given = given} w
       shallow = omega arith;
     }
 
-parameters_pos : {ts : List Token} {parameters : List Typed} → WholeParameters ts parameters → 1 ≤ parameters_depth parameters
+parameters_pos : {ts : List Token} {parameters : List TypedName} → WholeParameters ts parameters → 1 ≤ parameters_depth parameters
 parameters_pos (one_parameter place colon {written = written} w) = let h : 1 ≤ type_depth written = type_depth_pos written in omega arith
 parameters_pos (more_parameters comma place colon {given = given} {written = written} ws w) =
     let h : 1 ≤ type_depth written = type_depth_pos written in
@@ -108,14 +108,14 @@ parameters_pos (more_parameters comma place colon {given = given} {written = wri
     omega arith
 
 -- a parameter, to complete functions with
-abbrev short : Typed
+abbrev short : TypedName
 short = typed spot (int_type 0)
 
 -- the rest of a function after its parameters
 abbrev short_rest : List Token
 short_rest = token RightParen 0 ∷ token Colon 0 ∷ token Int 0 ∷ token Equals 0 ∷ leaf ∷ token Semicolon 0 ∷ []
 
-short_function : (at : ℕ) (place : Span) (opened : ℕ) (ts : List Token) (parameters : List Typed) → WholeParameters ts parameters
+short_function : (at : ℕ) (place : Span) (opened : ℕ) (ts : List Token) (parameters : List TypedName) → WholeParameters ts parameters
     → WholeDeclaration (token Function at ∷ name_token place ∷ token LeftParen opened ∷ (ts ++ short_rest))
     (declares_function place parameters (int_type 0) (name spot))
 short_function at place opened ts parameters ws = function_rule at place opened 0 0 0 0 ws (int_rule {at = 0}) (name_rule spot)

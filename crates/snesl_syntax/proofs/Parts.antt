@@ -1,8 +1,8 @@
 -- What a token makes of a part of a program, and what comes of that in the program.
 use Rattle.std.proofs.Common.{◌≡◌, ℕ, true, false, cond, leb, Option, Some, None, Result, Ok, Err, refl, sym, ◌∙◌, ap, subst}
 use Rattle.std.specs.Result.{IsErrAnd}
-use Rattle.snesl_lexer.specs.declared.token.Kind.{Kind}
-use Rattle.snesl_lexer.specs.declared.token.Kind.TheVariants.{Semicolon}
+use Rattle.snesl_lexer.specs.declared.token.TokenKind.{TokenKind}
+use Rattle.snesl_lexer.specs.declared.token.TokenKind.TheVariants.{Semicolon}
 use Rattle.snesl_lexer.specs.declared.token.Token.{Token}
 use Rattle.snesl_tree.specs.Tree.{Tree, TypeTree}
 use Rattle.snesl_expressions.specs.Readers.{Stop, beyond_depth, TokenMove, within}
@@ -12,7 +12,7 @@ use Rattle.snesl_expressions.specs.declared.machine.StepError.TheVariants as err
 use Rattle.snesl_expressions.specs.Parsing.{Fails}
 use Rattle.snesl_syntax.specs.Types.{TypeState, types}
 use Rattle.snesl_syntax.specs.Programs.{TypeOf, Header, in_type, in_body, lifted, or_else, when_whole, body_end, type_end, programs}
-use Rattle.snesl_syntax.specs.TypeMachine.{Stops, Steps}
+use Rattle.snesl_syntax.specs.TypeMachine.{Stops, IsStep}
 use Rattle.snesl_syntax.proofs.TypesRead.{types_are_read}
 use Rattle.snesl_syntax.proofs.ProgramsRead.{parts_are_read}
 
@@ -24,7 +24,7 @@ when_none : {Form S : Type 0} (found : Option Form) (ends : Form → Option (Tok
 when_none None ends h = refl
 when_none (Some form) ends h = h form
 
-not_semicolon : (header : Header) (k : Kind) (body : Tree) → (k ≡ Semicolon → ⊥) → body_end {State = State} header k body ≡ None
+not_semicolon : (header : Header) (k : TokenKind) (body : Tree) → (k ≡ Semicolon → ⊥) → body_end {State = State} header k body ≡ None
 not_semicolon header Semicolon body h = absurd (h refl)
 not_semicolon header _ body h = refl
 
@@ -97,6 +97,6 @@ machine_stops errors.TooDeep next h = h
 
 -- a stop is passed on
 pub stop_passed : {Machine S : Type 0} (state_of : Machine → S) (x : Result Machine StepError) (error : StepError) (next : Result S Stop)
-    → IsErrAnd x (λ e. e ≡ error) → Stops error next → Steps state_of x next
+    → IsErrAnd x (λ e. e ≡ error) → Stops error next → IsStep state_of x next
 stop_passed state_of (Ok machine) error next h k = absurd h
 stop_passed state_of (Err e) error next h k = subst (λ y. Stops y next) (sym h) k

@@ -9,7 +9,7 @@ use Rattle.snesl_lexer.proofs.OneReading.{one_reading}
 use Rattle.snesl_tree.specs.Tree.{ProgramTree}
 use Rattle.snesl_grammar.specs.Limits.{greatest_depth}
 use Rattle.snesl_grammar.specs.Limits.{greatest_length}
-use Rattle.snesl_syntax.specs.Answer.{answer}
+use Rattle.snesl_syntax.specs.Answer.{parse_rest}
 use Rattle.snesl_syntax.specs.DialectMachine.{reader}
 use Rattle.snesl_syntax.specs.Parse.{Parses, too_long, bad_byte, read, HaveSomeAnswer}
 use Rattle.snesl_syntax.proofs.Verdicts.{programs_answer}
@@ -18,7 +18,7 @@ use Rattle.snesl_syntax.proofs.Verdicts.{programs_answer}
 of_reading : (bytes : List ℕ) → length bytes ≤ greatest_length → (reading : Result (List Token) ℕ) → Reads bytes reading
     → (found : Result ProgramTree Refusal) × Parses bytes found
 of_reading bytes fits (Ok tokens) reads = (
-  answer reader greatest_depth (length bytes) reader.start tokens,
+  parse_rest reader greatest_depth (length bytes) reader.start tokens,
   read fits reads (programs_answer greatest_depth (length bytes) tokens (omega arith)),
 )
 of_reading bytes fits (Err at) reads = (Err (Lex at), bad_byte fits reads)

@@ -1,13 +1,13 @@
 -- What was read of a program after its dialect stands in the grammar.
 use Rattle.std.proofs.Common.{◌≡◌, ℕ, suc, max, ◌≤◌, List, [], ◌∷◌, ◌++◌, Option, Some, None, Ok, refl, sym, subst, arith, append_assoc}
 use Rattle.std.proofs.lemmas.List.{append-nil}
-use Rattle.snesl_lexer.specs.declared.token.Kind.{Kind}
-use Rattle.snesl_lexer.specs.declared.token.Kind.TheVariants.{Name, Input, Function, LeftParen, RightParen, Colon, Semicolon, Comma, Equals}
+use Rattle.snesl_lexer.specs.declared.token.TokenKind.{TokenKind}
+use Rattle.snesl_lexer.specs.declared.token.TokenKind.TheVariants.{Name, Input, Function, LeftParen, RightParen, Colon, Semicolon, Comma, Equals}
 use Rattle.snesl_lexer.specs.declared.token.Token.{Token}
 use Rattle.snesl_tree.specs.declared.span.Span.{Span}
-use Rattle.snesl_tree.specs.Tree.{Tree, depth, TypeTree, type_depth, Typed, DeclarationTree, declares_input, declares_function}
+use Rattle.snesl_tree.specs.Tree.{Tree, depth, TypeTree, type_depth, TypedName, DeclarationTree, declares_input, declares_function}
 use Rattle.snesl_grammar.specs.Expressions.{token, name_token, Whole, Front, nothing}
-use Rattle.snesl_expressions.specs.Readers.{TokenMove, Reader, go}
+use Rattle.snesl_expressions.specs.Readers.{TokenMove, Reader, after_tokens}
 use Rattle.snesl_expressions.proofs.Reading.{ends_with, fits_step}
 use Rattle.snesl_grammar.specs.Types.{WholeType, FrontType}
 use Rattle.snesl_syntax.specs.Types.{TypeState, types}
@@ -24,27 +24,27 @@ pub record Declared (d : ℕ) (done : List DeclarationTree) (ts : List Token) : 
   pub shallow : declarations_depth done ≤ d
 
 -- the tokens after a function's opening parenthesis that lead to its next parameter
-pub data Given : ℕ → List Typed → List Token → Type 0 where
+pub data Given : ℕ → List TypedName → List Token → Type 0 where
   given_none : {d : ℕ} → Given d [] []
-  given_more : {d : ℕ} (comma : ℕ) {given : List Typed} {ts : List Token}
+  given_more : {d : ℕ} (comma : ℕ) {given : List TypedName} {ts : List Token}
       → WholeParameters ts given → parameters_depth given ≤ d → Given d given (ts ++ (token Comma comma ∷ []))
 
 -- the tokens that lead to a type
 pub data Opens : ℕ → TypeOf → List Token → Type 0 where
   opens_input : {d : ℕ} (at : ℕ) (place : Span) (colon : ℕ) {done : List DeclarationTree} {ts : List Token}
       → Declared d done ts → Opens d (of_input done place) (ts ++ (token Input at ∷ name_token place ∷ token Colon colon ∷ []))
-  opens_parameter : {d : ℕ} (at : ℕ) (function : Span) (opened : ℕ) (place : Span) (colon : ℕ) {done : List DeclarationTree} {given : List Typed}
+  opens_parameter : {d : ℕ} (at : ℕ) (function : Span) (opened : ℕ) (place : Span) (colon : ℕ) {done : List DeclarationTree} {given : List TypedName}
       {ts us : List Token} → Declared d done ts → Given d given us
       → Opens d (of_parameter done function given place)
       (ts ++ (token Function at ∷ name_token function ∷ token LeftParen opened ∷ (us ++ (name_token place ∷ token Colon colon ∷ []))))
-  opens_result : {d : ℕ} (at : ℕ) (function : Span) (opened closed colon : ℕ) {done : List DeclarationTree} {parameters : List Typed}
+  opens_result : {d : ℕ} (at : ℕ) (function : Span) (opened closed colon : ℕ) {done : List DeclarationTree} {parameters : List TypedName}
       {ts us : List Token} → Declared d done ts → WholeParameters us parameters → parameters_depth parameters ≤ d
       → Opens d (of_result done function parameters)
       (ts ++ (token Function at ∷ name_token function ∷ token LeftParen opened ∷ (us ++ (token RightParen closed ∷ token Colon colon ∷ []))))
 
 -- the tokens that lead to a body
 pub data OpensBody : ℕ → Header → List Token → Type 0 where
-  opens_body : {d : ℕ} (at : ℕ) (function : Span) (opened closed colon equals : ℕ) {done : List DeclarationTree} {parameters : List Typed} {result : TypeTree}
+  opens_body : {d : ℕ} (at : ℕ) (function : Span) (opened closed colon equals : ℕ) {done : List DeclarationTree} {parameters : List TypedName} {result : TypeTree}
       {ts us vs : List Token} → Declared d done ts → WholeParameters us parameters → parameters_depth parameters ≤ d
       → WholeType vs result → type_depth result ≤ d
       → OpensBody d (record { done = done; function = function; parameters = parameters; result = result })
@@ -52,7 +52,7 @@ pub data OpensBody : ℕ → Header → List Token → Type 0 where
       ∷ (us ++ (token RightParen closed ∷ token Colon colon ∷ (vs ++ (token Equals equals ∷ []))))))
 
 -- the parameters after one more, and their depth
-pub given_and : {d : ℕ} {given : List Typed} {us : List Token} → Given d given us → (place : Span) (colon : ℕ) (vs : List Token) (written : TypeTree)
+pub given_and : {d : ℕ} {given : List TypedName} {us : List Token} → Given d given us → (place : Span) (colon : ℕ) (vs : List Token) (written : TypeTree)
     → WholeType vs written → type_depth written ≤ d
     → WholeParameters (us ++ (name_token place ∷ token Colon colon ∷ vs)) (given ++ typed place written ∷ [])
     × (parameters_depth (given ++ typed place written ∷ []) ≤ d)
@@ -62,7 +62,7 @@ given_and (given_more comma {given = given} {ts = ts} ws k) place colon vs writt
     (subst (λ x. WholeParameters x (given ++ typed place written ∷ [])) (simp append_assoc) (more_parameters comma place colon ws w), omega arith)
 
 -- parameters that go on with the tokens of one more begin with both
-given_front : {d : ℕ} {given : List Typed} {us : List Token} → Given d given us → (vs : List Token) → FrontParameter d vs → FrontParameters d (us ++ vs)
+given_front : {d : ℕ} {given : List TypedName} {us : List Token} → Given d given us → (vs : List Token) → FrontParameter d vs → FrontParameters d (us ++ vs)
 given_front given_none vs f = first_parameter f
 given_front {d = d} (given_more comma {ts = ts} ws h) vs f =
     subst (FrontParameters d) (sym (append_assoc ts (token Comma comma ∷ []) vs)) (next_parameter comma ws h f)
@@ -90,23 +90,23 @@ module _ {State : Type 0} (expressions : Reader State Tree) (right : ReadsExpres
         → Declared d done ts → Stands d (awaits_function done) (ts ++ (token Function at ∷ []))
     stands_open : {d : ℕ} (at : ℕ) (function : Span) {done : List DeclarationTree} {ts : List Token}
         → Declared d done ts → Stands d (awaits_open done function) (ts ++ (token Function at ∷ name_token function ∷ []))
-    stands_parameter : {d : ℕ} (at : ℕ) (function : Span) (opened : ℕ) {done : List DeclarationTree} {given : List Typed} {ts us : List Token}
+    stands_parameter : {d : ℕ} (at : ℕ) (function : Span) (opened : ℕ) {done : List DeclarationTree} {given : List TypedName} {ts us : List Token}
         → Declared d done ts → Given d given us
         → Stands d (awaits_parameter done function given) (ts ++ (token Function at ∷ name_token function ∷ token LeftParen opened ∷ us))
-    stands_parameter_colon : {d : ℕ} (at : ℕ) (function : Span) (opened : ℕ) (place : Span) {done : List DeclarationTree} {given : List Typed} {ts us : List Token}
+    stands_parameter_colon : {d : ℕ} (at : ℕ) (function : Span) (opened : ℕ) (place : Span) {done : List DeclarationTree} {given : List TypedName} {ts us : List Token}
         → Declared d done ts → Given d given us
         → Stands d (awaits_parameter_colon done function given place)
         (ts ++ (token Function at ∷ name_token function ∷ token LeftParen opened ∷ (us ++ (name_token place ∷ []))))
-    stands_result : {d : ℕ} (at : ℕ) (function : Span) (opened closed : ℕ) {done : List DeclarationTree} {parameters : List Typed} {ts us : List Token}
+    stands_result : {d : ℕ} (at : ℕ) (function : Span) (opened closed : ℕ) {done : List DeclarationTree} {parameters : List TypedName} {ts us : List Token}
         → Declared d done ts → WholeParameters us parameters → parameters_depth parameters ≤ d
         → Stands d (awaits_result done function parameters)
         (ts ++ (token Function at ∷ name_token function ∷ token LeftParen opened ∷ (us ++ (token RightParen closed ∷ []))))
     stands_type : {d : ℕ} {owner : TypeOf} {s : TypeState} {ts : List Token} (us : List Token)
-        → Opens d owner ts → go types d types.start us ≡ Ok s → Stands d (in_type owner s) (ts ++ us)
+        → Opens d owner ts → after_tokens types d types.start us ≡ Ok s → Stands d (in_type owner s) (ts ++ us)
     stands_body : {d : ℕ} {header : Header} {s : State} {ts : List Token} (us : List Token)
-        → OpensBody d header ts → go expressions d expressions.start us ≡ Ok s → Stands d (in_body header s) (ts ++ us)
+        → OpensBody d header ts → after_tokens expressions d expressions.start us ≡ Ok s → Stands d (in_body header s) (ts ++ us)
     stands_final : {d : ℕ} {done : List DeclarationTree} {s : State} {ts : List Token} (us : List Token)
-        → Declared d done ts → go expressions d expressions.start us ≡ Ok s → Stands d (in_final done s) (ts ++ us)
+        → Declared d done ts → after_tokens expressions d expressions.start us ≡ Ok s → Stands d (in_final done s) (ts ++ us)
 
   abbrev Keeps : ℕ → List Token → Token → Option (TokenMove (ProgramState State)) → Type 0
   Keeps d ts t m = Good (λ found. found.want ≤ d → Stands d found.next (ts ++ (t ∷ []))) m
@@ -116,49 +116,49 @@ module _ {State : Type 0} (expressions : Reader State Tree) (right : ReadsExpres
 
   -- a part that goes on is read with one token more
   goes_further : {Inner Form : Type 0} (part : Reader Inner Form) (d : ℕ) (s : Inner) (ts : List Token) (t : Token) (found : TokenMove Inner)
-      → go part d part.start ts ≡ Ok s → part.move s t ≡ Some found → found.want ≤ d → go part d part.start (ts ++ (t ∷ [])) ≡ Ok found.next
+      → after_tokens part d part.start ts ≡ Ok s → part.move s t ≡ Some found → found.want ≤ d → after_tokens part d part.start (ts ++ (t ∷ [])) ≡ Ok found.next
   goes_further part d s ts t found e f h = ends_with part d part.start s found.next ts t e (fits_step part d s found.next t found.want f h)
 
-  between_keeps : {d : ℕ} {done : List DeclarationTree} {ts : List Token} → Declared d done ts → (k : Kind) (at : ℕ)
+  between_keeps : {d : ℕ} {done : List DeclarationTree} {ts : List Token} → Declared d done ts → (k : TokenKind) (at : ℕ)
       → Keeps d ts (token k at) (fixed_move expressions (between done) k at)
   between_keeps h Input at = λ want. stands_input at h
   between_keeps h Function at = λ want. stands_function at h
   between_keeps h _ at = tt
 
-  input_keeps : {d : ℕ} (begun : ℕ) {done : List DeclarationTree} {ts : List Token} → Declared d done ts → (k : Kind) (at : ℕ)
+  input_keeps : {d : ℕ} (begun : ℕ) {done : List DeclarationTree} {ts : List Token} → Declared d done ts → (k : TokenKind) (at : ℕ)
       → Keeps d (ts ++ (token Input begun ∷ [])) (token k at) (fixed_move expressions (awaits_input done) k at)
   input_keeps {d = d} begun {done = done} {ts = ts} h (Name len) at = λ want.
       along d (awaits_input_colon done (span at len)) (simp append_assoc) (stands_input_colon begun (span at len) h)
   input_keeps begun h _ at = tt
 
-  input_colon_keeps : {d : ℕ} (begun : ℕ) (place : Span) {done : List DeclarationTree} {ts : List Token} → Declared d done ts → (k : Kind) (at : ℕ)
+  input_colon_keeps : {d : ℕ} (begun : ℕ) (place : Span) {done : List DeclarationTree} {ts : List Token} → Declared d done ts → (k : TokenKind) (at : ℕ)
       → Keeps d (ts ++ (token Input begun ∷ name_token place ∷ [])) (token k at) (fixed_move expressions (awaits_input_colon done place) k at)
   input_colon_keeps {d = d} begun place {done = done} {ts = ts} h Colon at = λ want.
       along d (in_type (of_input done place) types.start) (simp (append_assoc, append-nil)) (stands_type [] (opens_input begun place at h) refl)
   input_colon_keeps begun place h _ at = tt
 
-  function_keeps : {d : ℕ} (begun : ℕ) {done : List DeclarationTree} {ts : List Token} → Declared d done ts → (k : Kind) (at : ℕ)
+  function_keeps : {d : ℕ} (begun : ℕ) {done : List DeclarationTree} {ts : List Token} → Declared d done ts → (k : TokenKind) (at : ℕ)
       → Keeps d (ts ++ (token Function begun ∷ [])) (token k at) (fixed_move expressions (awaits_function done) k at)
   function_keeps {d = d} begun {done = done} {ts = ts} h (Name len) at = λ want.
       along d (awaits_open done (span at len)) (simp append_assoc) (stands_open begun (span at len) h)
   function_keeps begun h _ at = tt
 
-  open_keeps : {d : ℕ} (begun : ℕ) (function : Span) {done : List DeclarationTree} {ts : List Token} → Declared d done ts → (k : Kind) (at : ℕ)
+  open_keeps : {d : ℕ} (begun : ℕ) (function : Span) {done : List DeclarationTree} {ts : List Token} → Declared d done ts → (k : TokenKind) (at : ℕ)
       → Keeps d (ts ++ (token Function begun ∷ name_token function ∷ [])) (token k at) (fixed_move expressions (awaits_open done function) k at)
   open_keeps {d = d} begun function {done = done} {ts = ts} h LeftParen at = λ want.
       along d (awaits_parameter done function []) (simp append_assoc) (stands_parameter begun function at h given_none)
   open_keeps begun function h _ at = tt
 
-  parameter_keeps : {d : ℕ} (begun : ℕ) (function : Span) (opened : ℕ) {done : List DeclarationTree} {given : List Typed} {ts us : List Token}
-      → Declared d done ts → Given d given us → (k : Kind) (at : ℕ)
+  parameter_keeps : {d : ℕ} (begun : ℕ) (function : Span) (opened : ℕ) {done : List DeclarationTree} {given : List TypedName} {ts us : List Token}
+      → Declared d done ts → Given d given us → (k : TokenKind) (at : ℕ)
       → Keeps d (ts ++ (token Function begun ∷ name_token function ∷ token LeftParen opened ∷ us)) (token k at)
       (fixed_move expressions (awaits_parameter done function given) k at)
   parameter_keeps {d = d} begun function opened {done = done} {given = given} {ts = ts} {us = us} h g (Name len) at = λ want.
       along d (awaits_parameter_colon done function given (span at len)) (simp append_assoc) (stands_parameter_colon begun function opened (span at len) h g)
   parameter_keeps begun function opened h g _ at = tt
 
-  parameter_colon_keeps : {d : ℕ} (begun : ℕ) (function : Span) (opened : ℕ) (place : Span) {done : List DeclarationTree} {given : List Typed} {ts us : List Token}
-      → Declared d done ts → Given d given us → (k : Kind) (at : ℕ)
+  parameter_colon_keeps : {d : ℕ} (begun : ℕ) (function : Span) (opened : ℕ) (place : Span) {done : List DeclarationTree} {given : List TypedName} {ts us : List Token}
+      → Declared d done ts → Given d given us → (k : TokenKind) (at : ℕ)
       → Keeps d (ts ++ (token Function begun ∷ name_token function ∷ token LeftParen opened ∷ (us ++ (name_token place ∷ [])))) (token k at)
       (fixed_move expressions (awaits_parameter_colon done function given place) k at)
   parameter_colon_keeps {d = d} begun function opened place {done = done} {given = given} {ts = ts} {us = us} h g Colon at = λ want.
@@ -166,8 +166,8 @@ module _ {State : Type 0} (expressions : Reader State Tree) (right : ReadsExpres
       (stands_type [] (opens_parameter begun function opened place at h g) refl)
   parameter_colon_keeps begun function opened place h g _ at = tt
 
-  result_keeps : {d : ℕ} (begun : ℕ) (function : Span) (opened closed : ℕ) {done : List DeclarationTree} {parameters : List Typed} {ts us : List Token}
-      → Declared d done ts → WholeParameters us parameters → parameters_depth parameters ≤ d → (k : Kind) (at : ℕ)
+  result_keeps : {d : ℕ} (begun : ℕ) (function : Span) (opened closed : ℕ) {done : List DeclarationTree} {parameters : List TypedName} {ts us : List Token}
+      → Declared d done ts → WholeParameters us parameters → parameters_depth parameters ≤ d → (k : TokenKind) (at : ℕ)
       → Keeps d (ts ++ (token Function begun ∷ name_token function ∷ token LeftParen opened ∷ (us ++ (token RightParen closed ∷ [])))) (token k at)
       (fixed_move expressions (awaits_result done function parameters) k at)
   result_keeps {d = d} begun function opened closed {done = done} {parameters = parameters} {ts = ts} {us = us} h w k Colon at = λ want.
@@ -177,16 +177,16 @@ module _ {State : Type 0} (expressions : Reader State Tree) (right : ReadsExpres
 
   -- the end of the type of an input, of a parameter, of a result
   input_end_keeps : {d : ℕ} (begun : ℕ) (place : Span) (colon : ℕ) {done : List DeclarationTree} {ts : List Token} → Declared d done ts
-      → (us : List Token) (written : TypeTree) → WholeType us written → type_depth written ≤ d → (k : Kind) (at : ℕ)
+      → (us : List Token) (written : TypeTree) → WholeType us written → type_depth written ≤ d → (k : TokenKind) (at : ℕ)
       → Keeps d ((ts ++ (token Input begun ∷ name_token place ∷ token Colon colon ∷ [])) ++ us) (token k at) (type_end expressions (of_input done place) k written)
   input_end_keeps {d = d} begun place colon {done = done} {ts = ts} h us written w fits Semicolon at = λ want.
       along d (between (done ++ declares_input (typed place written) ∷ [])) (simp append_assoc)
       (stands_between (declared_more h (input_rule begun place colon at w) fits))
   input_end_keeps begun place colon h us written w fits _ at = tt
 
-  parameter_end_keeps : {d : ℕ} (begun : ℕ) (function : Span) (opened : ℕ) (place : Span) (colon : ℕ) {done : List DeclarationTree} {given : List Typed}
+  parameter_end_keeps : {d : ℕ} (begun : ℕ) (function : Span) (opened : ℕ) (place : Span) (colon : ℕ) {done : List DeclarationTree} {given : List TypedName}
       {ts vs : List Token} → Declared d done ts → Given d given vs
-      → (us : List Token) (written : TypeTree) → WholeType us written → type_depth written ≤ d → (k : Kind) (at : ℕ)
+      → (us : List Token) (written : TypeTree) → WholeType us written → type_depth written ≤ d → (k : TokenKind) (at : ℕ)
       → Keeps d ((ts ++ (token Function begun ∷ name_token function ∷ token LeftParen opened ∷ (vs ++ (name_token place ∷ token Colon colon ∷ [])))) ++ us) (token k at)
       (type_end expressions (of_parameter done function given place) k written)
   parameter_end_keeps {d = d} begun function opened place colon {done = done} {given = given} {ts = ts} {vs = vs} h g us written w fits Comma at = λ want.
@@ -199,9 +199,9 @@ module _ {State : Type 0} (expressions : Reader State Tree) (right : ReadsExpres
       (stands_result begun function opened at h more.0 more.1)
   parameter_end_keeps begun function opened place colon h g us written w fits _ at = tt
 
-  result_end_keeps : {d : ℕ} (begun : ℕ) (function : Span) (opened closed colon : ℕ) {done : List DeclarationTree} {parameters : List Typed}
+  result_end_keeps : {d : ℕ} (begun : ℕ) (function : Span) (opened closed colon : ℕ) {done : List DeclarationTree} {parameters : List TypedName}
       {ts vs : List Token} → Declared d done ts → WholeParameters vs parameters → parameters_depth parameters ≤ d
-      → (us : List Token) (written : TypeTree) → WholeType us written → type_depth written ≤ d → (k : Kind) (at : ℕ)
+      → (us : List Token) (written : TypeTree) → WholeType us written → type_depth written ≤ d → (k : TokenKind) (at : ℕ)
       → Keeps d ((ts ++ (token Function begun ∷ name_token function ∷ token LeftParen opened ∷ (vs ++ (token RightParen closed ∷ token Colon colon ∷ [])))) ++ us) (token k at)
       (type_end expressions (of_result done function parameters) k written)
   result_end_keeps {d = d} begun function opened closed colon {done = done} {parameters = parameters} {ts = ts} {vs = vs} h ws room us written w fits Equals at = λ want.
@@ -210,7 +210,7 @@ module _ {State : Type 0} (expressions : Reader State Tree) (right : ReadsExpres
   result_end_keeps begun function opened closed colon h ws room us written w fits _ at = tt
 
   type_end_keeps : {d : ℕ} {owner : TypeOf} {ts : List Token} → Opens d owner ts → (us : List Token) (written : TypeTree)
-      → WholeType us written → type_depth written ≤ d → (k : Kind) (at : ℕ) → Keeps d (ts ++ us) (token k at) (type_end expressions owner k written)
+      → WholeType us written → type_depth written ≤ d → (k : TokenKind) (at : ℕ) → Keeps d (ts ++ us) (token k at) (type_end expressions owner k written)
   type_end_keeps (opens_input begun place colon h) us written w fits k at = input_end_keeps begun place colon h us written w fits k at
   type_end_keeps (opens_parameter begun function opened place colon h g) us written w fits k at =
       parameter_end_keeps begun function opened place colon h g us written w fits k at
@@ -219,7 +219,7 @@ module _ {State : Type 0} (expressions : Reader State Tree) (right : ReadsExpres
 
   -- the end of a body
   body_end_keeps : {d : ℕ} {header : Header} {ts : List Token} → OpensBody d header ts → (us : List Token) (body : Tree)
-      → Whole 0 us body → depth body ≤ d → (k : Kind) (at : ℕ) → Keeps d (ts ++ us) (token k at) (body_end header k body)
+      → Whole 0 us body → depth body ≤ d → (k : TokenKind) (at : ℕ) → Keeps d (ts ++ us) (token k at) (body_end header k body)
   body_end_keeps {d = d} (opens_body begun function opened closed colon equals {done = done} {parameters = parameters} {result = result} {ts = ts} {us = vs} {vs = ws} h wp roomy wr room) us body w fits Semicolon at = λ want.
       along d (between (done ++ declares_function function parameters result body ∷ [])) (simp append_assoc)
       (stands_between (declared_more h (function_rule begun function opened closed colon equals at wp wr w) (omega arith)))
@@ -258,7 +258,7 @@ module _ {State : Type 0} (expressions : Reader State Tree) (right : ReadsExpres
       (λ found f want. along d (in_final done found.next) (sym (append_assoc ts us (t ∷ []))) (stands_final (us ++ (t ∷ [])) h (goes_further expressions d state us t found e f want)))
 
   -- what is read stands
-  stands_programs : (d : ℕ) (ts : List Token) (s : ProgramState State) → 1 ≤ d → go reader d reader.start ts ≡ Ok s → Stands d s ts
+  stands_programs : (d : ℕ) (ts : List Token) (s : ProgramState State) → 1 ≤ d → after_tokens reader d reader.start ts ≡ Ok s → Stands d s ts
   stands_programs d ts s least e =
       go_stands reader (Stands d) d (step_keeps d least) ts reader.start s []
       (stands_between (record { are = no_declarations; shallow = omega arith })) e
@@ -299,13 +299,13 @@ module _ {State : Type 0} (expressions : Reader State Tree) (right : ReadsExpres
   stands_front {d = d} (stands_final {s = state} us h e) = rest_in_expression h.are h.shallow (right.is.stands (suc d) us state (omega arith) e)
 
   -- tokens that are read begin the rest of a program within the depth
-  pub rest_stands : (d : ℕ) (ts : List Token) (s : ProgramState State) → 1 ≤ d → go reader d reader.start ts ≡ Ok s → FrontRest d ts
+  pub rest_stands : (d : ℕ) (ts : List Token) (s : ProgramState State) → 1 ≤ d → after_tokens reader d reader.start ts ≡ Ok s → FrontRest d ts
   rest_stands Prim.Native.Nat.zero ts s least e = absurd (omega arith)
   rest_stands (suc d) ts s least e = stands_front (stands_programs (suc d) ts s least e)
 
   -- the rest of a program where the expression is whole
   expression_whole : {d : ℕ} {done : List DeclarationTree} {ts : List Token} (us : List Token) (s : State) (rest : Rest) → 1 ≤ d → Declared d done ts
-      → go expressions d expressions.start us ≡ Ok s → with_expression expressions done (expressions.finished s) ≡ Some rest
+      → after_tokens expressions d expressions.start us ≡ Ok s → with_expression expressions done (expressions.finished s) ≡ Some rest
       → WholeRest (ts ++ us) rest × (rest_depth rest ≤ d)
   expression_whole {d = d} {done = done} {ts = ts} us s rest least h e f = by_form (expressions.finished s) refl f
     where
@@ -338,6 +338,6 @@ module _ {State : Type 0} (expressions : Reader State Tree) (right : ReadsExpres
   stands_whole least (stands_body us o e) rest f = absurd (let never : ⊥ = cc in never)
 
   -- where the reader has the rest of a program, the tokens are that
-  pub rest_whole : (d : ℕ) (ts : List Token) (s : ProgramState State) (rest : Rest) → 1 ≤ d → go reader d reader.start ts ≡ Ok s
+  pub rest_whole : (d : ℕ) (ts : List Token) (s : ProgramState State) (rest : Rest) → 1 ≤ d → after_tokens reader d reader.start ts ≡ Ok s
       → reader.finished s ≡ Some rest → WholeRest ts rest × (rest_depth rest ≤ d)
   rest_whole d ts s rest least e f = stands_whole least (stands_programs d ts s least e) rest f

@@ -1,12 +1,12 @@
 -- The reader of types reads what the grammar says.
 use Rattle.std.proofs.Common.{◌≡◌, ℕ, suc, ◌+◌, ◌-◌, ◌≤◌, List, [], ◌∷◌, ◌++◌, length, Option, Some, None, Ok, refl, sym, ◌∙◌, subst, arith, append_assoc}
 use Rattle.std.proofs.lemmas.List.{append-nil}
-use Rattle.snesl_lexer.specs.declared.token.Kind.{Kind}
-use Rattle.snesl_lexer.specs.declared.token.Kind.TheVariants.{Int, Bool, LeftParen, RightParen, LeftBracket, RightBracket, LeftBrace, RightBrace, Comma}
+use Rattle.snesl_lexer.specs.declared.token.TokenKind.{TokenKind}
+use Rattle.snesl_lexer.specs.declared.token.TokenKind.TheVariants.{Int, Bool, LeftParen, RightParen, LeftBracket, RightBracket, LeftBrace, RightBrace, Comma}
 use Rattle.snesl_lexer.specs.declared.token.Token.{Token}
 use Rattle.snesl_tree.specs.Tree.{TypeTree, int_type, bool_type, pair_type, vector_type, sequence_type, type_depth}
 use Rattle.snesl_grammar.specs.Expressions.{token}
-use Rattle.snesl_expressions.specs.Readers.{TokenMove, go}
+use Rattle.snesl_expressions.specs.Readers.{TokenMove, after_tokens}
 use Rattle.snesl_expressions.proofs.Reading.{goes_on, steps_on, ends_with, fits_step}
 use Rattle.snesl_grammar.specs.Types.{WholeType, int_rule, bool_rule, pair_type_rule, vector_rule, sequence_rule, FrontType, no_type, whole_type, pair_type_first, pair_type_second, vector_item, sequence_item}
 use Rattle.snesl_syntax.specs.Types.{MayFollowType, TypeFrame, in_first, in_second, in_vector, in_sequence, TypeState, type_begins, type_ended, type_move, finished_type, types}
@@ -23,14 +23,14 @@ type_depth_pos (sequence_type at e) = omega arith
 -- an opening token is read, where there is room for a part
 opened : (d : ℕ) (s : List TypeFrame) (f : TypeFrame) (t : Token) (ts : List Token)
     → types.move (type_begins s) t ≡ Some (record { want = suc (suc (length s)); next = type_begins (f ∷ s) }) → suc (suc (length s)) ≤ d
-    → go types d (type_begins s) (t ∷ ts) ≡ go types d (type_begins (f ∷ s)) ts
+    → after_tokens types d (type_begins s) (t ∷ ts) ≡ after_tokens types d (type_begins (f ∷ s)) ts
 opened d s f t ts e h =
     steps_on types d (type_begins s) (type_begins (f ∷ s)) t ts
     (fits_step types d (type_begins s) (type_begins (f ∷ s)) t (suc (suc (length s))) e h)
 
 -- a whole type is read
 pub type_reads : {ts : List Token} {e : TypeTree} → WholeType ts e → (d : ℕ) (s : List TypeFrame) → type_depth e + length s ≤ d
-    → go types d (type_begins s) ts ≡ Ok (type_ended s e)
+    → after_tokens types d (type_begins s) ts ≡ Ok (type_ended s e)
 type_reads (int_rule {at = at}) d s fits =
     steps_on types d (type_begins s) (type_ended s (int_type at)) (token Int at) []
     (free_step types d (type_begins s) (type_ended s (int_type at)) (token Int at) refl)
@@ -86,7 +86,7 @@ along : (d : ℕ) (s : TypeState) {ts us : List Token} → ts ≡ us → Stands 
 along d s e h = subst (Stands d s) e h
 
 begins_keeps : {d : ℕ} {s : List TypeFrame} {ts : List Token} → Spells d s ts → suc (length s) ≤ d
-    → (k : Kind) (at : ℕ) → Keeps d ts (token k at) (type_move (type_begins s) k at)
+    → (k : TokenKind) (at : ℕ) → Keeps d ts (token k at) (type_move (type_begins s) k at)
 begins_keeps h room Int at = λ want. stands_ended h int_rule (omega arith)
 begins_keeps h room Bool at = λ want. stands_ended h bool_rule (omega arith)
 begins_keeps h room LeftParen at = λ want. stands_begins (spells_first h want) want
@@ -95,7 +95,7 @@ begins_keeps h room LeftBrace at = λ want. stands_begins (spells_sequence h wan
 begins_keeps h room _ at = tt
 
 first_keeps : {d : ℕ} (at0 : ℕ) {s : List TypeFrame} {ts us : List Token} {e : TypeTree} → Spells d s ts → WholeType us e → suc (type_depth e + length s) ≤ d
-    → (k : Kind) (at : ℕ) → Keeps d ((ts ++ (token LeftParen at0 ∷ [])) ++ us) (token k at) (type_move (type_ended (in_first at0 ∷ s) e) k at)
+    → (k : TokenKind) (at : ℕ) → Keeps d ((ts ++ (token LeftParen at0 ∷ [])) ++ us) (token k at) (type_move (type_ended (in_first at0 ∷ s) e) k at)
 first_keeps {d = d} at0 {s = s} {ts = ts} {us = us} {e = e} h w fits Comma at = λ want.
     let least : 1 ≤ type_depth e = type_depth_pos e in
     along d (type_begins (in_second at0 e ∷ s)) (simp append_assoc) (stands_begins (spells_second at h w fits) (omega arith))
@@ -103,25 +103,25 @@ first_keeps at0 h w fits _ at = tt
 
 second_keeps : {d : ℕ} (at0 c : ℕ) {s : List TypeFrame} {ts us vs : List Token} {a e : TypeTree} → Spells d s ts → WholeType us a → WholeType vs e
     → suc (type_depth a + length s) ≤ d → suc (type_depth e + length s) ≤ d
-    → (k : Kind) (at : ℕ) → Keeps d ((ts ++ (token LeftParen at0 ∷ (us ++ (token Comma c ∷ [])))) ++ vs) (token k at) (type_move (type_ended (in_second at0 a ∷ s) e) k at)
+    → (k : TokenKind) (at : ℕ) → Keeps d ((ts ++ (token LeftParen at0 ∷ (us ++ (token Comma c ∷ [])))) ++ vs) (token k at) (type_move (type_ended (in_second at0 a ∷ s) e) k at)
 second_keeps {d = d} at0 c {s = s} {ts = ts} {us = us} {vs = vs} {a = a} {e = e} h wa w room fits RightParen at = λ want.
     along d (type_ended s (pair_type at0 a e)) (simp append_assoc) (stands_ended h (pair_type_rule {at = at0} c at wa w) (omega arith))
 second_keeps at0 c h wa w room fits _ at = tt
 
 vector_keeps : {d : ℕ} (at0 : ℕ) {s : List TypeFrame} {ts us : List Token} {e : TypeTree} → Spells d s ts → WholeType us e → suc (type_depth e + length s) ≤ d
-    → (k : Kind) (at : ℕ) → Keeps d ((ts ++ (token LeftBracket at0 ∷ [])) ++ us) (token k at) (type_move (type_ended (in_vector at0 ∷ s) e) k at)
+    → (k : TokenKind) (at : ℕ) → Keeps d ((ts ++ (token LeftBracket at0 ∷ [])) ++ us) (token k at) (type_move (type_ended (in_vector at0 ∷ s) e) k at)
 vector_keeps {d = d} at0 {s = s} {ts = ts} {us = us} {e = e} h w fits RightBracket at = λ want.
     along d (type_ended s (vector_type at0 e)) (simp append_assoc) (stands_ended h (vector_rule {at = at0} at w) (omega arith))
 vector_keeps at0 h w fits _ at = tt
 
 sequence_keeps : {d : ℕ} (at0 : ℕ) {s : List TypeFrame} {ts us : List Token} {e : TypeTree} → Spells d s ts → WholeType us e → suc (type_depth e + length s) ≤ d
-    → (k : Kind) (at : ℕ) → Keeps d ((ts ++ (token LeftBrace at0 ∷ [])) ++ us) (token k at) (type_move (type_ended (in_sequence at0 ∷ s) e) k at)
+    → (k : TokenKind) (at : ℕ) → Keeps d ((ts ++ (token LeftBrace at0 ∷ [])) ++ us) (token k at) (type_move (type_ended (in_sequence at0 ∷ s) e) k at)
 sequence_keeps {d = d} at0 {s = s} {ts = ts} {us = us} {e = e} h w fits RightBrace at = λ want.
     along d (type_ended s (sequence_type at0 e)) (simp append_assoc) (stands_ended h (sequence_rule {at = at0} at w) (omega arith))
 sequence_keeps at0 h w fits _ at = tt
 
 ended_keeps : {d : ℕ} {s : List TypeFrame} {ts us : List Token} {e : TypeTree} → Spells d s ts → WholeType us e → type_depth e + length s ≤ d
-    → (k : Kind) (at : ℕ) → Keeps d (ts ++ us) (token k at) (type_move (type_ended s e) k at)
+    → (k : TokenKind) (at : ℕ) → Keeps d (ts ++ us) (token k at) (type_move (type_ended s e) k at)
 ended_keeps spells_none w fits k at = tt
 ended_keeps (spells_first {at = at0} h room) w fits k at = first_keeps at0 h w (omega arith) k at
 ended_keeps (spells_second {at = at0} c h wa room) w fits k at = second_keeps at0 c h wa w room (omega arith) k at
@@ -133,7 +133,7 @@ step_keeps d s ts t (stands_begins h room) = begins_keeps h room t.kind t.at
 step_keeps d s ts t (stands_ended h w fits) = ended_keeps h w fits t.kind t.at
 
 -- what is read stands
-stands_types : (d : ℕ) (ts : List Token) (s : TypeState) → 1 ≤ d → go types d types.start ts ≡ Ok s → Stands d s ts
+stands_types : (d : ℕ) (ts : List Token) (s : TypeState) → 1 ≤ d → after_tokens types d types.start ts ≡ Ok s → Stands d s ts
 stands_types d ts s least e = go_stands types (Stands d) d (step_keeps d) ts types.start s [] (stands_begins spells_none least) e
 
 -- a type that begins inside the open ones begins with them

@@ -13,7 +13,7 @@ use Rattle.snesl_syntax.specs.declared.dialects.Whole.{Whole}
 use Rattle.snesl_grammar.specs.Limits.{greatest_length, greatest_depth}
 use Rattle.snesl_grammar.specs.Programs.{FrontProgram, program_depth}
 use Rattle.snesl_grammar.specs.Spelled.{IsSpelled}
-use Rattle.snesl_syntax.specs.Answer.{answer}
+use Rattle.snesl_syntax.specs.Answer.{parse_rest}
 use Rattle.snesl_syntax.specs.Parse.{AnswersBy, AnswersTokens, accepted, wrong, too_deep, ended, Parses, too_long, bad_byte, read, HaveOneAnswer, BeginsProgram, FrontsBeginPrograms, IsOfText, IsRight, Returns}
 use Rattle.snesl_syntax.specs.DialectMachine.{reader, FindsWhole, FindsOneOf}
 use Rattle.snesl_expressions.proofs.Depths.{depth_pos}
@@ -45,7 +45,7 @@ listed : {d len : ℕ} {ts : List Token} {found : Result ProgramTree Refusal} �
 listed a = answer_by begun are_read.completes a
 
 -- the answer of the reader for tokens is one that the grammar wants
-pub programs_answer : (d len : ℕ) (ts : List Token) → 1 ≤ d → AnswersTokens d len ts (answer reader d len reader.start ts)
+pub programs_answer : (d len : ℕ) (ts : List Token) → 1 ≤ d → AnswersTokens d len ts (parse_rest reader d len reader.start ts)
 programs_answer d len ts least = answer_by are_read.completes begun (answers reader are_read d len ts least)
 
 -- no text has two answers
@@ -60,7 +60,7 @@ one_parse bytes r s (read h t a) (too_long k) = absurd (omega arith)
 one_parse bytes r s (read h t a) (bad_byte {at = at} k b) = absurd (no_both (dialect_of bytes) t at b)
 one_parse bytes r s (read {tokens = ts} h t a) (read {tokens = us} k u b) =
     one_answer reader are_read (listed a) (omega arith)
-    ∙ ap (answer reader greatest_depth (length bytes) reader.start) (one_tokens (dialect_of bytes) t us u)
+    ∙ ap (parse_rest reader greatest_depth (length bytes) reader.start) (one_tokens (dialect_of bytes) t us u)
     ∙ sym (one_answer reader are_read (listed b) (omega arith))
 
 -- what is the reader's answer is one of the grammar's, where that is

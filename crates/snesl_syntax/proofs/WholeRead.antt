@@ -2,13 +2,13 @@
 use Rattle.std.proofs.Common.{◌≡◌, ℕ, zero, suc, pos, ◌≤◌, List, [], ◌∷◌, ◌++◌, Option, Some, None, Ok, refl, sym, ◌∙◌, ap, subst, arith, append_assoc}
 use Rattle.snesl_data.specs.declared.dialect.Dialect.{Dialect}
 use Rattle.snesl_data.specs.declared.dialect.Dialect.TheVariants.{One, Two}
-use Rattle.snesl_lexer.specs.declared.token.Kind.{Kind}
-use Rattle.snesl_lexer.specs.declared.token.Kind.TheVariants.{Integer, Semicolon, Dialect as DialectWord}
+use Rattle.snesl_lexer.specs.declared.token.TokenKind.{TokenKind}
+use Rattle.snesl_lexer.specs.declared.token.TokenKind.TheVariants.{Integer, Semicolon, Dialect as DialectWord}
 use Rattle.snesl_lexer.specs.declared.token.Token.{Token}
 use Rattle.snesl_tree.specs.Tree.{name, ProgramTree}
 use Rattle.snesl_grammar.specs.Expressions.{token, name_rule, nothing}
 use Rattle.snesl_grammar.specs.Programs.{program_depth, no_declarations, WholeDialect, no_dialect, dialect_rule, WholeProgram, program_rule, FrontProgram, dialect_word, dialect_number, in_declaration, in_expression}
-use Rattle.snesl_expressions.specs.Readers.{TokenMove, Reader, step, go}
+use Rattle.snesl_expressions.specs.Readers.{TokenMove, Reader, step, after_tokens}
 use Rattle.snesl_expressions.proofs.Reading.{bind_ok, within_ok, fits_step, steps_on, ends_with}
 use Rattle.snesl_syntax.specs.Programs.{Rest, lifted, or_else}
 use Rattle.snesl_syntax.specs.Dialects.{DialectState, beginning, awaits_number, awaits_semicolon, in_rest, program_in, in_dialect, dialect_move, whole_programs}
@@ -36,22 +36,22 @@ module _ {State : Type 0} (rests : Reader State Rest) (right : IsReaderOfRests r
   reader = whole_programs rests
 
   -- a rest is read inside a program as it is by itself
-  rest_goes : (d : ℕ) (dialect : Dialect) (ts : List Token) (s r : State) → go rests d s ts ≡ Ok r
-      → go reader d (in_rest dialect s) ts ≡ Ok (in_rest dialect r)
+  rest_goes : (d : ℕ) (dialect : Dialect) (ts : List Token) (s r : State) → after_tokens rests d s ts ≡ Ok r
+      → after_tokens reader d (in_rest dialect s) ts ≡ Ok (in_rest dialect r)
   rest_goes d dialect ts s r e = go_carried rests reader (in_rest dialect) (λ x t found f. ap (lifted (in_rest dialect)) f) d ts s r e
 
   -- what is read of a program after its dialect
   record ReadsRest (d : ℕ) (dialect : Dialect) (ts : List Token) (r : State) : Type 0 where
     pub state : DialectState State
-    pub runs : go reader d beginning ts ≡ Ok state
+    pub runs : after_tokens reader d beginning ts ≡ Ok state
     pub finished : reader.finished state ≡ in_dialect dialect (rests.finished r)
 
-  reads_first : (d : ℕ) (us : List Token) (r : State) → go rests d rests.start us ≡ Ok r → ReadsRest d One us r
+  reads_first : (d : ℕ) (us : List Token) (r : State) → after_tokens rests d rests.start us ≡ Ok r → ReadsRest d One us r
   reads_first d [] r e =
       let same : rests.start ≡ r = cc in
       record { state = beginning; runs = refl; finished = ap (λ x. in_dialect One (rests.finished x)) same }
   reads_first d (u ∷ us) r e =
-      let b = bind_ok (step rests d rests.start u) (λ x. go rests d x us) r e in
+      let b = bind_ok (step rests d rests.start u) (λ x. after_tokens rests d x us) r e in
       let w = within_ok d (rests.move rests.start u) b.0 b.1 in
       record {
         state = in_rest One r;
@@ -65,7 +65,7 @@ module _ {State : Type 0} (rests : Reader State Rest) (right : IsReaderOfRests r
 
   -- the rest is read after its dialect as it is by itself
   reads_named : {named : List Token} {dialect : Dialect} → WholeDialect named dialect → (d : ℕ) (us : List Token) (r : State)
-      → go rests d rests.start us ≡ Ok r → ReadsRest d dialect (named ++ us) r
+      → after_tokens rests d rests.start us ≡ Ok r → ReadsRest d dialect (named ++ us) r
   reads_named no_dialect d us r e = reads_first d us r e
   reads_named (dialect_rule at number semicolon) d us r e =
       record {
@@ -83,7 +83,7 @@ module _ {State : Type 0} (rests : Reader State Rest) (right : IsReaderOfRests r
 
   -- a whole program is read
   program_reads : (d : ℕ) (ts : List Token) (program : ProgramTree) → WholeProgram ts program → program_depth program ≤ d
-      → (s : DialectState State) × (go reader d reader.start ts ≡ Ok s) × (reader.finished s ≡ Some program)
+      → (s : DialectState State) × (after_tokens reader d reader.start ts ≡ Ok s) × (reader.finished s ≡ Some program)
   program_reads d all program (program_rule {ts = ts} {us = us} {dialect = dialect} {declarations = declarations} {expression = expression} n ws w) h =
       let rest : Rest = record { declarations = declarations; expression = expression } in
       let r = right.reads d (ts ++ us) rest (rest_rule ws w) h in
@@ -96,25 +96,25 @@ module _ {State : Type 0} (rests : Reader State Rest) (right : IsReaderOfRests r
     stands_number : {d : ℕ} (at : ℕ) → Stands d awaits_number (token DialectWord at ∷ [])
     stands_semicolon : {d : ℕ} (at number : ℕ) → Stands d awaits_semicolon (token DialectWord at ∷ token (Integer (pos 2)) number ∷ [])
     stands_rest : {d : ℕ} {dialect : Dialect} {s : State} {named : List Token} (us : List Token)
-        → WholeDialect named dialect → go rests d rests.start us ≡ Ok s → Stands d (in_rest dialect s) (named ++ us)
+        → WholeDialect named dialect → after_tokens rests d rests.start us ≡ Ok s → Stands d (in_rest dialect s) (named ++ us)
 
   abbrev Keeps : ℕ → List Token → Token → Option (TokenMove (DialectState State)) → Type 0
   Keeps d ts t m = Good (λ found. found.want ≤ d → Stands d found.next (ts ++ (t ∷ []))) m
 
   -- a rest that goes on is read with one token more
   goes_further : (d : ℕ) (s : State) (ts : List Token) (t : Token) (found : TokenMove State)
-      → go rests d rests.start ts ≡ Ok s → rests.move s t ≡ Some found → found.want ≤ d → go rests d rests.start (ts ++ (t ∷ [])) ≡ Ok found.next
+      → after_tokens rests d rests.start ts ≡ Ok s → rests.move s t ≡ Some found → found.want ≤ d → after_tokens rests d rests.start (ts ++ (t ∷ [])) ≡ Ok found.next
   goes_further d s ts t found e f h = ends_with rests d rests.start s found.next ts t e (fits_step rests d s found.next t found.want f h)
 
-  word_keeps : (d : ℕ) (k : Kind) (at : ℕ) → Keeps d [] (token k at) (dialect_move rests beginning k)
+  word_keeps : (d : ℕ) (k : TokenKind) (at : ℕ) → Keeps d [] (token k at) (dialect_move rests beginning k)
   word_keeps d DialectWord at = λ want. stands_number at
   word_keeps d _ at = tt
 
-  number_keeps : (d : ℕ) (begun : ℕ) (k : Kind) (at : ℕ) → Keeps d (token DialectWord begun ∷ []) (token k at) (dialect_move rests awaits_number k)
+  number_keeps : (d : ℕ) (begun : ℕ) (k : TokenKind) (at : ℕ) → Keeps d (token DialectWord begun ∷ []) (token k at) (dialect_move rests awaits_number k)
   number_keeps d begun (Integer (pos (suc (suc zero)))) at = λ want. stands_semicolon begun at
   number_keeps d begun _ at = tt
 
-  semicolon_keeps : (d : ℕ) (begun number : ℕ) (k : Kind) (at : ℕ)
+  semicolon_keeps : (d : ℕ) (begun number : ℕ) (k : TokenKind) (at : ℕ)
       → Keeps d (token DialectWord begun ∷ token (Integer (pos 2)) number ∷ []) (token k at) (dialect_move rests awaits_semicolon k)
   semicolon_keeps d begun number Semicolon at = λ want. stands_rest [] (dialect_rule begun number at) refl
   semicolon_keeps d begun number _ at = tt
@@ -134,7 +134,7 @@ module _ {State : Type 0} (rests : Reader State Rest) (right : IsReaderOfRests r
       (stands_rest (us ++ (t ∷ [])) n (goes_further d state us t found e f want)))
 
   -- what is read stands
-  stands_whole_programs : (d : ℕ) (ts : List Token) (s : DialectState State) → go reader d reader.start ts ≡ Ok s → Stands d s ts
+  stands_whole_programs : (d : ℕ) (ts : List Token) (s : DialectState State) → after_tokens reader d reader.start ts ≡ Ok s → Stands d s ts
   stands_whole_programs d ts s e = go_stands reader (Stands d) d (step_keeps d) ts reader.start s [] stands_beginning e
 
   stands_front : {d : ℕ} {s : DialectState State} {ts : List Token} → Stands (suc d) s ts → FrontProgram (suc d) ts
@@ -144,13 +144,13 @@ module _ {State : Type 0} (rests : Reader State Rest) (right : IsReaderOfRests r
   stands_front {d = d} (stands_rest {s = state} us n e) = named_front n (right.stands (suc d) us state (omega arith) e)
 
   -- tokens that are read begin a program within the depth
-  program_stands : (d : ℕ) (ts : List Token) (s : DialectState State) → 1 ≤ d → go reader d reader.start ts ≡ Ok s → FrontProgram d ts
+  program_stands : (d : ℕ) (ts : List Token) (s : DialectState State) → 1 ≤ d → after_tokens reader d reader.start ts ≡ Ok s → FrontProgram d ts
   program_stands zero ts s least e = absurd (omega arith)
   program_stands (suc d) ts s least e = stands_front (stands_whole_programs (suc d) ts s e)
 
   -- the program where the rest is whole
   rest_is_whole : {d : ℕ} {named : List Token} {dialect : Dialect} → WholeDialect named dialect → (us : List Token) (s : State) (program : ProgramTree) → 1 ≤ d
-      → go rests d rests.start us ≡ Ok s → in_dialect dialect (rests.finished s) ≡ Some program
+      → after_tokens rests d rests.start us ≡ Ok s → in_dialect dialect (rests.finished s) ≡ Some program
       → WholeProgram (named ++ us) program × (program_depth program ≤ d)
   rest_is_whole {d = d} {named = named} {dialect = dialect} n us s program least e f = by_form (rests.finished s) refl f
     where

@@ -21,7 +21,7 @@ answer_from (Ok state) at further = further state
 answer_from (Err stop) at further = Err (refusal_of stop at)
 
 -- the answer for the tokens that are left of a text of so many bytes
-abbrev pub answer : {State Form : Type 0} → Reader State Form → ℕ → ℕ → State → List Token → Result Form Refusal
-answer reader deep len state [] = at_end len (reader.finished state)
-answer reader deep len state (token ∷ tokens) =
-    answer_from (step reader deep state token) token.at (λ next. answer reader deep len next tokens)
+abbrev pub parse_rest : {State Form : Type 0} → Reader State Form → ℕ → ℕ → State → List Token → Result Form Refusal
+parse_rest reader deep len state [] = at_end len (reader.finished state)
+parse_rest reader deep len state (token ∷ tokens) =
+    answer_from (step reader deep state token) token.at (λ next. parse_rest reader deep len next tokens)

@@ -3,18 +3,22 @@ use Rattle.std.specs.Prelude.{◌≡◌, Option, Some, None, Result, Ok, Err}
 use Rattle.snesl_data.specs.declared.refusal.Refusal.{Refusal}
 use Rattle.snesl_data.specs.declared.refusal.Refusal.TheVariants as refusals
 use Rattle.snesl_tree.specs.Tree.{ProgramTree}
-use Rattle.snesl_expressions.specs.Readers.{Reader}
-use Rattle.snesl_expressions.specs.Machine.{State, expressions}
+use Rattle.snesl_lexer.specs.declared.token.Token.{Token}
+use Rattle.snesl_grammar.specs.Limits.{greatest_depth}
+use Rattle.snesl_expressions.specs.declared.machine.StepError.{StepError}
+use Rattle.snesl_expressions.specs.Readers.{Reader, step}
+use Rattle.snesl_expressions.specs.Machine.{State}
 use Rattle.snesl_syntax.specs.declared.dialects.DialectMachine.{DialectMachine}
 use Rattle.snesl_syntax.specs.declared.dialects.DialectMachine.TheVariants as points
 use Rattle.snesl_syntax.specs.declared.dialects.Whole.{Whole}
-use Rattle.snesl_syntax.specs.Programs.{ProgramState, programs}
-use Rattle.snesl_syntax.specs.ProgramMachine.{program_state, parsed_rest}
+use Rattle.snesl_syntax.specs.Programs.{ProgramState}
+use Rattle.snesl_syntax.specs.TypeMachine.{IsStep}
+use Rattle.snesl_syntax.specs.ProgramMachine.{rests, program_state, parsed_rest}
 use Rattle.snesl_syntax.specs.Dialects.{DialectState, beginning, awaits_number, awaits_semicolon, in_rest, program_in, whole_programs}
 
 -- how a text's tokens are read
 abbrev pub reader : Reader (DialectState (ProgramState State)) ProgramTree
-reader = whole_programs (programs expressions)
+reader = whole_programs rests
 
 -- the state that a machine is in
 abbrev pub dialect_state : DialectMachine → DialectState (ProgramState State)
@@ -22,6 +26,10 @@ dialect_state points.Beginning = beginning
 dialect_state points.Number = awaits_number
 dialect_state points.Semicolon = awaits_semicolon
 dialect_state (points.Rest dialect machine) = in_rest dialect (program_state machine)
+
+-- what was returned is what the token makes of the state, unless memory ran out
+abbrev pub WholeSteps : Result DialectMachine StepError → DialectState (ProgramState State) → Token → Type 0
+WholeSteps result state token = IsStep dialect_state result (step reader greatest_depth state token)
 
 -- the program with these parts
 abbrev pub whole_program : Whole → ProgramTree

@@ -2,11 +2,11 @@
 use Rattle.std.specs.Prelude.{zero, suc, pos, Option, Some, None}
 use Rattle.snesl_data.specs.declared.dialect.Dialect.{Dialect}
 use Rattle.snesl_data.specs.declared.dialect.Dialect.TheVariants.{One, Two}
-use Rattle.snesl_lexer.specs.declared.token.Kind.{Kind}
-use Rattle.snesl_lexer.specs.declared.token.Kind.TheVariants as kinds
+use Rattle.snesl_lexer.specs.declared.token.TokenKind.{TokenKind}
+use Rattle.snesl_lexer.specs.declared.token.TokenKind.TheVariants as kinds
 use Rattle.snesl_lexer.specs.declared.token.Token.{Token}
 use Rattle.snesl_tree.specs.Tree.{ProgramTree}
-use Rattle.snesl_expressions.specs.Readers.{TokenMove, free, Reader}
+use Rattle.snesl_expressions.specs.Readers.{TokenMove, at_any_depth, Reader}
 use Rattle.snesl_syntax.specs.Programs.{Rest, lifted, or_else}
 
 -- What may come next. The rest of a program is read in states of its own.
@@ -30,10 +30,10 @@ in_dialect dialect (Some rest) = Some (program_in dialect rest)
 
 module _ {State : Type 0} (rests : Reader State Rest) where
   -- the move of a token of this kind where no rest is open
-  abbrev pub dialect_move : DialectState State → Kind → Option (TokenMove (DialectState State))
-  dialect_move beginning kinds.Dialect = free awaits_number
-  dialect_move awaits_number (kinds.Integer (pos (suc (suc zero)))) = free awaits_semicolon
-  dialect_move awaits_semicolon kinds.Semicolon = free (in_rest Two rests.start)
+  abbrev pub dialect_move : DialectState State → TokenKind → Option (TokenMove (DialectState State))
+  dialect_move beginning kinds.Dialect = at_any_depth awaits_number
+  dialect_move awaits_number (kinds.Integer (pos (suc (suc zero)))) = at_any_depth awaits_semicolon
+  dialect_move awaits_semicolon kinds.Semicolon = at_any_depth (in_rest Two rests.start)
   dialect_move _ _ = None
 
   -- The first token begins the rest, which then has the first dialect, or else it begins a dialect.

@@ -71,6 +71,10 @@ Returns (Ok program) answer = answer ≡ Ok (program_of program)
 Returns (Err NoMemory) answer = Unit {0}
 Returns (Err refusal) answer = answer ≡ Err refusal
 
+-- each of the answers is what was returned, unless memory ran out
+abbrev pub ReturnsEach : (Result ProgramTree Refusal → Type 0) → Result Program Refusal → Type 0
+ReturnsEach Answer result = (answer : Result ProgramTree Refusal) → Answer answer → Returns result answer
+
 -- the refusals that parsing may answer
 abbrev pub IsOfText : Refusal → Type 0
 IsOfText TooLong = Unit {0}

@@ -1,8 +1,16 @@
 -- The states that the reader of programs after their dialect is in, and what it returns.
-use Rattle.std.specs.Prelude.{◌≡◌, List, map, Option, Some, None}
+use Rattle.std.specs.Prelude.{◌≡◌, List, Vec, map, Option, Some, None, Result}
+use Rattle.std.specs.declared.alloc.Global.{Global}
+use Rattle.snesl_lexer.specs.declared.token.TokenKind.{TokenKind}
+use Rattle.snesl_lexer.specs.declared.token.Token.{Token}
+use Rattle.snesl_tree.specs.declared.declaration.Declaration.{Declaration}
+use Rattle.snesl_tree.specs.declared.declaration.WrittenType.{WrittenType}
 use Rattle.snesl_tree.specs.Tree.{DeclarationTree}
 use Rattle.snesl_tree.specs.View.{tree_of, type_tree, typed_of, declaration_of}
-use Rattle.snesl_expressions.specs.Machine.{State}
+use Rattle.snesl_grammar.specs.Limits.{greatest_depth}
+use Rattle.snesl_expressions.specs.declared.machine.StepError.{StepError}
+use Rattle.snesl_expressions.specs.Readers.{TokenMove, Reader, within, step}
+use Rattle.snesl_expressions.specs.Machine.{State, expressions}
 use Rattle.snesl_expressions.specs.Parsing.{state_of}
 use Rattle.snesl_syntax.specs.declared.programs.Owner.{Owner}
 use Rattle.snesl_syntax.specs.declared.programs.Owner.TheVariants as owners
@@ -11,9 +19,17 @@ use Rattle.snesl_syntax.specs.declared.programs.ProgramPoint.{ProgramPoint}
 use Rattle.snesl_syntax.specs.declared.programs.ProgramPoint.TheVariants as points
 use Rattle.snesl_syntax.specs.declared.programs.ProgramMachine.{ProgramMachine}
 use Rattle.snesl_syntax.specs.declared.programs.Parsed.{Parsed}
-use Rattle.snesl_syntax.specs.Programs.{Rest, TypeOf, of_input, of_parameter, of_result, ProgramState, between, awaits_input, awaits_input_colon, awaits_function, awaits_open, awaits_parameter, awaits_parameter_colon, awaits_result, in_type, in_body, in_final}
+use Rattle.snesl_syntax.specs.Programs.{Rest, TypeOf, of_input, of_parameter, of_result, ProgramState, between, awaits_input, awaits_input_colon, awaits_function, awaits_open, awaits_parameter, awaits_parameter_colon, awaits_result, in_type, in_body, in_final, type_end, programs}
 use Rattle.snesl_syntax.specs.Programs.{Header as OpenFunction}
-use Rattle.snesl_syntax.specs.TypeMachine.{type_state}
+use Rattle.snesl_syntax.specs.TypeMachine.{type_state, IsStep}
+
+-- how programs are read after their dialect
+abbrev pub rests : Reader (ProgramState State) Rest
+rests = programs expressions
+
+-- declarations as the tree has them
+abbrev pub declarations_in : Vec Declaration Global → List DeclarationTree
+declarations_in done = map declaration_of done.items
 
 -- what a type is of, after these declarations
 abbrev pub owner_of : List DeclarationTree → Owner → TypeOf
@@ -25,6 +41,10 @@ owner_of done (owners.Result function parameters) = of_result done function (map
 abbrev pub header_of : List DeclarationTree → Header → OpenFunction
 header_of done header =
     record { done = done; function = header.name; parameters = map typed_of header.parameters.items; result = type_tree header.result }
+
+-- the same after declarations in a vector
+abbrev pub header_in : Vec Declaration Global → Header → OpenFunction
+header_in done header = header_of (declarations_in done) header
 
 -- the state at this point, after these declarations
 abbrev pub state_at : List DeclarationTree → ProgramPoint → ProgramState State
@@ -42,11 +62,23 @@ state_at done (points.Final machine) = in_final done (state_of machine)
 
 -- the state that a machine is in
 abbrev pub program_state : ProgramMachine → ProgramState State
-program_state machine = state_at (map declaration_of machine.done.items) machine.point
+program_state machine = state_at (declarations_in machine.done) machine.point
+
+-- what was returned is what this move makes within the greatest depth, unless memory ran out
+abbrev pub StepsBy : Result ProgramMachine StepError → Option (TokenMove (ProgramState State)) → Type 0
+StepsBy result found = IsStep program_state result (within greatest_depth found)
+
+-- what was returned is what the token makes of the state at this point after these declarations, unless memory ran out
+abbrev pub StepsAt : Result ProgramMachine StepError → Vec Declaration Global → ProgramPoint → Token → Type 0
+StepsAt result done point token = IsStep program_state result (step rests greatest_depth (state_at (declarations_in done) point) token)
+
+-- what was returned is what a token of this kind makes after this type of the owner, unless memory ran out
+abbrev pub EndsType : Result ProgramMachine StepError → Vec Declaration Global → Owner → WrittenType → TokenKind → Type 0
+EndsType result done owner ty kind = StepsBy result (type_end expressions (owner_of (declarations_in done) owner) kind (type_tree ty))
 
 -- the rest of a program, with these parts
 abbrev pub parsed_rest : Parsed → Rest
-parsed_rest parsed = record { declarations = map declaration_of parsed.declarations.items; expression = tree_of parsed.expr }
+parsed_rest parsed = record { declarations = declarations_in parsed.declarations; expression = tree_of parsed.expr }
 
 -- what was found is this rest
 abbrev pub IsThisRest : Option Parsed → Option Rest → Type 0

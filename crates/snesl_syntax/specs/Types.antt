@@ -1,12 +1,12 @@
 -- How types are read.
 use Rattle.std.specs.Prelude.{ℕ, suc, List, [], ◌∷◌, length, Option, Some, None}
-use Rattle.snesl_lexer.specs.declared.token.Kind.{Kind}
-use Rattle.snesl_lexer.specs.declared.token.Kind.TheVariants.{Int, Bool, LeftParen, RightParen, LeftBracket, RightBracket, LeftBrace, RightBrace, Comma}
+use Rattle.snesl_lexer.specs.declared.token.TokenKind.{TokenKind}
+use Rattle.snesl_lexer.specs.declared.token.TokenKind.TheVariants.{Int, Bool, LeftParen, RightParen, LeftBracket, RightBracket, LeftBrace, RightBrace, Comma}
 use Rattle.snesl_tree.specs.Tree.{TypeTree, int_type, bool_type, pair_type, vector_type, sequence_type}
-use Rattle.snesl_expressions.specs.Readers.{TokenMove, free, Reader}
+use Rattle.snesl_expressions.specs.Readers.{TokenMove, at_any_depth, Reader}
 
 -- any token may follow a type, none goes on with one that is whole
-abbrev pub MayFollowType : Kind → Type 0
+abbrev pub MayFollowType : TokenKind → Type 0
 MayFollowType kind = Unit {0}
 
 -- a type that is open, with its whole part
@@ -30,16 +30,16 @@ abbrev pub open_type : List TypeFrame → TypeFrame → Option (TokenMove TypeSt
 open_type frames frame = Some (record { want = suc (suc (length frames)); next = type_begins (frame ∷ frames) })
 
 -- the move of a token of this kind at this offset, if it has one
-abbrev pub type_move : TypeState → Kind → ℕ → Option (TokenMove TypeState)
-type_move (type_begins frames) Int at = free (type_ended frames (int_type at))
-type_move (type_begins frames) Bool at = free (type_ended frames (bool_type at))
+abbrev pub type_move : TypeState → TokenKind → ℕ → Option (TokenMove TypeState)
+type_move (type_begins frames) Int at = at_any_depth (type_ended frames (int_type at))
+type_move (type_begins frames) Bool at = at_any_depth (type_ended frames (bool_type at))
 type_move (type_begins frames) LeftParen at = open_type frames (in_first at)
 type_move (type_begins frames) LeftBracket at = open_type frames (in_vector at)
 type_move (type_begins frames) LeftBrace at = open_type frames (in_sequence at)
-type_move (type_ended (in_first begun ∷ frames) last) Comma at = free (type_begins (in_second begun last ∷ frames))
-type_move (type_ended (in_second begun first ∷ frames) last) RightParen at = free (type_ended frames (pair_type begun first last))
-type_move (type_ended (in_vector begun ∷ frames) last) RightBracket at = free (type_ended frames (vector_type begun last))
-type_move (type_ended (in_sequence begun ∷ frames) last) RightBrace at = free (type_ended frames (sequence_type begun last))
+type_move (type_ended (in_first begun ∷ frames) last) Comma at = at_any_depth (type_begins (in_second begun last ∷ frames))
+type_move (type_ended (in_second begun first ∷ frames) last) RightParen at = at_any_depth (type_ended frames (pair_type begun first last))
+type_move (type_ended (in_vector begun ∷ frames) last) RightBracket at = at_any_depth (type_ended frames (vector_type begun last))
+type_move (type_ended (in_sequence begun ∷ frames) last) RightBrace at = at_any_depth (type_ended frames (sequence_type begun last))
 type_move _ _ at = None
 
 -- the type that the tokens so far are, where they are one

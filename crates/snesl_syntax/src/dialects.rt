@@ -1,17 +1,14 @@
 // The reader of a program from its dialect on, between two tokens, and what a token makes of it.
 
-ghost use Rattle.std.specs.Prelude.{◌≡◌, IfOk};
-ghost use Rattle.snesl_expressions.specs.Readers.{step};
-ghost use Rattle.snesl_grammar.specs.Limits.{greatest_depth};
+ghost use Rattle.std.specs.Prelude.{IfOk};
 ghost use Rattle.snesl_syntax.specs.Dialects.{beginning, awaits_number, awaits_semicolon, in_rest};
-ghost use Rattle.snesl_syntax.specs.TypeMachine.{Steps};
 ghost use Rattle.snesl_syntax.specs.ProgramMachine.{program_state};
-ghost use Rattle.snesl_syntax.specs.DialectMachine.{reader, dialect_state, IsThisProgram};
+ghost use Rattle.snesl_syntax.specs.DialectMachine.{reader, dialect_state, WholeSteps, IsThisProgram};
 
 use crate::programs::{Parsed, ProgramMachine};
 use snesl_data::Dialect;
 use snesl_expressions::StepError;
-use snesl_lexer::{Kind, Token};
+use snesl_lexer::{Token, TokenKind};
 use std::alloc::{AllocError, Global};
 
 /// The reader of a program between two tokens, by what may come next.
@@ -44,8 +41,7 @@ fn in_rest(
     machine: ProgramMachine,
     token: Token,
 ) -> Result<DialectMachine, StepError>
-    ensures { Steps dialect_state result (step reader greatest_depth
-        (in_rest dialect (program_state machine)) token) }
+    ensures { WholeSteps result (in_rest dialect (program_state machine)) token }
 {
     let machine = machine.step(alloc, token)?;
     Ok(DialectMachine::Rest { dialect, machine })
@@ -53,30 +49,30 @@ fn in_rest(
 
 // Where the program begins.
 fn beginning(alloc: Global, token: Token) -> Result<DialectMachine, StepError>
-    ensures { Steps dialect_state result (step reader greatest_depth beginning token) }
+    ensures { WholeSteps result beginning token }
 {
     match token.kind {
-        Kind::Dialect => Ok(DialectMachine::Number),
+        TokenKind::Dialect => Ok(DialectMachine::Number),
         _ => in_rest(alloc, Dialect::One, ProgramMachine::new(alloc), token),
     }
 }
 
 // Where the number of the dialect stands.
 fn number(token: Token) -> Result<DialectMachine, StepError>
-    ensures { Steps dialect_state result (step reader greatest_depth awaits_number token) }
+    ensures { WholeSteps result awaits_number token }
 {
     match token.kind {
-        Kind::Integer(2) => Ok(DialectMachine::Semicolon),
+        TokenKind::Integer(2) => Ok(DialectMachine::Semicolon),
         _ => Err(StepError::Unexpected),
     }
 }
 
 // After the number.
 fn semicolon(alloc: Global, token: Token) -> Result<DialectMachine, StepError>
-    ensures { Steps dialect_state result (step reader greatest_depth awaits_semicolon token) }
+    ensures { WholeSteps result awaits_semicolon token }
 {
     match token.kind {
-        Kind::Semicolon => {
+        TokenKind::Semicolon => {
             let machine = ProgramMachine::new(alloc);
             Ok(DialectMachine::Rest {
                 dialect: Dialect::Two,
@@ -90,8 +86,7 @@ fn semicolon(alloc: Global, token: Token) -> Result<DialectMachine, StepError>
 impl DialectMachine {
     /// The machine after the next token.
     pub fn step(self, alloc: Global, token: Token) -> Result<DialectMachine, StepError>
-        ensures { Steps dialect_state result (step reader greatest_depth
-            (dialect_state self) token) }
+        ensures { WholeSteps result (dialect_state self) token }
     {
         match self {
             DialectMachine::Beginning => beginning(alloc, token),
@@ -103,8 +98,8 @@ impl DialectMachine {
 
     /// The program that the tokens so far are, where they are one.
     pub fn finish(self, alloc: Global) -> Result<Option<Whole>, AllocError>
-        ensures { IfOk result (λ found. IsThisProgram found
-            (reader.finished (dialect_state self))) }
+        ensures { IfOk result (λ found.
+            IsThisProgram found (reader.finished (dialect_state self))) }
     {
         match self {
             DialectMachine::Rest { dialect, machine } => match machine.finish(alloc)? {

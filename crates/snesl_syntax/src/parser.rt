@@ -1,12 +1,10 @@
 // From the bytes of a text to a program.
 
-ghost use Rattle.std.specs.Prelude.{◌≡◌, Result, IfOk, IfErr};
-ghost use Rattle.snesl_data.specs.declared.refusal.Refusal.{Refusal};
-ghost use Rattle.snesl_tree.specs.Tree.{ProgramTree};
+ghost use Rattle.std.specs.Prelude.{◌≡◌, IfOk, IfErr};
 ghost use Rattle.snesl_grammar.specs.Limits.{greatest_depth};
-ghost use Rattle.snesl_syntax.specs.Answer.{answer};
+ghost use Rattle.snesl_syntax.specs.Answer.{parse_rest};
 ghost use Rattle.snesl_syntax.specs.DialectMachine.{reader, FindsWhole, FindsOneOf};
-ghost use Rattle.snesl_syntax.specs.Parse.{AnswersTokens, Parses, HaveOneAnswer, HaveSomeAnswer, FrontsBeginPrograms, IsOfText, IsRight, Returns};
+ghost use Rattle.snesl_syntax.specs.Parse.{AnswersTokens, Parses, HaveOneAnswer, HaveSomeAnswer, FrontsBeginPrograms, IsOfText, IsRight, ReturnsEach};
 
 use crate::dialects::{DialectMachine, Whole};
 use crate::limits::GREATEST_LENGTH;
@@ -18,7 +16,7 @@ use std::alloc::Global;
 
 // The machine's answer for the tokens of a text of so many bytes.
 fn answered(alloc: Global, tokens: &[Token], len: usize) -> Result<Whole, Refusal>
-    ensures { FindsWhole result (answer reader greatest_depth len reader.start tokens.now) }
+    ensures { FindsWhole result (parse_rest reader greatest_depth len reader.start tokens.now) }
 {
     let mut machine = DialectMachine::Beginning;
     for token in tokens {
@@ -54,7 +52,7 @@ fn parse_tokens(alloc: Global, tokens: &[Token], len: usize) -> Result<Whole, Re
 /// An expression is one of these, of which the first bind least:
 ///
 /// - `let name = expression in expression`, and `if expression then expression else expression`;
-///   both reach as far to the right as they can
+///   both go on as far to the right as they can
 /// - `or`; `and`; `==`, `<`, `<=`, `>` and `>=`; `++`; `+` and `-`; `*`, `/` and `%`: between two
 ///   expressions. Of operators that bind alike the left one is taken first, but comparisons do not
 ///   stand beside one another without parentheses
@@ -89,8 +87,7 @@ pub fn parse(alloc: Global, text: &[u8]) -> Result<Program, Refusal>
     ensures right { IsRight (Parses text.now) result }
 
     // Each answer for the text is the result: every program within the limits is accepted, as its tree.
-    ensures accepts { (answer : Result ProgramTree Refusal) → Parses text.now answer →
-        Returns result answer }
+    ensures accepts { ReturnsEach (Parses text.now) result }
 
     ensures keeps_text { IfOk result (λ program. program.text.items ≡ text.now) }
     ensures refusals { IfErr result IsOfText }

@@ -1,19 +1,21 @@
 // The reader of a program after its dialect, between two tokens, and what a token makes of it.
 
-ghost use Rattle.std.specs.Prelude.{◌≡◌, Ok, map, IfOk};
-ghost use Rattle.snesl_lexer.specs.declared.token.Kind.TheVariants.{Semicolon};
-ghost use Rattle.snesl_tree.specs.View.{declaration_of, tree_of, type_tree, typed_of};
-ghost use Rattle.snesl_expressions.specs.Readers.{step, within};
+ghost use Rattle.std.specs.Prelude.{◌≡◌, Ok, IfOk};
+ghost use Rattle.snesl_lexer.specs.declared.token.TokenKind.TheVariants.{Semicolon};
+ghost use Rattle.snesl_tree.specs.View.{tree_of};
+ghost use Rattle.snesl_expressions.specs.Readers.{step};
 ghost use Rattle.snesl_expressions.specs.Machine.{expressions};
 ghost use Rattle.snesl_expressions.specs.Parsing.{state_of};
 ghost use Rattle.snesl_grammar.specs.Limits.{greatest_depth};
-ghost use Rattle.snesl_syntax.specs.Programs.{programs, between, awaits_input, awaits_input_colon, awaits_function, awaits_open, awaits_parameter, awaits_parameter_colon, awaits_result, in_type, in_body, in_final, of_input, of_parameter, of_result, lifted, type_end, body_end};
-ghost use Rattle.snesl_syntax.specs.TypeMachine.{type_state, Steps};
-ghost use Rattle.snesl_syntax.specs.ProgramMachine.{owner_of, header_of, state_at, program_state, IsThisRest};
+ghost use Rattle.snesl_syntax.specs.declared.programs.Owner.TheVariants as owners;
+ghost use Rattle.snesl_syntax.specs.declared.programs.ProgramPoint.TheVariants as points;
+ghost use Rattle.snesl_syntax.specs.Programs.{body_move, body_end};
+ghost use Rattle.snesl_syntax.specs.TypeMachine.{IsStep};
+ghost use Rattle.snesl_syntax.specs.ProgramMachine.{rests, declarations_in, header_in, state_at, program_state, StepsBy, StepsAt, EndsType, IsThisRest};
 
 use crate::types::TypeMachine;
 use snesl_expressions::{Machine, StepError};
-use snesl_lexer::{Kind, Token};
+use snesl_lexer::{Token, TokenKind};
 use snesl_tree::{Declaration, Expr, Function, Span, Typing, WrittenType};
 use std::alloc::{AllocError, Global};
 
@@ -106,19 +108,18 @@ pub struct Parsed {
 
 // Goes on at a point.
 fn at_point(done: Vec<Declaration>, point: ProgramPoint) -> Result<ProgramMachine, StepError>
-    ensures { Steps program_state result (Ok (state_at (map declaration_of done.items) point)) }
+    ensures { IsStep program_state result (Ok (state_at (declarations_in done) point)) }
 {
     Ok(ProgramMachine { done, point })
 }
 
 // Where a declaration or the expression begins.
 fn between(alloc: Global, done: Vec<Declaration>, token: Token) -> Result<ProgramMachine, StepError>
-    ensures { Steps program_state result (step (programs expressions) greatest_depth
-        (between (map declaration_of done.items)) token) }
+    ensures { StepsAt result done points.Between token }
 {
     match token.kind {
-        Kind::Input => at_point(done, ProgramPoint::Input),
-        Kind::Function => at_point(done, ProgramPoint::Function),
+        TokenKind::Input => at_point(done, ProgramPoint::Input),
+        TokenKind::Function => at_point(done, ProgramPoint::Function),
         _ => in_final(alloc, done, Machine::new(alloc), token),
     }
 }
@@ -130,8 +131,7 @@ fn in_final(
     machine: Machine,
     token: Token,
 ) -> Result<ProgramMachine, StepError>
-    ensures { Steps program_state result (step (programs expressions) greatest_depth
-        (in_final (map declaration_of done.items) (state_of machine)) token) }
+    ensures { StepsAt result done (points.Final machine) token }
 {
     let machine = machine.step(alloc, token)?;
     at_point(done, ProgramPoint::Final(machine))
@@ -139,11 +139,10 @@ fn in_final(
 
 // Where the name of an input stands.
 fn input_name(done: Vec<Declaration>, token: Token) -> Result<ProgramMachine, StepError>
-    ensures { Steps program_state result (step (programs expressions) greatest_depth
-        (awaits_input (map declaration_of done.items)) token) }
+    ensures { StepsAt result done points.Input token }
 {
     match token.kind {
-        Kind::Name(len) => {
+        TokenKind::Name(len) => {
             let name = Span { at: token.at, len };
             at_point(done, ProgramPoint::InputColon { name })
         }
@@ -158,11 +157,10 @@ fn input_colon(
     name: Span,
     token: Token,
 ) -> Result<ProgramMachine, StepError>
-    ensures { Steps program_state result (step (programs expressions) greatest_depth
-        (awaits_input_colon (map declaration_of done.items) name) token) }
+    ensures { StepsAt result done (points.InputColon name) token }
 {
     match token.kind {
-        Kind::Colon => {
+        TokenKind::Colon => {
             let machine = TypeMachine::new(alloc);
             let owner = Owner::Input { name };
             at_point(done, ProgramPoint::Type { owner, machine })
@@ -173,11 +171,10 @@ fn input_colon(
 
 // Where the name of a function stands.
 fn function_name(done: Vec<Declaration>, token: Token) -> Result<ProgramMachine, StepError>
-    ensures { Steps program_state result (step (programs expressions) greatest_depth
-        (awaits_function (map declaration_of done.items)) token) }
+    ensures { StepsAt result done points.Function token }
 {
     match token.kind {
-        Kind::Name(len) => {
+        TokenKind::Name(len) => {
             let function = Span { at: token.at, len };
             at_point(done, ProgramPoint::Open { function })
         }
@@ -192,11 +189,10 @@ fn open(
     function: Span,
     token: Token,
 ) -> Result<ProgramMachine, StepError>
-    ensures { Steps program_state result (step (programs expressions) greatest_depth
-        (awaits_open (map declaration_of done.items) function) token) }
+    ensures { StepsAt result done (points.Open function) token }
 {
     match token.kind {
-        Kind::LeftParen => {
+        TokenKind::LeftParen => {
             let given = Vec::new(alloc);
             at_point(done, ProgramPoint::Parameter { function, given })
         }
@@ -211,12 +207,10 @@ fn parameter_name(
     given: Vec<Typing>,
     token: Token,
 ) -> Result<ProgramMachine, StepError>
-    ensures { Steps program_state result (step (programs expressions) greatest_depth
-        (awaits_parameter (map declaration_of done.items) function
-        (map typed_of given.items)) token) }
+    ensures { StepsAt result done (points.Parameter function given) token }
 {
     match token.kind {
-        Kind::Name(len) => {
+        TokenKind::Name(len) => {
             let name = Span { at: token.at, len };
             at_point(
                 done,
@@ -240,12 +234,10 @@ fn parameter_colon(
     name: Span,
     token: Token,
 ) -> Result<ProgramMachine, StepError>
-    ensures { Steps program_state result (step (programs expressions) greatest_depth
-        (awaits_parameter_colon (map declaration_of done.items) function
-        (map typed_of given.items) name) token) }
+    ensures { StepsAt result done (points.ParameterColon function given name) token }
 {
     match token.kind {
-        Kind::Colon => {
+        TokenKind::Colon => {
             let machine = TypeMachine::new(alloc);
             let owner = Owner::Parameter {
                 function,
@@ -266,12 +258,10 @@ fn result_colon(
     parameters: Vec<Typing>,
     token: Token,
 ) -> Result<ProgramMachine, StepError>
-    ensures { Steps program_state result (step (programs expressions) greatest_depth
-        (awaits_result (map declaration_of done.items) function
-        (map typed_of parameters.items)) token) }
+    ensures { StepsAt result done (points.ResultColon function parameters) token }
 {
     match token.kind {
-        Kind::Colon => {
+        TokenKind::Colon => {
             let machine = TypeMachine::new(alloc);
             let owner = Owner::Result {
                 function,
@@ -288,14 +278,12 @@ fn input_end(
     mut done: Vec<Declaration>,
     name: Span,
     ty: WrittenType,
-    kind: Kind,
+    kind: TokenKind,
 ) -> Result<ProgramMachine, StepError>
-    ensures { Steps program_state result (within greatest_depth
-        (type_end expressions (of_input (map declaration_of done.items) name) kind
-        (type_tree ty))) }
+    ensures { EndsType result done (owners.Input name) ty kind }
 {
     match kind {
-        Kind::Semicolon => {
+        TokenKind::Semicolon => {
             done.push(Declaration::Input(Typing { name, ty }))?;
             at_point(done, ProgramPoint::Between)
         }
@@ -309,18 +297,17 @@ fn parameter_end(
     function: Span,
     mut given: Vec<Typing>,
     parameter: Typing,
-    kind: Kind,
+    kind: TokenKind,
 ) -> Result<ProgramMachine, StepError>
-    ensures { Steps program_state result (within greatest_depth
-        (type_end expressions (of_parameter (map declaration_of done.items) function
-        (map typed_of given.items) parameter.name) kind (type_tree parameter.ty))) }
+    ensures { EndsType result done
+        (owners.Parameter function given parameter.name) parameter.ty kind }
 {
     match kind {
-        Kind::Comma => {
+        TokenKind::Comma => {
             given.push(parameter)?;
             at_point(done, ProgramPoint::Parameter { function, given })
         }
-        Kind::RightParen => {
+        TokenKind::RightParen => {
             given.push(parameter)?;
             let parameters = given;
             at_point(
@@ -340,14 +327,13 @@ fn result_end(
     alloc: Global,
     done: Vec<Declaration>,
     header: Header,
-    kind: Kind,
+    kind: TokenKind,
 ) -> Result<ProgramMachine, StepError>
-    ensures { Steps program_state result (within greatest_depth
-        (type_end expressions (of_result (map declaration_of done.items) header.name
-        (map typed_of header.parameters.items)) kind (type_tree header.result))) }
+    ensures { EndsType result done
+        (owners.Result header.name header.parameters) header.result kind }
 {
     match kind {
-        Kind::Equals => {
+        TokenKind::Equals => {
             let machine = Machine::new(alloc);
             at_point(done, ProgramPoint::Body { header, machine })
         }
@@ -361,11 +347,9 @@ fn type_ended(
     done: Vec<Declaration>,
     owner: Owner,
     ty: WrittenType,
-    kind: Kind,
+    kind: TokenKind,
 ) -> Result<ProgramMachine, StepError>
-    ensures { Steps program_state result (within greatest_depth
-        (type_end expressions (owner_of (map declaration_of done.items) owner) kind
-        (type_tree ty))) }
+    ensures { EndsType result done owner ty kind }
 {
     match owner {
         Owner::Input { name } => input_end(done, name, ty, kind),
@@ -396,8 +380,7 @@ fn in_type(
     machine: TypeMachine,
     token: Token,
 ) -> Result<ProgramMachine, StepError>
-    ensures { Steps program_state result (step (programs expressions) greatest_depth
-        (in_type (owner_of (map declaration_of done.items) owner) (type_state machine)) token) }
+    ensures { StepsAt result done (points.Type owner machine) token }
 {
     match machine.into_whole() {
         Ok(ty) => type_ended(alloc, done, owner, ty, token.kind),
@@ -416,9 +399,8 @@ fn body_step(
     machine: Machine,
     token: Token,
 ) -> Result<ProgramMachine, StepError>
-    ensures { Steps program_state result (within greatest_depth
-        (lifted (in_body (header_of (map declaration_of done.items) header))
-        (expressions.move (state_of machine) token))) }
+    ensures { StepsBy result
+        (body_move expressions (header_in done header) (state_of machine) token) }
 {
     let machine = machine.step(alloc, token)?;
     at_point(done, ProgramPoint::Body { header, machine })
@@ -430,8 +412,7 @@ fn function_ended(
     header: Header,
     body: Expr,
 ) -> Result<ProgramMachine, StepError>
-    ensures { Steps program_state result (within greatest_depth
-        (body_end (header_of (map declaration_of done.items) header) Semicolon (tree_of body))) }
+    ensures { StepsBy result (body_end (header_in done header) Semicolon (tree_of body)) }
 {
     let Header {
         name,
@@ -455,11 +436,10 @@ fn in_body(
     machine: Machine,
     token: Token,
 ) -> Result<ProgramMachine, StepError>
-    ensures { Steps program_state result (step (programs expressions) greatest_depth
-        (in_body (header_of (map declaration_of done.items) header) (state_of machine)) token) }
+    ensures { StepsAt result done (points.Body header machine) token }
 {
     match token.kind {
-        Kind::Semicolon => {
+        TokenKind::Semicolon => {
             if !machine.is_whole() {
                 return body_step(alloc, done, header, machine, token);
             }
@@ -475,7 +455,7 @@ fn in_body(
 impl ProgramMachine {
     /// The machine before the first token.
     pub fn new(alloc: Global) -> ProgramMachine
-        ensures { program_state result ≡ (programs expressions).start }
+        ensures { program_state result ≡ rests.start }
     {
         ProgramMachine {
             done: Vec::new(alloc),
@@ -485,8 +465,8 @@ impl ProgramMachine {
 
     /// The machine after the next token.
     pub fn step(self, alloc: Global, token: Token) -> Result<ProgramMachine, StepError>
-        ensures { Steps program_state result (step (programs expressions) greatest_depth
-            (program_state self) token) }
+        ensures { IsStep program_state result
+            (step rests greatest_depth (program_state self) token) }
     {
         let ProgramMachine { done, point } = self;
         match point {
@@ -515,8 +495,7 @@ impl ProgramMachine {
 
     /// The parts that the tokens so far are, where they are a program's.
     pub fn finish(self, alloc: Global) -> Result<Option<Parsed>, AllocError>
-        ensures { IfOk result (λ found. IsThisRest found
-            ((programs expressions).finished (program_state self))) }
+        ensures { IfOk result (λ found. IsThisRest found (rests.finished (program_state self))) }
     {
         let ProgramMachine { done, point } = self;
         match point {

@@ -3,12 +3,12 @@
 ghost use Rattle.std.specs.Prelude.{◌≡◌, ◌<◌, ◌↔◌, suc, length, IsTrue, Ok, ◌∷◌};
 ghost use Rattle.snesl_tree.specs.View.{type_tree};
 ghost use Rattle.snesl_grammar.specs.Limits.{greatest_depth};
-ghost use Rattle.snesl_expressions.specs.Readers.{step, within};
-ghost use Rattle.snesl_syntax.specs.Types.{types, type_begins, type_ended, in_first, in_second, in_vector, in_sequence, open_type};
-ghost use Rattle.snesl_syntax.specs.TypeMachine.{frame_of, frames_of, type_state, Steps, IsWholeType};
+ghost use Rattle.snesl_syntax.specs.declared.types.TypeForm.TheVariants.{First, Second, Vector, Sequence};
+ghost use Rattle.snesl_syntax.specs.Types.{types, type_begins, type_ended, open_type};
+ghost use Rattle.snesl_syntax.specs.TypeMachine.{frame_of, frames_of, ended_in, type_state, IsStep, TypeStepsBy, TypeSteps, IsWholeType};
 
 use snesl_expressions::{GREATEST_DEPTH, StepError};
-use snesl_lexer::{Kind, Token};
+use snesl_lexer::{Token, TokenKind};
 use snesl_tree::WrittenType;
 use std::alloc::Global;
 
@@ -48,7 +48,7 @@ fn has_room(forms: &[TypeForm]) -> bool
 
 // Goes on in a form that has its room already.
 fn go_in(mut forms: Vec<TypeForm>, form: TypeForm) -> Result<TypeMachine, StepError>
-    ensures { Steps type_state result (Ok (type_begins (frame_of form ∷ frames_of forms.items))) }
+    ensures { IsStep type_state result (Ok (type_begins (frame_of form ∷ frames_of forms.items))) }
 {
     forms.push(form)?;
     Ok(TypeMachine {
@@ -59,8 +59,7 @@ fn go_in(mut forms: Vec<TypeForm>, form: TypeForm) -> Result<TypeMachine, StepEr
 
 // Opens a form, where there is room for a part of it.
 fn enter(forms: Vec<TypeForm>, form: TypeForm) -> Result<TypeMachine, StepError>
-    ensures { Steps type_state result (within greatest_depth
-        (open_type (frames_of forms.items) (frame_of form))) }
+    ensures { TypeStepsBy result (open_type (frames_of forms.items) (frame_of form)) }
 {
     if !has_room(&forms) {
         return Err(StepError::TooDeep);
@@ -70,7 +69,7 @@ fn enter(forms: Vec<TypeForm>, form: TypeForm) -> Result<TypeMachine, StepError>
 
 // After a type.
 fn behind(forms: Vec<TypeForm>, last: WrittenType) -> Result<TypeMachine, StepError>
-    ensures { Steps type_state result (Ok (type_ended (frames_of forms.items) (type_tree last))) }
+    ensures { IsStep type_state result (Ok (type_ended (frames_of forms.items) (type_tree last))) }
 {
     Ok(TypeMachine {
         forms,
@@ -80,16 +79,15 @@ fn behind(forms: Vec<TypeForm>, last: WrittenType) -> Result<TypeMachine, StepEr
 
 // Where a type begins.
 fn begins(forms: Vec<TypeForm>, token: Token) -> Result<TypeMachine, StepError>
-    ensures { Steps type_state result (step types greatest_depth
-        (type_begins (frames_of forms.items)) token) }
+    ensures { TypeSteps result (type_begins (frames_of forms.items)) token }
 {
     let at = token.at;
     match token.kind {
-        Kind::Int => behind(forms, WrittenType::Int { at }),
-        Kind::Bool => behind(forms, WrittenType::Bool { at }),
-        Kind::LeftParen => enter(forms, TypeForm::First { at }),
-        Kind::LeftBracket => enter(forms, TypeForm::Vector { at }),
-        Kind::LeftBrace => enter(forms, TypeForm::Sequence { at }),
+        TokenKind::Int => behind(forms, WrittenType::Int { at }),
+        TokenKind::Bool => behind(forms, WrittenType::Bool { at }),
+        TokenKind::LeftParen => enter(forms, TypeForm::First { at }),
+        TokenKind::LeftBracket => enter(forms, TypeForm::Vector { at }),
+        TokenKind::LeftBrace => enter(forms, TypeForm::Sequence { at }),
         _ => Err(StepError::Unexpected),
     }
 }
@@ -101,11 +99,10 @@ fn first_ended(
     first: WrittenType,
     token: Token,
 ) -> Result<TypeMachine, StepError>
-    ensures { Steps type_state result (step types greatest_depth
-        (type_ended (in_first at ∷ frames_of forms.items) (type_tree first)) token) }
+    ensures { TypeSteps result (ended_in (First at) forms first) token }
 {
     match token.kind {
-        Kind::Comma => go_in(forms, TypeForm::Second { at, first }),
+        TokenKind::Comma => go_in(forms, TypeForm::Second { at, first }),
         _ => Err(StepError::Unexpected),
     }
 }
@@ -119,12 +116,10 @@ fn second_ended(
     second: WrittenType,
     token: Token,
 ) -> Result<TypeMachine, StepError>
-    ensures { Steps type_state result (step types greatest_depth
-        (type_ended (in_second at (type_tree first) ∷ frames_of forms.items)
-        (type_tree second)) token) }
+    ensures { TypeSteps result (ended_in (Second at first) forms second) token }
 {
     match token.kind {
-        Kind::RightParen => {
+        TokenKind::RightParen => {
             let pair = WrittenType::Pair {
                 at,
                 first: Box::new(alloc, first)?,
@@ -144,11 +139,10 @@ fn vector_ended(
     item: WrittenType,
     token: Token,
 ) -> Result<TypeMachine, StepError>
-    ensures { Steps type_state result (step types greatest_depth
-        (type_ended (in_vector at ∷ frames_of forms.items) (type_tree item)) token) }
+    ensures { TypeSteps result (ended_in (Vector at) forms item) token }
 {
     match token.kind {
-        Kind::RightBracket => {
+        TokenKind::RightBracket => {
             let vector = WrittenType::Vector {
                 at,
                 item: Box::new(alloc, item)?,
@@ -167,11 +161,10 @@ fn sequence_ended(
     item: WrittenType,
     token: Token,
 ) -> Result<TypeMachine, StepError>
-    ensures { Steps type_state result (step types greatest_depth
-        (type_ended (in_sequence at ∷ frames_of forms.items) (type_tree item)) token) }
+    ensures { TypeSteps result (ended_in (Sequence at) forms item) token }
 {
     match token.kind {
-        Kind::RightBrace => {
+        TokenKind::RightBrace => {
             let sequence = WrittenType::Sequence {
                 at,
                 item: Box::new(alloc, item)?,
@@ -189,8 +182,7 @@ fn ended(
     last: WrittenType,
     token: Token,
 ) -> Result<TypeMachine, StepError>
-    ensures { Steps type_state result (step types greatest_depth
-        (type_ended (frames_of forms.items) (type_tree last)) token) }
+    ensures { TypeSteps result (type_ended (frames_of forms.items) (type_tree last)) token }
 {
     let Some(form) = forms.pop() else {
         return Err(StepError::Unexpected);
@@ -216,7 +208,7 @@ impl TypeMachine {
 
     /// The machine after the next token.
     pub fn step(self, alloc: Global, token: Token) -> Result<TypeMachine, StepError>
-        ensures { Steps type_state result (step types greatest_depth (type_state self) token) }
+        ensures { TypeSteps result (type_state self) token }
     {
         let TypeMachine { forms, point } = self;
         match point {

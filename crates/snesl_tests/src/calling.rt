@@ -22,7 +22,7 @@ use flow_scalar::workers::Sink;
 use flow_scalar::{Node, Source, Stream};
 use snesl_syntax::parse;
 use snesl_trials::in_threads;
-use snesl_types::{Typed, check};
+use snesl_types::{TypedProgram, check};
 use snesl_values::{FaultKind, Refusal, Ty, text_of};
 use std::alloc::Global;
 use std::test::Fail;
@@ -166,7 +166,7 @@ fn strangers_step_in_blocks(rt: HostRuntime) -> Result<(), Fail> {
 fn back_from_epochs(
     rt: &impl Threads,
     alloc: Global,
-    typed: &Typed,
+    typed: &TypedProgram,
     config: &Config,
 ) -> Result<Option<usize>, Refusal> {
     let inputs = inputs_of(alloc, SUM, b"")?;
@@ -178,7 +178,11 @@ fn back_from_epochs(
 }
 
 // Whether the first share has room on the first edge, while a stranger has its ends.
-fn room_while_lent(alloc: Global, typed: &Typed, config: &Config) -> Result<Option<bool>, Refusal> {
+fn room_while_lent(
+    alloc: Global,
+    typed: &TypedProgram,
+    config: &Config,
+) -> Result<Option<bool>, Refusal> {
     let inputs = inputs_of(alloc, SUM, b"")?;
     match shares(alloc, typed, inputs, config) {
         Ok(Some(mut shares)) if !shares.is_empty() => Ok(Some(lent(shares.swap_remove(0), 0).1)),
@@ -190,7 +194,7 @@ fn room_while_lent(alloc: Global, typed: &Typed, config: &Config) -> Result<Opti
 fn outcome_at_rest(
     rt: &impl Threads,
     alloc: Global,
-    typed: &Typed,
+    typed: &TypedProgram,
     config: &Config,
 ) -> Result<Option<Outcome>, Refusal> {
     let inputs = inputs_of(alloc, SUM, b"")?;

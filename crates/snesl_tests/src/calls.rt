@@ -4,7 +4,7 @@ use snesl_console::complain;
 use snesl_data::{
     Counted, Datum, Dialect, Elements, FaultKind, Refusal, Ty, copy_datum, is_blank, text_of,
 };
-use snesl_lexer::{Kind, Token, tokens_of};
+use snesl_lexer::{Token, TokenKind, tokens_of};
 use snesl_syntax::{Expr, Program, Span, parse};
 use snesl_trials::Expected;
 use snesl_types::check;
@@ -163,23 +163,23 @@ fn counted_calls(rt: HostRuntime) -> Result<(), Fail> {
 
 const TOKENS: [Token; 5] = [
     Token {
-        kind: Kind::Name(1),
+        kind: TokenKind::Name(1),
         at: 0,
     },
     Token {
-        kind: Kind::AtMost,
+        kind: TokenKind::AtMost,
         at: 1,
     },
     Token {
-        kind: Kind::Integer(12),
+        kind: TokenKind::Integer(12),
         at: 3,
     },
     Token {
-        kind: Kind::Append,
+        kind: TokenKind::Append,
         at: 6,
     },
     Token {
-        kind: Kind::Name(5),
+        kind: TokenKind::Name(5),
         at: 8,
     },
 ];
@@ -204,7 +204,7 @@ fn counts_of(alloc: Global, text: &[u8]) -> Result<(usize, usize), Refusal> {
     let tokens = tokens_of(alloc, text)?;
     let mut names = 0usize;
     for token in &tokens {
-        if matches!(token.kind, Kind::Name(_)) {
+        if matches!(token.kind, TokenKind::Name(_)) {
             names = names.saturating_add(1);
         }
     }

@@ -13,7 +13,7 @@ use snesl_data::Refusal;
 use snesl_flatten::flatten;
 use snesl_syntax::{Program, parse};
 use snesl_trials::in_one_thread;
-use snesl_types::{Typed, check};
+use snesl_types::{TypedProgram, check};
 use snesl_values::{Inputs, read_inputs};
 use std::alloc::Global;
 use std::process::Abort;
@@ -25,7 +25,7 @@ use std::thread::Threads;
 pub fn network_for(
     rt: &impl Abort,
     alloc: Global,
-    typed: &Typed<'_>,
+    typed: &TypedProgram<'_>,
     text: &[u8],
 ) -> Result<Graph<StreamNode>, Refusal>
     ensures { IfOk result (λ graph. AreOpened node_behaviour (states_of graph)) }
@@ -37,7 +37,7 @@ pub fn network_for(
 fn network_with(
     rt: &impl Abort,
     alloc: Global,
-    typed: &Typed<'_>,
+    typed: &TypedProgram<'_>,
     inputs: Inputs,
 ) -> Result<Graph<StreamNode>, Refusal>
     ensures { IfOk result (λ graph. AreOpened node_behaviour (states_of graph)) }
@@ -56,7 +56,7 @@ fn assert_text<T: Transducer + Printing + Drop>(rt: &impl Abort, rested: Rested<
 fn assert_prints<R: Abort + Threads>(
     rt: &R,
     alloc: Global,
-    typed: &Typed<'_>,
+    typed: &TypedProgram<'_>,
     config: &Config,
     (input, text): (&[u8], &[u8]),
 ) -> Result<(), Fail> {

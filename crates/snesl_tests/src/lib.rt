@@ -11,6 +11,8 @@ mod calls;
 #[cfg(test)]
 mod candidates;
 #[cfg(test)]
+mod choices;
+#[cfg(test)]
 mod command_lines;
 #[cfg(test)]
 mod declared_inputs;

@@ -11,7 +11,7 @@ use flow_networks::{Graph, settle};
 use flow_nodes::StreamNode;
 use snesl_data::Refusal;
 use snesl_syntax::parse;
-use snesl_types::{Typed, check};
+use snesl_types::{TypedProgram, check};
 use std::alloc::{AllocError, Global};
 use std::process::Abort;
 use std::test::Fail;
@@ -51,7 +51,7 @@ fn counts_of(
 fn counts_by(
     rt: &impl Abort,
     alloc: Global,
-    typed: &Typed<'_>,
+    typed: &TypedProgram<'_>,
     capacity: usize,
     number: usize,
 ) -> Result<Vec<(u64, u64)>, Refusal>
@@ -67,7 +67,7 @@ fn counts_by(
 fn counts_by_all(
     rt: &impl Abort,
     alloc: Global,
-    typed: &Typed<'_>,
+    typed: &TypedProgram<'_>,
     capacity: usize,
 ) -> Result<Vec<(u64, u64)>, Refusal>
     requires some { 0 < capacity }

@@ -4,7 +4,7 @@ use Rattle.std.proofs.Common.{sym, ap, ◌∙◌, subst, append-nil}
 use Rattle.std.proofs.Math.Path.{ap₂}
 use Rattle.snesl_data.specs.Types.{Ty, seq}
 use Rattle.snesl_data.specs.Values.{Value}
-use Rattle.snesl_values.specs.Inputs.{Declaration, Environment}
+use Rattle.snesl_values.specs.Inputs.{InputDeclaration, Environment}
 use Rattle.snesl_operators.specs.Operators.{same_truth}
 use Rattle.snesl_evaluation.specs.Builtins.{items_at}
 use Rattle.snesl_evaluation.specs.Eval.{BoundItems}
@@ -39,7 +39,7 @@ use Rattle.snesl_translation.proofs.Grouping.{grouped_from}
 use Rattle.snesl_translation.proofs.Rows.{all_fit, fits_with, empty_fit, with_column_length}
 
 -- what is carried stays so
-pub sources_on : (streams more : Columns) (sources : Sources) (items : List Declaration) (all : List BoundItems) → SourcesCarry streams sources items all → SourcesCarry (streams ++ more) sources items all
+pub sources_on : (streams more : Columns) (sources : Sources) (items : List InputDeclaration) (all : List BoundItems) → SourcesCarry streams sources items all → SourcesCarry (streams ++ more) sources items all
 sources_on streams more [] [] all h = h
 sources_on streams more [] (item ∷ items) all h = absurd h
 sources_on streams more (source ∷ sources) [] all h = absurd h
@@ -49,7 +49,7 @@ sources_on streams more (source ∷ sources) (item ∷ items) all (groups, other
 -- makings one after the other
 
 -- an expression, and then sources
-head_goes : (streams : Columns) (s : Ty) (items : List Declaration) (first : Making Wires) (rest : Wires → ℕ → Making Sources) (o : Option (List Value)) (after : List Value → Option (List BoundItems))
+head_goes : (streams : Columns) (s : Ty) (items : List InputDeclaration) (first : Making Wires) (rest : Wires → ℕ → Making Sources) (o : Option (List Value)) (after : List Value → Option (List BoundItems))
     → GoesTo streams s first o
     → ((more : Columns) (w : Wires) (vs : List Value) → o ≡ Some vs → Carries (streams ++ more) w s vs → SourcesGo (streams ++ more) items (rest w (length (streams ++ more))) (after vs))
     → SourcesGo streams items (and_then first rest) (bind o after)
@@ -61,7 +61,7 @@ head_goes streams s items first rest (Some vs) after goes later = by_case (after
     by_case (Some all) does = then_does first rest streams (λ l w. Carries l w s vs) (λ l us. SourcesCarry l us items all) goes does
 
 -- sources, and then sources
-tail_goes : (streams : Columns) (items more_items : List Declaration) (first : Making Sources) (rest : Sources → ℕ → Making Sources) (o : Option (List BoundItems)) (after : List BoundItems → Option (List BoundItems))
+tail_goes : (streams : Columns) (items more_items : List InputDeclaration) (first : Making Sources) (rest : Sources → ℕ → Making Sources) (o : Option (List BoundItems)) (after : List BoundItems → Option (List BoundItems))
     → SourcesGo streams items first o
     → ((more : Columns) (us : Sources) (all : List BoundItems) → o ≡ Some all → SourcesCarry (streams ++ more) us items all → SourcesGo (streams ++ more) more_items (rest us (length (streams ++ more))) (after all))
     → SourcesGo streams more_items (and_then first rest) (bind o after)
@@ -73,7 +73,7 @@ tail_goes streams items more_items first rest (Some all) after goes later = by_c
     by_case (Some others) does = then_does first rest streams (λ l us. SourcesCarry l us items all) (λ l us. SourcesCarry l us more_items others) goes does
 
 -- sources, and then an expression
-pub sources_go : (streams : Columns) (items : List Declaration) (t : Ty) (first : Making Sources) (rest : Sources → ℕ → Making Wires) (o : Option (List BoundItems)) (after : List BoundItems → Option (List Value))
+pub sources_go : (streams : Columns) (items : List InputDeclaration) (t : Ty) (first : Making Sources) (rest : Sources → ℕ → Making Wires) (o : Option (List BoundItems)) (after : List BoundItems → Option (List Value))
     → SourcesGo streams items first o
     → ((more : Columns) (us : Sources) (all : List BoundItems) → o ≡ Some all → SourcesCarry (streams ++ more) us items all → GoesTo (streams ++ more) t (rest us (length (streams ++ more))) (after all))
     → GoesTo streams t (and_then first rest) (bind o after)
@@ -129,13 +129,13 @@ module _ (at : ℕ) (name : List ℕ) (one : Environment → Option Value) (all 
       ∙ ap (λ o. bind o (with_others environments)) (each_after one (λ v. given_by (items_at at v)) environments)
       ∙ bind_bind (each one environments) (each (λ v. given_by (items_at at v))) (with_others environments)
 
-  pub more_sources_mean : (context : Context) (t : Ty) (items : List Declaration) (names others : Names) (first : Bound → ℕ → ℕ → Making Wires) (rest : Bound → ℕ → ℕ → Making Sources)
+  pub more_sources_mean : (context : Context) (t : Ty) (items : List InputDeclaration) (names others : Names) (first : Bound → ℕ → ℕ → Making Wires) (rest : Bound → ℕ → ℕ → Making Sources)
       → IsTranslation first one names context (seq t) → SourcesMean rest all others context items
       → SourcesMean (λ bound control k. and_then (first bound control k) (λ u k. and_then (rest bound control k) (λ sources k. done ((name, u) ∷ sources) k)))
       more_columns (names ++ others) context ((name, t) ∷ items)
   more_sources_mean context t items names others first rest h g streams bound control environments bears controls =
       let behind : Wires → ℕ → Making Sources = λ u k. and_then (rest bound control k) (λ sources k. done ((name, u) ∷ sources) k) in
-      let every : List Declaration = (name, t) ∷ items in
+      let every : List InputDeclaration = (name, t) ∷ items in
       subst (SourcesGo streams every (and_then (first bound control (length streams)) behind)) (sym (each_columns environments))
       (head_goes streams (seq t) every (first bound control (length streams)) behind (each one environments) (λ vs. bind (each (λ v. given_by (items_at at v)) vs) (with_others environments))
       (h streams bound control environments (borne_left streams bound names others context environments bears) controls)
@@ -193,7 +193,7 @@ tested_then streams behind true c e = ap (run behind) (append-nil streams) ∙ e
 tested_then streams behind false c e = refl
 
 -- that further sequences have these lengths
-pub lengths_test : (at f : ℕ) (streams : Columns) (ns : List ℕ) (sources : Sources) (items : List Declaration) (all : List BoundItems) (next : ℕ)
+pub lengths_test : (at f : ℕ) (streams : Columns) (ns : List ℕ) (sources : Sources) (items : List InputDeclaration) (all : List BoundItems) (next : ℕ)
     → streams_at (f ∷ []) streams ≡ Some (flags ns ∷ []) → length all ≡ length ns → SourcesCarry streams sources items all
     → run (same_lengths at f sources next).steps streams ≡ only_if (all_fit ns all) streams
 unfolding and_then

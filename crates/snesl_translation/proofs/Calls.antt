@@ -6,10 +6,10 @@ use Rattle.std.proofs.lemmas.Slice.Eq.{bytes_eq-Decides}
 use Rattle.snesl_data.specs.declared.dialect.Dialect.{Dialect}
 use Rattle.snesl_data.specs.Types.{Ty}
 use Rattle.snesl_data.specs.Values.{Value}
-use Rattle.snesl_values.specs.Inputs.{Declaration, Environment}
+use Rattle.snesl_values.specs.Inputs.{InputDeclaration, Environment}
 use Rattle.snesl_tree.specs.declared.span.Span.{Span}
 use Rattle.snesl_tree.specs.Spelling.{spelling}
-use Rattle.snesl_tree.specs.Tree.{Tree, Typed, TypeTree, DeclarationTree, declares_input, declares_function}
+use Rattle.snesl_tree.specs.Tree.{Tree, TypedName, TypeTree, DeclarationTree, declares_input, declares_function}
 use Rattle.snesl_evaluation.specs.Answer.{gives}
 use Rattle.snesl_evaluation.specs.Eval.{Calls, eval, parameters_with, function_answer, with_declaration, calls_after}
 use Rattle.snesl_types.specs.Contexts.{names_context, Signature, Signatures, function_named}
@@ -29,7 +29,7 @@ use Rattle.snesl_translation.proofs.Operands.{each_after}
 use Rattle.snesl_translation.proofs.Bindings.{with_name, borne_with}
 
 -- the names of parameters with their types, after others
-parameter_declarations : {text : List ℕ} {earlier all : List Declaration} {written : List Typed} → NamesType text earlier written all → (given : List Declaration) × (all ≡ earlier ++ given)
+parameter_declarations : {text : List ℕ} {earlier all : List InputDeclaration} {written : List TypedName} → NamesType text earlier written all → (given : List InputDeclaration) × (all ≡ earlier ++ given)
 parameter_declarations no_names = ([], sym (append-nil _))
 parameter_declarations {text = text} {earlier = earlier} (more_names {first = first} {t = t} new is h) =
     let p = parameter_declarations h in (typed_name text first t ∷ p.0, p.1 ∙ append_assoc earlier (typed_name text first t ∷ []) p.0)
@@ -64,8 +64,8 @@ empty_environments at text ([] ∷ rows) e =
 empty_environments at text ((v ∷ row) ∷ rows) e = absurd (cc)
 
 -- what parameters stand for at rows of arguments: environments that their streams bear
-pub parameters_mean : (at : ℕ) (text : List ℕ) (streams : Columns) (earlier all : List Declaration) (written : List Typed) → NamesType text earlier written all
-    → (given : List Declaration) × (all ≡ earlier ++ given) × ((us : List Wires) (rows : List (List Value)) → AllCarry streams us (map (λ declaration. declaration.1) given) rows
+pub parameters_mean : (at : ℕ) (text : List ℕ) (streams : Columns) (earlier all : List InputDeclaration) (written : List TypedName) → NamesType text earlier written all
+    → (given : List InputDeclaration) × (all ≡ earlier ++ given) × ((us : List Wires) (rows : List (List Value)) → AllCarry streams us (map (λ declaration. declaration.1) given) rows
     → (environments : List Environment) × (each (λ row. given_by (parameters_with at text written row)) rows ≡ Some environments) × (length environments ≡ length rows)
     × ((names : Names) → Bears streams (parameters_bound text written us) names (names_context given) environments))
 parameters_mean at text streams earlier all written no_names = (
@@ -85,7 +85,7 @@ parameters_mean at text streams earlier all written (more_names {first = first} 
       by_wires rest.0 rest.2,
     )
   where
-    by_wires : (given : List Declaration) → ((us : List Wires) (rows : List (List Value)) → AllCarry streams us (map (λ declaration. declaration.1) given) rows
+    by_wires : (given : List InputDeclaration) → ((us : List Wires) (rows : List (List Value)) → AllCarry streams us (map (λ declaration. declaration.1) given) rows
         → (environments : List Environment) × (each (λ row. given_by (parameters_with at text others row)) rows ≡ Some environments) × (length environments ≡ length rows)
         × ((names : Names) → Bears streams (parameters_bound text others us) names (names_context given) environments))
         → (us : List Wires) (rows : List (List Value)) → AllCarry streams us (t ∷ map (λ declaration. declaration.1) given) rows
@@ -129,7 +129,7 @@ earlier_named bytes (first ∷ functions) signature other = ap (λ o. if bytes_e
 
 module _ (expressions : TypedExpressionsMean) (dialect : Dialect) (text : List ℕ) where
   -- the body of a function means what its calls do
-  body_means : (functions : Signatures) (calls : Calls) (bodies : Bodies) (parameters : List Declaration) (written : List Typed) (body : Tree) (t : Ty) → CallsMean functions calls bodies
+  body_means : (functions : Signatures) (calls : Calls) (bodies : Bodies) (parameters : List InputDeclaration) (written : List TypedName) (body : Tree) (t : Ty) → CallsMean functions calls bodies
       → NamesType text [] written parameters → Types dialect text functions (names_context parameters) body t
       → (streams : Columns) (at : ℕ) (us : List Wires) (control : ℕ) (rows : List (List Value)) → AllCarry streams us (map (λ declaration. declaration.1) parameters) rows → Controls streams control (length rows)
       → GoesTo streams t (tr dialect text bodies body (parameters_bound text written us) control (length streams)) (each (λ row. given_by (function_answer dialect at text calls written body row)) rows)
@@ -148,7 +148,7 @@ module _ (expressions : TypedExpressionsMean) (dialect : Dialect) (text : List �
       subst (GoesTo streams t (tr dialect text bodies body (parameters_bound text written us) control (length streams))) (sym same) goes
 
   -- and so with one function more
-  one_more : (functions : Signatures) (calls : Calls) (bodies : Bodies) (place : Span) (written : List Typed) (result : TypeTree) (body : Tree) (signature : Signature) → CallsMean functions calls bodies
+  one_more : (functions : Signatures) (calls : Calls) (bodies : Bodies) (place : Span) (written : List TypedName) (result : TypeTree) (body : Tree) (signature : Signature) → CallsMean functions calls bodies
       → FunctionTypes dialect text functions place written result body signature
       → CallsMean (functions ++ (signature ∷ [])) (with_declaration dialect text calls (declares_function place written result body)) (with_body dialect text bodies (declares_function place written result body))
   one_more functions calls bodies place written result body signature mean (function_type {parameters = parameters} {t = t} new names typed_result typed) streams at bytes called us control rows is carry controls =

@@ -6,7 +6,7 @@ use Rattle.std.proofs.lemmas.Bool.{and_parts}
 use Rattle.snesl_data.specs.declared.dialect.Dialect.{Dialect}
 use Rattle.snesl_data.specs.Types.{Ty, seq}
 use Rattle.snesl_data.specs.Values.{Value}
-use Rattle.snesl_values.specs.Inputs.{Declaration, Environment}
+use Rattle.snesl_values.specs.Inputs.{InputDeclaration, Environment}
 use Rattle.snesl_tree.specs.declared.operator.Builtin.TheVariants.{Concat}
 use Rattle.snesl_evaluation.specs.Answer.{gives, go_all}
 use Rattle.snesl_evaluation.specs.Builtins.{applied}
@@ -62,19 +62,19 @@ without_swapped a b (n ∷ names) = by_test (bytes_eq a n) (bytes_eq b n) refl r
         ap (λ c. cond c (without a (without b names)) (n ∷ without a (without b names))) e ∙ ap (λ l. n ∷ l) same
         ∙ sym (ap (λ d. cond d (without b (without a names)) (n ∷ without b (without a names))) f)
 
-without_last : (items : List Declaration) (name : List ℕ) (names : Names) → without name (without_items items names) ≡ without_items items (without name names)
+without_last : (items : List InputDeclaration) (name : List ℕ) (names : Names) → without name (without_items items names) ≡ without_items items (without name names)
 without_last [] name names = refl
 without_last (item ∷ items) name names = without_swapped name item.0 (without_items items names) ∙ ap (without item.0) (without_last items name names)
 
 -- a name that is left is none of the items'
-among_after : (items : List Declaration) (names : Names) (context : Context) (bytes : List ℕ) → is_among bytes (without_items items names) ≡ true
+among_after : (items : List InputDeclaration) (names : Names) (context : Context) (bytes : List ℕ) → is_among bytes (without_items items names) ≡ true
     → (is_among bytes names ≡ true) × (found bytes (names_context items ++ context) ≡ found bytes context)
 among_after [] names context bytes among = (among, refl)
 among_after (item ∷ items) names context bytes among =
     let rest = among_after items names context bytes (stay_among bytes item.0 (without_items items names) among) in
     (rest.0, ap (λ b. cond b (Some (open_to item.1)) (found bytes (names_context items ++ context))) (stay_other bytes item.0 (without_items items names) among) ∙ rest.1)
 
-pub open_after : (items : List Declaration) (names : Names) (context : Context) → AreOpen names (names_context items ++ context) → AreOpen (without_items items names) context
+pub open_after : (items : List InputDeclaration) (names : Names) (context : Context) → AreOpen names (names_context items ++ context) → AreOpen (without_items items names) context
 open_after items names context usable bytes among =
     let p = among_after items names context bytes among in
     let o = usable bytes p.0 in
@@ -83,7 +83,7 @@ open_after items names context usable bytes among =
 -- the names inside
 
 items_borne : (streams : Columns) (given : Bound) (context : Context) (ns : List ℕ) (environments : List Environment) → length ns ≡ length environments
-    → (sources : Sources) (items : List Declaration) (names : Names) (all : List BoundItems) → SourcesCarry streams sources items all → all_fit ns all ≡ true
+    → (sources : Sources) (items : List InputDeclaration) (names : Names) (all : List BoundItems) → SourcesCarry streams sources items all → all_fit ns all ≡ true
     → Bears streams given (without_items items names) context (copied (zip ns environments))
     → Bears streams (items_bound sources ++ given) names (names_context items ++ context) (concatenation (inner_instances ns all environments))
 items_borne streams given context ns environments long [] [] names all c fit bears =
@@ -167,7 +167,7 @@ GoesInside within inside_value names context t =
     → GoesTo streams t (within f bound control (length streams)) (each inside_value inners)
 
 -- whatever is made inside
-module _ (context : Context) (at place : ℕ) (item : Declaration) (items : List Declaration) (t : Ty) (inner_names : Names) (within : ℕ → Bound → ℕ → ℕ → Making Wires)
+module _ (context : Context) (at place : ℕ) (item : InputDeclaration) (items : List InputDeclaration) (t : Ty) (inner_names : Names) (within : ℕ → Bound → ℕ → ℕ → Making Wires)
     (columns : Environment → Option BoundItems) (inside_value : List Environment → Option Value)
     (usable : AreOpen inner_names (names_context (item ∷ items) ++ inside context)) (goes : GoesInside within inside_value inner_names (names_context (item ∷ items) ++ inside context) t) where
   -- what stands after the sources
@@ -317,7 +317,7 @@ rows_inside place columns value make environment =
     (λ rows. option_map make (each (λ row. value (row ++ environment)) rows)) (λ rows. ap (option_map make) (each_map value (λ row. row ++ environment) rows)))
 
 -- the form without a condition
-pub each_means : (context : Context) (at place : ℕ) (item : Declaration) (items : List Declaration) (t : Ty) (names inner_names : Names) (sources : Bound → ℕ → ℕ → Making Sources) (body : Bound → ℕ → ℕ → Making Wires)
+pub each_means : (context : Context) (at place : ℕ) (item : InputDeclaration) (items : List InputDeclaration) (t : Ty) (names inner_names : Names) (sources : Bound → ℕ → ℕ → Making Sources) (body : Bound → ℕ → ℕ → Making Wires)
     (columns : Environment → Option BoundItems) (value : Environment → Option Value)
     → AreOpen inner_names (names_context (item ∷ items) ++ inside context) → SourcesMean sources columns names context (item ∷ items)
     → IsTranslation body value inner_names (names_context (item ∷ items) ++ inside context) t
@@ -391,7 +391,7 @@ module _ (dialect : Dialect) (at : ℕ) (t : Ty) (kept_values : Environment → 
           does_go streams (seq t) making (λ w k. concatenated at (segments f w) k) (λ l w. Carries l w (seq t) (map a_seq_of (concatenation lss))) makes (Some (map one_sequence lss))
           (subst (Goes on (seq t) (concatenated at u (length on))) answer (concat_goes dialect at on u t vs carried))
 
-  pub each_where_means : (context : Context) (place : ℕ) (item : Declaration) (items : List Declaration) (names inner_names : Names) (sources : Bound → ℕ → ℕ → Making Sources)
+  pub each_where_means : (context : Context) (place : ℕ) (item : InputDeclaration) (items : List InputDeclaration) (names inner_names : Names) (sources : Bound → ℕ → ℕ → Making Sources)
       (condition : Bound → ℕ → ℕ → Making Wires) (filter : Bound → ℕ → ℕ → Making Wires) (columns : Environment → Option BoundItems)
       → AreOpen inner_names (names_context (item ∷ items) ++ inside context) → SourcesMean sources columns names context (item ∷ items)
       → IsTranslation (λ b c k. and_then (condition b c k) (λ d k. filter b (stream_of d) k)) kept_sequence inner_names (names_context (item ∷ items) ++ inside context) (seq t)

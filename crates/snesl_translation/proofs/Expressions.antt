@@ -4,7 +4,7 @@ use Rattle.std.proofs.Common.{ap, ◌∙◌, subst}
 use Rattle.snesl_data.specs.declared.dialect.Dialect.{Dialect}
 use Rattle.snesl_data.specs.Types.{Ty, bool}
 use Rattle.snesl_data.specs.Values.{Value}
-use Rattle.snesl_values.specs.Inputs.{Declaration, Environment}
+use Rattle.snesl_values.specs.Inputs.{InputDeclaration, Environment}
 use Rattle.snesl_tree.specs.declared.span.Span.{Span}
 use Rattle.snesl_tree.specs.Spelling.{spelling}
 use Rattle.snesl_tree.specs.Tree.{Tree, Trees, both, Binders, binder}
@@ -26,8 +26,8 @@ use Rattle.snesl_translation.proofs.FormMeanings.{filter_tree_means, ItemsMean, 
 use Rattle.snesl_translation.proofs.Choices.{choice_means}
 
 -- the first item of a comprehension's binders, and the others
-first_item : {dialect : Dialect} {text : List ℕ} {functions : Signatures} {context : Context} {earlier all : List Declaration} {place : Span} {source : Tree} {others : Binders}
-    (h : BindersType dialect text functions context earlier (binder place source others) all) → (item : Declaration) × (items : List Declaration) × ((binder_items h).0 ≡ item ∷ items)
+first_item : {dialect : Dialect} {text : List ℕ} {functions : Signatures} {context : Context} {earlier all : List InputDeclaration} {place : Span} {source : Tree} {others : Binders}
+    (h : BindersType dialect text functions context earlier (binder place source others) all) → (item : InputDeclaration) × (items : List InputDeclaration) × ((binder_items h).0 ≡ item ∷ items)
 first_item {text = text} {place = place} (more_binders {t = t} h new rest) = ((spelling text place, t), (binder_items rest).0, refl)
 
 module _ (dialect : Dialect) (text : List ℕ) (functions : Signatures) (calls : Calls) (bodies : Bodies) (mean : CallsMean functions calls bodies) where
@@ -101,7 +101,7 @@ module _ (dialect : Dialect) (text : List ℕ) (functions : Signatures) (calls :
         (further_mean at t (followed at sequence (free text item) (tr dialect text bodies item)) (with_item dialect text calls bodies context before item) (names ++ free text item)
         (item_followed dialect text calls bodies context at sequence before names item t (free_are_open h) means item_means) rest same)
 
-    sources_mean : {context : Context} {earlier all : List Declaration} {binders : Binders} (h : BindersType dialect text functions context earlier binders all)
+    sources_mean : {context : Context} {earlier all : List InputDeclaration} {binders : Binders} (h : BindersType dialect text functions context earlier binders all)
         → BindersMean dialect text calls bodies context binders (binder_items h).0
     sources_mean (no_binders {context = context}) = no_binders_mean dialect text calls bodies context
     sources_mean (more_binders {context = context} {place = place} {source = source} {others = others} {t = t} h new rest) =

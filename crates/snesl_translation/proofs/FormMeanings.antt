@@ -4,7 +4,7 @@ use Rattle.std.proofs.Common.{sym, ap, ◌∙◌, subst, append-nil, append_asso
 use Rattle.snesl_data.specs.declared.dialect.Dialect.{Dialect}
 use Rattle.snesl_data.specs.Types.{Ty, bool, seq}
 use Rattle.snesl_data.specs.Values.{Value}
-use Rattle.snesl_values.specs.Inputs.{Declaration, Environment}
+use Rattle.snesl_values.specs.Inputs.{InputDeclaration, Environment}
 use Rattle.snesl_tree.specs.declared.span.Span.{Span}
 use Rattle.snesl_tree.specs.Spelling.{spelling}
 use Rattle.snesl_tree.specs.Tree.{Tree, Trees, Binders, filter, each as each_tree, none, both, none_bound, binder, always, only_where}
@@ -60,10 +60,10 @@ filter_given (gives x) f g = by_case (f x)
     by_case (gives y) = sequence_given (g y)
 
 -- names without those of binders are the same as without those of their items
-abbrev pub SameWithout : (text : List ℕ) (names : Names) (binders : Binders) (items : List Declaration) → Type 0
+abbrev pub SameWithout : (text : List ℕ) (names : Names) (binders : Binders) (items : List InputDeclaration) → Type 0
 SameWithout text names binders items = without_binders text binders names ≡ without_items items names
 
-sources_same : (context : Context) (items : List Declaration) (names : Names) (translated : Bound → ℕ → ℕ → Making Sources) (one other : Environment → Option BoundItems)
+sources_same : (context : Context) (items : List InputDeclaration) (names : Names) (translated : Bound → ℕ → ℕ → Making Sources) (one other : Environment → Option BoundItems)
     → ((environment : Environment) → one environment ≡ other environment) → SourcesMean translated one names context items → SourcesMean translated other names context items
 sources_same context items names translated one other same h streams bound control environments bears controls =
     subst (SourcesGo streams items (translated bound control (length streams))) (each_same one other same environments) (h streams bound control environments bears controls)
@@ -162,13 +162,13 @@ module _ (dialect : Dialect) (text : List ℕ) (calls : Calls) (bodies : Bodies)
 
   -- binders
 
-  abbrev pub BindersMean : Binders → List Declaration → Type 0
+  abbrev pub BindersMean : Binders → List InputDeclaration → Type 0
   BindersMean binders items = SourcesMean (tr_binders dialect text bodies binders) (λ environment. given_by (eval_binders dialect binders text calls environment)) (free_of_sources text binders) context items
 
   pub no_binders_mean : BindersMean none_bound []
   no_binders_mean = no_sources_mean context
 
-  pub binder_means : (place : Span) (source : Tree) (others : Binders) (t : Ty) (items : List Declaration) → TreeMeans dialect text calls bodies context source (seq t) → BindersMean others items
+  pub binder_means : (place : Span) (source : Tree) (others : Binders) (t : Ty) (items : List InputDeclaration) → TreeMeans dialect text calls bodies context source (seq t) → BindersMean others items
       → BindersMean (binder place source others) ((spelling text place, t) ∷ items)
   binder_means place source others t items h g =
       let name = spelling text place in
@@ -181,7 +181,7 @@ module _ (dialect : Dialect) (text : List ℕ) (calls : Calls) (bodies : Bodies)
 
   -- comprehensions
 
-  pub each_tree_means : (at : ℕ) (body : Tree) (binders : Binders) (item : Declaration) (items : List Declaration) (t : Ty) → SameWithout text (free text body) binders (item ∷ items)
+  pub each_tree_means : (at : ℕ) (body : Tree) (binders : Binders) (item : InputDeclaration) (items : List InputDeclaration) (t : Ty) → SameWithout text (free text body) binders (item ∷ items)
       → AreOpen (free text body) (names_context (item ∷ items) ++ inside context) → BindersMean binders (item ∷ items)
       → TreeMeans dialect text calls bodies (names_context (item ∷ items) ++ inside context) body t
       → TreeMeans dialect text calls bodies context (each_tree at body binders always) (seq t)
@@ -213,7 +213,7 @@ module _ (dialect : Dialect) (text : List ℕ) (calls : Calls) (bodies : Bodies)
           ∙ bind_same (given_by (rows_in_step at columns)) (λ rows. given_by (seq_answer (go_all f rows))) (λ rows. option_map a_seq_of (each (λ row. given_by (f row)) rows))
           (λ rows. sequence_given (go_all f rows) ∙ ap (option_map a_seq_of) (given_all f rows))))
 
-  pub each_where_tree_means : (at : ℕ) (body : Tree) (binders : Binders) (condition : Tree) (item : Declaration) (items : List Declaration) (t : Ty)
+  pub each_where_tree_means : (at : ℕ) (body : Tree) (binders : Binders) (condition : Tree) (item : InputDeclaration) (items : List InputDeclaration) (t : Ty)
       → SameWithout text (free text condition ++ free text body) binders (item ∷ items)
       → AreOpen (free text condition ++ free text body) (names_context (item ∷ items) ++ inside context) → AreOpen (free text body) (names_context (item ∷ items) ++ inside context) → BindersMean binders (item ∷ items)
       → TreeMeans dialect text calls bodies (names_context (item ∷ items) ++ inside context) condition bool

@@ -6,7 +6,7 @@ use Rattle.snesl_data.specs.declared.dialect.Dialect.{Dialect}
 use Rattle.snesl_data.specs.declared.fault.FaultKind.{FaultKind}
 use Rattle.snesl_data.specs.Types.{Ty, int, bool, pair, vec, seq}
 use Rattle.snesl_data.specs.Values.{Value, Values, an_int, a_bool, a_pair, a_vec, a_seq, no_values, more_values, HasType, AllHaveType}
-use Rattle.snesl_values.specs.Inputs.{Declaration, Environment, FitDeclarations}
+use Rattle.snesl_values.specs.Inputs.{InputDeclaration, Environment, FitDeclarations}
 use Rattle.snesl_evaluation.specs.Answer.{gives, faults}
 use Rattle.snesl_evaluation.specs.Eval.{eval, no_calls, calls_of, program_value}
 use Rattle.snesl_types.specs.Contexts.{names_context}
@@ -89,7 +89,7 @@ unfolding Agrees
 others_agree cells number first others agrees k i is lt =
     agrees k (length first + i) (omega (arith, is)) (omega (arith, lt, length-append first others)) ∙ get_or-append-add first others i []
 
-inputs_does : (at : ℕ) (cells : ℕ → List Cell) (dialect : Dialect) (declarations : List Declaration) (environment : Environment) (streams : Columns) → FitDeclarations dialect declarations environment
+inputs_does : (at : ℕ) (cells : ℕ → List Cell) (dialect : Dialect) (declarations : List InputDeclaration) (environment : Environment) (streams : Columns) → FitDeclarations dialect declarations environment
     → Agrees cells (length streams) (columns_of declarations environment)
     → Does streams (inputs_sourced at cells declarations (length streams)) (λ l bound. (names : Names) → Bears l bound names (names_context declarations) (environment ∷ []))
 unfolding sourced_does
@@ -117,7 +117,7 @@ inputs_does at cells dialect (declaration ∷ declarations) (entry ∷ environme
     (done_does ((declaration.0, u) ∷ bound) last (λ l bound. (names : Names) → Bears l bound names (names_context (declaration ∷ declarations)) ((entry ∷ environment) ∷ [])) borne))
 
 -- those of a program's sources are so after the control stream
-cells_agree : (declarations : List Declaration) (environment : Environment) → Agrees (cells_of declarations environment) 1 (columns_of declarations environment)
+cells_agree : (declarations : List InputDeclaration) (environment : Environment) → Agrees (cells_of declarations environment) 1 (columns_of declarations environment)
 unfolding Agrees
 cells_agree declarations environment k i is lt = ap (λ j. get_or (columns_of declarations environment) j []) (omega (arith, is))
 

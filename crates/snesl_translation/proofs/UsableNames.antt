@@ -5,7 +5,7 @@ use Rattle.std.proofs.Common.{sym, ap, ◌∙◌, subst, inl, inr, ◌⊎◌, �
 use Rattle.std.proofs.lemmas.Slice.Eq.{bytes_eq-Decides}
 use Rattle.snesl_data.specs.declared.dialect.Dialect.{Dialect}
 use Rattle.snesl_data.specs.Types.{Ty}
-use Rattle.snesl_values.specs.Inputs.{Declaration}
+use Rattle.snesl_values.specs.Inputs.{InputDeclaration}
 use Rattle.snesl_tree.specs.Spelling.{spelling}
 use Rattle.snesl_tree.specs.Tree.{Tree, Trees, Binders, binder, Condition}
 use Rattle.snesl_types.specs.Contexts.{open_to, Context, found, names_context, inside, Signatures}
@@ -42,8 +42,8 @@ outside_open names context h bytes among = let o = h bytes among in (o.0, (found
 
 module _ {dialect : Dialect} {text : List ℕ} {functions : Signatures} where
   -- the items of binders after others
-  abbrev pub binder_items : {context : Context} {earlier all : List Declaration} {binders : Binders} → BindersType dialect text functions context earlier binders all
-      → (items : List Declaration) × (all ≡ earlier ++ items) × ((names : Names) → without_binders text binders names ≡ without_items items names)
+  abbrev pub binder_items : {context : Context} {earlier all : List InputDeclaration} {binders : Binders} → BindersType dialect text functions context earlier binders all
+      → (items : List InputDeclaration) × (all ≡ earlier ++ items) × ((names : Names) → without_binders text binders names ≡ without_items items names)
   binder_items (no_binders {earlier = earlier}) = ([], sym (append-nil earlier), λ names. refl)
   binder_items (more_binders {earlier = earlier} {place = place} {t = t} h new rest) =
       let p = binder_items rest in
@@ -83,7 +83,7 @@ module _ {dialect : Dialect} {text : List ℕ} {functions : Signatures} where
     all_open (no_types {context = context}) = none_open context
     all_open (more_types {context = context} {first = first} {others = others} h g) = both_open (free text first) (free_of_all text others) context (free_are_open h) (all_open g)
 
-    sources_open : {context : Context} {earlier all : List Declaration} {binders : Binders} → BindersType dialect text functions context earlier binders all → AreOpen (free_of_sources text binders) context
+    sources_open : {context : Context} {earlier all : List InputDeclaration} {binders : Binders} → BindersType dialect text functions context earlier binders all → AreOpen (free_of_sources text binders) context
     sources_open (no_binders {context = context}) = none_open context
     sources_open (more_binders {context = context} {source = source} {others = others} h new rest) = both_open (free text source) (free_of_sources text others) context (free_are_open h) (sources_open rest)
 

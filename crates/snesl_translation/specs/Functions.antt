@@ -3,13 +3,13 @@ use Rattle.std.specs.Prelude.{ℕ, List, [], ◌∷◌, if◌then◌else◌}
 use Rattle.std.specs.Str.{bytes_eq}
 use Rattle.snesl_data.specs.declared.dialect.Dialect.{Dialect}
 use Rattle.snesl_tree.specs.Spelling.{spelling}
-use Rattle.snesl_tree.specs.Tree.{Typed, DeclarationTree, declares_input, declares_function}
+use Rattle.snesl_tree.specs.Tree.{TypedName, DeclarationTree, declares_input, declares_function}
 use Rattle.snesl_translation.specs.Wires.{Wires, Bound}
 use Rattle.snesl_translation.specs.Makings.{done}
 use Rattle.snesl_translation.specs.Translation.{Bodies, nowhere, tr}
 
 -- what the parameters of a function stand for
-abbrev pub parameters_bound : List ℕ → List Typed → List Wires → Bound
+abbrev pub parameters_bound : List ℕ → List TypedName → List Wires → Bound
 parameters_bound text (parameter ∷ parameters) (u ∷ us) = (spelling text parameter.place, u) ∷ parameters_bound text parameters us
 parameters_bound text _ _ = []
 

@@ -3,7 +3,7 @@ use Rattle.std.specs.Prelude.{◌≡◌, ℕ, zero, suc, ◌+◌, ◌-◌, List,
 use Rattle.snesl_data.specs.declared.fault.FaultKind.{FaultKind}
 use Rattle.snesl_data.specs.Types.{Ty}
 use Rattle.snesl_data.specs.Values.{Value}
-use Rattle.snesl_values.specs.Inputs.{Declaration, Environment, FitDeclarations}
+use Rattle.snesl_values.specs.Inputs.{InputDeclaration, Environment, FitDeclarations}
 use Rattle.snesl_tree.specs.Tree.{Tree, integer, truth, name, binary, prefix, call, apply, group, pair, binding, choice, literal, filter, each, ProgramTree}
 use Rattle.snesl_evaluation.specs.Answer.{gives, faults}
 use Rattle.snesl_evaluation.specs.Eval.{program_value}
@@ -53,19 +53,19 @@ sourced at cells t next = record {
 }
 
 -- those of inputs, beside their names
-abbrev pub inputs_sourced : ℕ → (ℕ → List Cell) → List Declaration → ℕ → Making Bound
+abbrev pub inputs_sourced : ℕ → (ℕ → List Cell) → List InputDeclaration → ℕ → Making Bound
 inputs_sourced at cells [] next = done [] next
 inputs_sourced at cells (declaration ∷ declarations) next =
     and_then (sourced at cells declaration.1 next) (λ u k.
     and_then (inputs_sourced at cells declarations k) (λ bound k. done ((declaration.0, u) ∷ bound) k))
 
 -- the columns of inputs that have these values
-abbrev pub columns_of : List Declaration → Environment → Columns
+abbrev pub columns_of : List InputDeclaration → Environment → Columns
 columns_of (declaration ∷ declarations) (entry ∷ environment) = columns_of_values declaration.1 (entry.1 ∷ []) ++ columns_of declarations environment
 columns_of _ _ = []
 
 -- what their sources write: the control stream has number 0, and the columns have the next ones
-abbrev pub cells_of : List Declaration → Environment → ℕ → List Cell
+abbrev pub cells_of : List InputDeclaration → Environment → ℕ → List Cell
 cells_of inputs environment number = slice_index_or (columns_of inputs environment) (number - 1) []
 
 -- nothing is set yet
@@ -82,7 +82,7 @@ control_sourced at next = record {
 
 -- The plan of a program of these inputs, whose sources write these cells; it gives the streams of the program's value. Its
 -- steps, but for what sources write, are the same whatever the inputs are.
-abbrev pub program_plan : List ℕ → ProgramTree → List Declaration → (ℕ → List Cell) → Making Wires
+abbrev pub program_plan : List ℕ → ProgramTree → List InputDeclaration → (ℕ → List Cell) → Making Wires
 program_plan text program inputs cells =
     let at = first_offset program.expression in
     and_then (control_sourced at zero) (λ control k.

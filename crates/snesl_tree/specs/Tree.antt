@@ -105,14 +105,14 @@ type_depth (vector_type at item) = suc (type_depth item)
 type_depth (sequence_type at item) = suc (type_depth item)
 
 -- a name and its type
-pub record Typed : Type 0 where
+pub record TypedName : Type 0 where
   pub place : Span
   pub written : TypeTree
 
 -- a declaration: an input, or a function of parameters with the type of its result and its body
 pub data DeclarationTree : Type 0 where
-  declares_input : (declared : Typed) → DeclarationTree
-  declares_function : (place : Span) (parameters : List Typed) (result : TypeTree) (body : Tree) → DeclarationTree
+  declares_input : (declared : TypedName) → DeclarationTree
+  declares_function : (place : Span) (parameters : List TypedName) (result : TypeTree) (body : Tree) → DeclarationTree
 
 -- a program: the dialect of its integers, its declarations in order, and its expression
 pub record ProgramTree : Type 0 where

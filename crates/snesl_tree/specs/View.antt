@@ -9,7 +9,7 @@ use Rattle.snesl_tree.specs.declared.declaration.Typing.{Typing}
 use Rattle.snesl_tree.specs.declared.declaration.Declaration.{Declaration}
 use Rattle.snesl_tree.specs.declared.declaration.Declaration.TheVariants.{Input, Function as FunctionDeclaration}
 use Rattle.snesl_tree.specs.declared.declaration.Function.{Function}
-use Rattle.snesl_tree.specs.Tree.{Tree, Trees, Binders, Condition, integer, truth, name, binary, prefix, call, apply, group, pair, binding, choice, literal, filter, each, none, both, none_bound, binder, always, only_where, TypeTree, int_type, bool_type, pair_type, vector_type, sequence_type, Typed, DeclarationTree, declares_input, declares_function}
+use Rattle.snesl_tree.specs.Tree.{Tree, Trees, Binders, Condition, integer, truth, name, binary, prefix, call, apply, group, pair, binding, choice, literal, filter, each, none, both, none_bound, binder, always, only_where, TypeTree, int_type, bool_type, pair_type, vector_type, sequence_type, TypedName, DeclarationTree, declares_input, declares_function}
 
 abbrev mutual
   pub tree_of : Expr → Tree
@@ -57,7 +57,7 @@ type_tree (PairType' at p first q second) = pair_type at (type_tree first) (type
 type_tree (Vector' at p item) = vector_type at (type_tree item)
 type_tree (Sequence' at p item) = sequence_type at (type_tree item)
 
-abbrev pub typed_of : Typing → Typed
+abbrev pub typed_of : Typing → TypedName
 typed_of typing = record { place = typing.name; written = type_tree typing.ty }
 
 abbrev pub function_of : Function → DeclarationTree

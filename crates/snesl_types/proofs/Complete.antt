@@ -4,7 +4,7 @@ use Rattle.std.proofs.lemmas.List.{append-nil}
 use Rattle.snesl_data.specs.declared.dialect.Dialect.{Dialect}
 use Rattle.snesl_data.specs.declared.refusal.Refusal.{Refusal}
 use Rattle.snesl_data.specs.declared.refusal.Refusal.TheVariants.{Mismatch, Streamed, TooBig, NoMemory}
-use Rattle.snesl_values.specs.Inputs.{Declaration}
+use Rattle.snesl_values.specs.Inputs.{InputDeclaration}
 use Rattle.snesl_data.specs.Integers.{is_integer}
 use Rattle.snesl_data.specs.Types.{Ty, int, bool, pair, vec, seq, is_concrete, is_same}
 use Rattle.snesl_tree.specs.declared.operator.Builtin.{Builtin}
@@ -16,7 +16,7 @@ use Rattle.snesl_types.specs.Forms.{result_of, tabs_streamed}
 use Rattle.snesl_types.specs.Sizes.{is_small}
 use Rattle.snesl_types.specs.Programs.{small_type, and_then}
 use Rattle.snesl_types.specs.Typing.{Types, Gives, AllTypes, BindersType, ConditionTypes, AllAre, has_type, integer_type, truth_type, name_type, binary_type, prefix_type, call_type, apply_type, group_type, pair_type, binding_type, choice_type, literal_type, filter_type, each_type, no_types, more_types, no_binders, more_binders, no_condition, condition_type}
-use Rattle.snesl_types.specs.Violations.{AreAlike, Violates, AnyViolates, BindersViolate, big_type, unbound, streamed, left_violates, right_violates, operands_mismatch, operand_violates, operand_mismatch, argument_violates, arguments_mismatch, tab_streamed, call_violates, call_unbound, call_mismatch, inner_violates, first_part_violates, second_part_violates, value_violates, binding_violates, choice_violates, positive_violates, negative_violates, choice_mismatch, item_violates, items_mismatch, filtered_violates, filter_violates, filter_mismatch, binder_violates, condition_violates, body_violates, condition_mismatch, binder_missing, first_violates, later_violates, source_violates, bound_twice, binder_mismatch, later_binder_violates}
+use Rattle.snesl_types.specs.Violations.{AreOneType, Violates, AnyViolates, BindersViolate, big_type, unbound, streamed, left_violates, right_violates, operands_mismatch, operand_violates, operand_mismatch, argument_violates, arguments_mismatch, tab_streamed, call_violates, call_unbound, call_mismatch, inner_violates, first_part_violates, second_part_violates, value_violates, binding_violates, choice_violates, positive_violates, negative_violates, choice_mismatch, item_violates, items_mismatch, filtered_violates, filter_violates, filter_mismatch, binder_violates, condition_violates, body_violates, condition_mismatch, binder_missing, first_violates, later_violates, source_violates, bound_twice, binder_mismatch, later_binder_violates}
 use Rattle.snesl_types.specs.Verdicts.{sized, rule, verdict, verdicts, binders_verdict, condition_verdict, of_binding, or_refused, of_builtin, of_function, of_items, of_choice, of_filter, of_each, of_binder, both_of}
 use Rattle.snesl_types.proofs.Outcomes.{then_ok, then_err, both_ok, left_err, right_err}
 use Rattle.snesl_data.proofs.SameTypes.{and_left, and_right, same_self, same_eq}
@@ -68,7 +68,7 @@ choice_err at t u v n =
 items_ok : (at : ℕ) (t : Ty) (ts : List Ty) → AllAre t ts → of_items at (t ∷ ts) ≡ Ok (seq t)
 items_ok at t ts h = ap (λ b. cond b (Ok (seq t)) (Err (Mismatch at))) (all_same_of t ts h)
 
-items_err : (at : ℕ) (ts : List Ty) → ¬ AreAlike ts → of_items at ts ≡ Err (Mismatch at)
+items_err : (at : ℕ) (ts : List Ty) → ¬ AreOneType ts → of_items at ts ≡ Err (Mismatch at)
 items_err at [] n = refl
 items_err at (t ∷ ts) n = ap (λ b. cond b (Ok (seq t)) (Err (Mismatch at))) (not_true (λ e. n (all_same_are t ts e)))
 
@@ -79,7 +79,7 @@ each_err : (at : ℕ) (binders : Binders) (t u : Ty) → ¬ (u ≡ bool) → of_
 each_err at none_bound t u n = refl
 each_err at (binder place source others) t u n = filter_err at t u n
 
-no_binder_err : (dialect : Dialect) (text : List ℕ) (functions : Signatures) (context : Context) (at : ℕ) (body : Tree) (condition : Condition) (items : List Declaration) (t u : Ty)
+no_binder_err : (dialect : Dialect) (text : List ℕ) (functions : Signatures) (context : Context) (at : ℕ) (body : Tree) (condition : Condition) (items : List InputDeclaration) (t u : Ty)
     → binders_verdict dialect text functions context [] none_bound ≡ Ok items
     → condition_verdict dialect text functions (names_context items ++ inside context) condition ≡ Ok t → verdict dialect text functions (names_context items ++ inside context) body ≡ Ok u
     → rule dialect text functions context (each at body none_bound condition) ≡ Err (Mismatch at)
@@ -126,7 +126,7 @@ mutual
   types_complete earlier (more_types {t = t} {ts = ts} a all) =
       then_ok _ (type_complete a) (types_complete (earlier ++ (t ∷ [])) all ∙ ap Ok (append_assoc earlier (t ∷ []) ts))
 
-  binders_complete : {dialect : Dialect} {text : List ℕ} {functions : Signatures} {context : Context} {binders : Binders} {earlier items : List Declaration}
+  binders_complete : {dialect : Dialect} {text : List ℕ} {functions : Signatures} {context : Context} {binders : Binders} {earlier items : List InputDeclaration}
       → BindersType dialect text functions context earlier binders items → binders_verdict dialect text functions context earlier binders ≡ Ok items
   binders_complete no_binders = refl
   binders_complete (more_binders {place = place} {t = t} a e bs) =
@@ -185,7 +185,7 @@ mutual
   any_complete earlier (first_violates v) = then_err _ (violates_complete v)
   any_complete earlier (later_violates {t = t} a v) = then_ok _ (type_complete a) (any_complete (earlier ++ (t ∷ [])) v)
 
-  binder_complete : {dialect : Dialect} {text : List ℕ} {functions : Signatures} {context : Context} {binders : Binders} {earlier : List Declaration} {refusal : Refusal}
+  binder_complete : {dialect : Dialect} {text : List ℕ} {functions : Signatures} {context : Context} {binders : Binders} {earlier : List InputDeclaration} {refusal : Refusal}
       → BindersViolate dialect text functions context earlier binders refusal → binders_verdict dialect text functions context earlier binders ≡ Err refusal
   binder_complete (source_violates v) = then_err _ (violates_complete v)
   binder_complete (bound_twice {place = place} {t = t} a e) = then_ok _ (type_complete a) (then_err _ (ap (λ o. of_binder place (is_some o) t) e))

@@ -2,7 +2,7 @@
 use Rattle.std.proofs.Common.{◌≡◌, ◌⊎◌, inl, inr, ℕ, zero, suc, ◌+◌, ◌<◌, ◌≤◌, List, [], ◌∷◌, ◌++◌, map, drop, length, get_or, Result, Ok, Err, refl, sym, ap, ◌∙◌, arith}
 use Rattle.snesl_data.specs.declared.refusal.Refusal.{Refusal}
 use Rattle.snesl_data.specs.declared.refusal.Refusal.TheVariants.{NoMemory}
-use Rattle.snesl_values.specs.Inputs.{Declaration}
+use Rattle.snesl_values.specs.Inputs.{InputDeclaration}
 use Rattle.snesl_data.specs.Types.{Ty}
 use Rattle.snesl_tree.specs.declared.expr.Expr.{Expr}
 use Rattle.snesl_tree.specs.declared.expr.Binder.{Binder}
@@ -50,7 +50,7 @@ module _ (scope : Scope) where
   types_all earlier (x ∷ exprs) (suc i) l = types_all earlier exprs i (omega arith)
 
   -- the sequence of a binder is refused
-  pub binders_refused : (earlier : List Declaration) (binders : List Binder) (i : ℕ) (binder : Binder) (refusal : Refusal) → i < length binders → binder ≡ get_or binders i binder
+  pub binders_refused : (earlier : List InputDeclaration) (binders : List Binder) (i : ℕ) (binder : Binder) (refusal : Refusal) → i < length binders → binder ≡ get_or binders i binder
       → typed_in scope (tree_of binder.source) ≡ Err refusal → binders_typed_in scope earlier (binders_of (drop i binders)) ≡ Err refusal
   binders_refused earlier [] i binder refusal l is e = absurd (omega arith)
   binders_refused earlier (x ∷ binders) zero binder refusal l is e =
@@ -58,7 +58,7 @@ module _ (scope : Scope) where
       rw here refl
   binders_refused earlier (x ∷ binders) (suc i) binder refusal l is e = binders_refused earlier binders i binder refusal (omega arith) is e
 
-  pub binders_all : (earlier : List Declaration) (binders : List Binder) (i : ℕ) → length binders ≤ i → binders_typed_in scope earlier (binders_of (drop i binders)) ≡ Ok earlier
+  pub binders_all : (earlier : List InputDeclaration) (binders : List Binder) (i : ℕ) → length binders ≤ i → binders_typed_in scope earlier (binders_of (drop i binders)) ≡ Ok earlier
   binders_all earlier [] zero l = refl
   binders_all earlier [] (suc i) l = refl
   binders_all earlier (x ∷ binders) zero l = absurd (omega arith)

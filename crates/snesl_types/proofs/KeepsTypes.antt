@@ -6,14 +6,14 @@ use Rattle.std.specs.Str.{bytes_eq}
 use Rattle.std.proofs.lemmas.List.{append-nil}
 use Rattle.snesl_data.specs.declared.dialect.Dialect.{Dialect}
 use Rattle.snesl_data.specs.declared.fault.FaultKind.TheVariants.{Length as LengthFault, Shape}
-use Rattle.snesl_values.specs.Inputs.{Declaration, Environment, value_in, FitDeclarations}
+use Rattle.snesl_values.specs.Inputs.{InputDeclaration, Environment, value_in, FitDeclarations}
 use Rattle.snesl_data.specs.Types.{Ty, bool, pair, seq, is_concrete}
 use Rattle.snesl_data.specs.Values.{Value, a_pair, HasType}
 use Rattle.snesl_tree.specs.Spelling.{spelling}
 use Rattle.snesl_tree.specs.Tree.{Tree, Trees, Binders, binder}
 use Rattle.snesl_evaluation.specs.Answer.{Answer, gives, faults, go, go_all, go_join, or_fault}
 use Rattle.snesl_evaluation.specs.Builtins.{truth_at, items_at, seq_answer, prefix_answer, binary_answer, applied}
-use Rattle.snesl_evaluation.specs.Eval.{Calls, named, kept, BoundItems, height, beside, rows_of, in_step, eval, eval_all, eval_binders}
+use Rattle.snesl_evaluation.specs.Eval.{Calls, value_named, kept, BoundItems, height, beside, rows_of, in_step, eval, eval_all, eval_binders}
 use Rattle.snesl_types.specs.Contexts.{Binding, open_to, shut, Context, names_context, found, shut_if_streamed, inside, Signatures}
 use Rattle.snesl_types.specs.Soundness.{FitsBinding, Holds, HaveTypes, Safe, CallsHold, TypedExpressionsAreSound}
 use Rattle.snesl_types.specs.Typing.{AllAre, Types, has_type, Gives, integer_type, truth_type, name_type, binary_type, prefix_type, call_type, apply_type, group_type, pair_type, binding_type, choice_type, literal_type, filter_type, each_type, AllTypes, no_types, more_types, BindersType, no_binders, more_binders, no_condition, condition_type}
@@ -21,7 +21,7 @@ use Rattle.snesl_types.proofs.BuiltinsKeepTypes.{AllOf, joined_of, go_safe, trut
 
 module _ (dialect : Dialect) where
   named_safe : (at : ℕ) (bytes : List ℕ) (context : Context) (environment : Environment) (t : Ty)
-      → found bytes context ≡ Some (open_to t) → Holds dialect context environment → Safe (λ v. HasType dialect v t) (named at bytes environment)
+      → found bytes context ≡ Some (open_to t) → Holds dialect context environment → Safe (λ v. HasType dialect v t) (value_named at bytes environment)
   named_safe at bytes [] environment t e h = cc
   named_safe at bytes (entry ∷ context) [] t e h = absurd h
   named_safe at bytes (entry ∷ context) ((spelled, value) ∷ environment) t e h =
@@ -29,7 +29,7 @@ module _ (dialect : Dialect) where
       (by_test (bytes_eq bytes entry.bytes) e (λ later. named_safe at bytes context environment t later h.2))
     where
       by_test : (b : Bool) → (if b then Some entry.binding else found bytes context) ≡ Some (open_to t)
-          → (found bytes context ≡ Some (open_to t) → Safe (λ v. HasType dialect v t) (named at bytes environment))
+          → (found bytes context ≡ Some (open_to t) → Safe (λ v. HasType dialect v t) (value_named at bytes environment))
           → Safe (λ v. HasType dialect v t) (or_fault Shape at (if b then Some value else value_in bytes environment))
       by_test true e' later = let same : entry.binding ≡ open_to t = cc in subst (FitsBinding dialect value) same h.1
       by_test false e' later = later e'
@@ -49,7 +49,7 @@ module _ (dialect : Dialect) where
       fits shut f = tt
 
   -- names with fitting values before those of a context
-  pub opened_holds : (items : List Declaration) (row : Environment) (context : Context) (environment : Environment)
+  pub opened_holds : (items : List InputDeclaration) (row : Environment) (context : Context) (environment : Environment)
       → FitDeclarations dialect items row → Holds dialect context environment → Holds dialect (names_context items ++ context) (row ++ environment)
   opened_holds [] [] context environment f h = h
   opened_holds (item ∷ items) (entry ∷ row) context environment f h = (sym f.0, f.1, opened_holds items row context environment f.2 h)
@@ -57,13 +57,13 @@ module _ (dialect : Dialect) where
   opened_holds (item ∷ items) [] context environment f h = absurd f
 
   -- columns of these names, with items of these types
-  abbrev ColumnsFit : List Declaration → BoundItems → Type 0
+  abbrev ColumnsFit : List InputDeclaration → BoundItems → Type 0
   ColumnsFit [] [] = Unit {0}
   ColumnsFit (item ∷ items) (column ∷ columns) = (column.0 ≡ item.0) × AllOf dialect column.1 item.1 × ColumnsFit items columns
   ColumnsFit _ _ = ⊥
 
   -- each row has these names with values of these types
-  abbrev RowsFit : List Declaration → List Environment → Type 0
+  abbrev RowsFit : List InputDeclaration → List Environment → Type 0
   RowsFit items [] = Unit {0}
   RowsFit items (row ∷ rows) = FitDeclarations dialect items row × RowsFit items rows
 
@@ -71,19 +71,19 @@ module _ (dialect : Dialect) where
   empty_rows zero = tt
   empty_rows (suc n) = (tt, empty_rows n)
 
-  beside_fits : (item : Declaration) (items : List Declaration) (bytes : List ℕ) (vs : List Value) (rows : List Environment)
+  beside_fits : (item : InputDeclaration) (items : List InputDeclaration) (bytes : List ℕ) (vs : List Value) (rows : List Environment)
       → bytes ≡ item.0 → AllOf dialect vs item.1 → RowsFit items rows → RowsFit (item ∷ items) (beside bytes vs rows)
   beside_fits item items bytes (v ∷ vs) (row ∷ rows) e h hs = ((e, h.0, hs.0), beside_fits item items bytes vs rows e h.1 hs.1)
   beside_fits item items bytes [] rows e h hs = tt
   beside_fits item items bytes (v ∷ vs) [] e h hs = tt
 
-  rows_fit : (items : List Declaration) (columns : BoundItems) (n : ℕ) → ColumnsFit items columns → RowsFit items (rows_of n columns)
+  rows_fit : (items : List InputDeclaration) (columns : BoundItems) (n : ℕ) → ColumnsFit items columns → RowsFit items (rows_of n columns)
   rows_fit [] [] n h = empty_rows n
   rows_fit (item ∷ items) (column ∷ columns) n h = beside_fits item items column.0 column.1 (rows_of n columns) h.0 h.1 (rows_fit items columns n h.2)
   rows_fit [] (column ∷ columns) n h = absurd h
   rows_fit (item ∷ items) [] n h = absurd h
 
-  in_step_safe : (at : ℕ) (items : List Declaration) (columns : BoundItems) → ColumnsFit items columns → Safe (RowsFit items) (in_step at columns)
+  in_step_safe : (at : ℕ) (items : List InputDeclaration) (columns : BoundItems) → ColumnsFit items columns → Safe (RowsFit items) (in_step at columns)
   in_step_safe at items columns h = by_test (list_all (λ column. length column.1 == height columns) columns)
     where
       by_test : (b : Bool) → Safe (RowsFit items) (if b then gives (rows_of (height columns) columns) else faults LengthFault at)
@@ -91,14 +91,14 @@ module _ (dialect : Dialect) where
       by_test false = λ e. cc
 
   -- the body's values, where it is safe at each row
-  body_all : (items : List Declaration) (t : Ty) (f : Environment → Answer Value) → ((row : Environment) → FitDeclarations dialect items row → Safe (λ v. HasType dialect v t) (f row))
+  body_all : (items : List InputDeclaration) (t : Ty) (f : Environment → Answer Value) → ((row : Environment) → FitDeclarations dialect items row → Safe (λ v. HasType dialect v t) (f row))
       → (rows : List Environment) → RowsFit items rows → Safe (λ vs. AllOf dialect vs t) (go_all f rows)
   body_all items t f k [] h = tt
   body_all items t f k (row ∷ rows) h =
       go_safe (λ v. HasType dialect v t) (λ vs. AllOf dialect vs t) (f row) (λ v. go (go_all f rows) (λ vs. gives (v ∷ vs))) (k row h.0) (λ v hv.
       go_safe (λ vs. AllOf dialect vs t) (λ vs. AllOf dialect vs t) (go_all f rows) (λ vs. gives (v ∷ vs)) (body_all items t f k rows h.1) (λ vs hvs. (hv, hvs)))
 
-  body_join : (items : List Declaration) (t : Ty) (f : Environment → Answer (List Value)) → ((row : Environment) → FitDeclarations dialect items row → Safe (λ vs. AllOf dialect vs t) (f row))
+  body_join : (items : List InputDeclaration) (t : Ty) (f : Environment → Answer (List Value)) → ((row : Environment) → FitDeclarations dialect items row → Safe (λ vs. AllOf dialect vs t) (f row))
       → (rows : List Environment) → RowsFit items rows → Safe (λ vs. AllOf dialect vs t) (go_join f rows)
   body_join items t f k [] h = tt
   body_join items t f k (row ∷ rows) h =
@@ -130,12 +130,12 @@ module _ (dialect : Dialect) where
   literal_safe t ts [] a h = absurd h
 
   -- what the binders of a comprehension declare after earlier ones, and that their columns fit it
-  record BindersSafe (earlier all : List Declaration) (answer : Answer BoundItems) : Type 0 where
-    new : List Declaration
+  record BindersSafe (earlier all : List InputDeclaration) (answer : Answer BoundItems) : Type 0 where
+    new : List InputDeclaration
     same : all ≡ earlier ++ new
     safe : Safe (ColumnsFit new) answer
 
-  columns_of : {items : List Declaration} (answer : Answer BoundItems) → BindersSafe [] items answer → Safe (ColumnsFit items) answer
+  columns_of : {items : List InputDeclaration} (answer : Answer BoundItems) → BindersSafe [] items answer → Safe (ColumnsFit items) answer
   columns_of answer all = subst (λ items. Safe (ColumnsFit items) answer) (sym all.same) all.safe
 
   module _ {text : List ℕ} {functions : Signatures} (calls : Calls) (hold : CallsHold dialect functions calls) where
@@ -208,11 +208,11 @@ module _ (dialect : Dialect) where
           go_safe (λ v. HasType dialect v t) (λ vs. HaveTypes dialect vs (t ∷ ts)) (eval dialect first text calls environment) (λ v. go (eval_all dialect others text calls environment) (λ vs. gives (v ∷ vs))) (sound d environment holds) (λ v hv.
           go_safe (λ vs. HaveTypes dialect vs ts) (λ vs. HaveTypes dialect vs (t ∷ ts)) (eval_all dialect others text calls environment) (λ vs. gives (v ∷ vs)) (sound_all ds environment holds) (λ vs hvs. (hv, hvs)))
 
-      binders_sound : {context : Context} {earlier all : List Declaration} {binders : Binders} → BindersType dialect text functions context earlier binders all → (environment : Environment)
+      binders_sound : {context : Context} {earlier all : List InputDeclaration} {binders : Binders} → BindersType dialect text functions context earlier binders all → (environment : Environment)
           → Holds dialect context environment → BindersSafe earlier all (eval_binders dialect binders text calls environment)
       binders_sound {earlier = earlier} no_binders environment holds = record { new = []; same = sym (append-nil earlier); safe = tt }
       binders_sound {earlier = earlier} (more_binders {place = place} {source = source} {others = others} {t = t} d e ds) environment holds =
-          let item : Declaration = (spelling text place, t) in
+          let item : InputDeclaration = (spelling text place, t) in
           let later = binders_sound ds environment holds in
           let last : List Value → BoundItems → Answer BoundItems = λ vs columns. gives ((spelling text place, vs) ∷ columns) in
           record {

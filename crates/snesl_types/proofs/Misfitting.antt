@@ -8,7 +8,7 @@ use Rattle.snesl_data.specs.declared.refusal.Refusal.TheVariants.{Mismatch, Stre
 use Rattle.snesl_data.specs.declared.ty.Ty.{Ty as TyTree}
 use Rattle.snesl_data.specs.Types.{Ty, bool, seq, ty_of, is_same}
 use Rattle.snesl_data.proofs.SameTypes.{and_true, same_of}
-use Rattle.snesl_values.specs.Inputs.{Declaration}
+use Rattle.snesl_values.specs.Inputs.{InputDeclaration}
 use Rattle.snesl_tree.specs.declared.operator.Builtin.{Builtin}
 use Rattle.snesl_tree.specs.declared.operator.Operator.{Operator}
 use Rattle.snesl_tree.specs.declared.operator.Prefix.{Prefix}
@@ -18,14 +18,14 @@ use Rattle.snesl_tree.specs.declared.expr.Binder.{Binder}
 use Rattle.snesl_tree.specs.View.{tree_of, trees_of, binders_of, declaration_of}
 use Rattle.snesl_tree.specs.declared.declaration.Declaration.{Declaration as Written}
 use Rattle.snesl_tree.specs.Spelling.{spelling}
-use Rattle.snesl_tree.specs.Tree.{Tree, Trees, Binders, Condition, binary, prefix, call, apply, choice, literal, filter, binding, each, always, only_where, both, none, TypeTree, Typed, DeclarationTree, declares_function, offset}
+use Rattle.snesl_tree.specs.Tree.{Tree, Trees, Binders, Condition, binary, prefix, call, apply, choice, literal, filter, binding, each, always, only_where, both, none, TypeTree, TypedName, DeclarationTree, declares_function, offset}
 use Rattle.snesl_types.specs.declared.clashes.Clash.{Clash as Told}
 use Rattle.snesl_types.specs.declared.names.Scope.{Scope}
 use Rattle.snesl_types.specs.Contexts.{Context, bound, names_context, inside, Signature, Signatures, function_named}
 use Rattle.snesl_types.specs.Forms.{operator_result, prefix_result, result_of, tabs_streamed}
 use Rattle.snesl_types.specs.Names.{context_of, signatures_in, typed_in, all_typed_in, binders_typed_in}
 use Rattle.snesl_types.specs.Typing.{Types}
-use Rattle.snesl_types.specs.Violations.{AreAlike}
+use Rattle.snesl_types.specs.Violations.{AreOneType}
 use Rattle.snesl_types.specs.Programs.{Declared, written_type, nothing_declared, DeclarationsType, NamesType}
 use Rattle.snesl_types.specs.Verdicts.{IsVerdict, or_refused, of_builtin, of_items, are_same, declarations_verdict, names_verdict}
 use Rattle.snesl_types.specs.Clashes.{Clash, clash_of, operands, operand, arguments, parameters, branches, items, condition, source, operands_misfit, operand_misfits, arguments_misfit, call_misfits, branches_misfit, items_misfit, filter_misfits, condition_misfits, this_source, later_source, Clashes, first_clashes, later_clashes, in_condition, in_body, in_bound, in_part, in_binder, itself, body, seen_parts, within_body, body_misfits, FunctionClashes, ProgramClashes, in_expression, in_function, IsFound, sources}
@@ -64,7 +64,7 @@ types_of_all scope trees ts e =
     let all = given_of _ ts e (all_sound scope.dialect scope.text.now (functions_in scope) (context_names scope) [] trees) in
     subst (AllTypeIn scope trees) (sym all.2) all.1
 
-pub types_of_binders : (scope : Scope) (binders : Binders) (all : List Declaration) → binders_typed_in scope [] binders ≡ Ok all → BindersTypeIn scope binders all
+pub types_of_binders : (scope : Scope) (binders : Binders) (all : List InputDeclaration) → binders_typed_in scope [] binders ≡ Ok all → BindersTypeIn scope binders all
 types_of_binders scope binders all e = given_of _ all e (binders_sound scope.dialect scope.text.now (functions_in scope) (context_names scope) [] binders)
 
 -- a rule that gives no type
@@ -86,7 +86,7 @@ builtin_none at p true None e = cc
 builtin_none at p false None e = (refl, refl)
 builtin_none at p b (Some t) e = cc
 
-not_alike : (at p : ℕ) (ts : List Ty) → of_items at ts ≡ Err (Mismatch p) → ¬ AreAlike ts
+not_alike : (at p : ℕ) (ts : List Ty) → of_items at ts ≡ Err (Mismatch p) → ¬ AreOneType ts
 not_alike at p [] e = λ h. h
 not_alike at p (t ∷ ts) e = λ h. let ok : of_items at (t ∷ ts) ≡ Ok (seq t) = ap (λ b. cond b (Ok (seq t)) (Err (Mismatch at))) (all_same_of t ts h) in cc
 
@@ -156,7 +156,7 @@ module _ (inner scope : Scope) (context : Context) (w : Within inner scope conte
       (subst (λ text. Clashes scope.dialect text (signatures_in text inner.functions.now) at clash (context_of inner.text.now inner.names.now) tree) w.text
       (subst (λ d. Clashes d inner.text.now (signatures_in inner.text.now inner.functions.now) at clash (context_of inner.text.now inner.names.now) tree) w.dialect h)))
 
-pub condition_in_scope : (inner scope : Scope) (binders : Binders) (all : List Declaration) (one : Tree) (t : Ty) (b : Bool)
+pub condition_in_scope : (inner scope : Scope) (binders : Binders) (all : List InputDeclaration) (one : Tree) (t : Ty) (b : Bool)
     → Within inner scope (names_context all ++ inside (context_names scope)) → binders_typed_in scope [] binders ≡ Ok all → typed_in inner one ≡ Ok t
     → b ≡ is_same t bool → b ≡ false → ConditionMisfitsIn scope binders (only_where one) (condition t)
 condition_in_scope inner scope binders all one t b w bs e fit fails =
@@ -189,7 +189,7 @@ any_source_at scope at (x ∷ binders) (suc i) one clash l is h = later_clashes 
 -- in a comprehension and in a `let`
 
 module _ (inner scope : Scope) (at : ℕ) (r : Result (Option Told) AllocError) where
-  pub in_each_condition : (place : ℕ) (within : Tree) (binders : Binders) (cond : Condition) (all : List Declaration)
+  pub in_each_condition : (place : ℕ) (within : Tree) (binders : Binders) (cond : Condition) (all : List InputDeclaration)
       → Within inner scope (names_context all ++ inside (context_names scope)) → binders_typed_in scope [] binders ≡ Ok all
       → IsFound (ConditionClashesIn inner at cond) r → IsFound (ClashesIn scope at (each place within binders cond)) r
   in_each_condition place within binders cond all w bs h = found_as (ConditionClashesIn inner at cond) (ClashesIn scope at (each place within binders cond)) r (λ clash. by_case cond clash) h
@@ -199,7 +199,7 @@ module _ (inner scope : Scope) (at : ℕ) (r : Result (Option Told) AllocError) 
       by_case (only_where tree) clash h =
           in_condition (types_of_binders scope binders all bs) (clashes_within inner scope (names_context all ++ inside (context_names scope)) w at tree clash h)
 
-  pub in_each_body : (place : ℕ) (within : Tree) (binders : Binders) (cond : Condition) (all : List Declaration)
+  pub in_each_body : (place : ℕ) (within : Tree) (binders : Binders) (cond : Condition) (all : List InputDeclaration)
       → Within inner scope (names_context all ++ inside (context_names scope)) → binders_typed_in scope [] binders ≡ Ok all
       → IsFound (ClashesIn inner at within) r → IsFound (ClashesIn scope at (each place within binders cond)) r
   in_each_body place within binders cond all w bs h =
@@ -230,7 +230,7 @@ final_in dialect text declarations tree found at r e h =
     let all = declared_by dialect text declarations found e in
     found_as (ExpressionClashes dialect text found at tree) (ProgramClashes text (record { dialect = dialect; declarations = declarations; expression = tree }) at) r (λ clash k. in_expression all.1 (subst (λ d. ExpressionClashes dialect text d at tree clash) all.2 k)) h
 
-pub function_in : (dialect : Dialect) (text : List ℕ) (before after all : List DeclarationTree) (found : Declared) (place : Span) (written : List Typed) (result : TypeTree) (within : Tree)
+pub function_in : (dialect : Dialect) (text : List ℕ) (before after all : List DeclarationTree) (found : Declared) (place : Span) (written : List TypedName) (result : TypeTree) (within : Tree)
     (at : ℕ) (r : Result (Option Told) AllocError)
     → all ≡ before ++ (declares_function place written result within ∷ after)
     → declarations_verdict dialect text nothing_declared before ≡ Ok found
@@ -247,7 +247,7 @@ parted_at [] i one l is = absurd (omega arith)
 parted_at (x ∷ declarations) zero one l is = ap (λ y. declaration_of y ∷ map declaration_of declarations) (sym is)
 parted_at (x ∷ declarations) (suc i) one l is = ap (λ ys. declaration_of x ∷ ys) (parted_at declarations i one (omega arith) is)
 
-pub names_given_by : (dialect : Dialect) (text : List ℕ) (written : List Typed) (names : List Declaration) → names_verdict text [] written ≡ Ok names → NamesType text [] written names
+pub names_given_by : (dialect : Dialect) (text : List ℕ) (written : List TypedName) (names : List InputDeclaration) → names_verdict text [] written ≡ Ok names → NamesType text [] written names
 names_given_by dialect text written names e = given_of _ names e (names_sound dialect text [] written)
 
 pub two_first : (scope : Scope) (at : ℕ) (first : Tree) (others : Trees) (r : Result (Option Told) AllocError)
@@ -294,7 +294,7 @@ pub let_found : (scope : Scope) (at place : ℕ) (name : Span) (value within : T
 let_found scope at place name value within r h =
     found_as (BoundClashesIn scope at name value within) (ClashesIn scope at (binding place name value within)) r (λ clash k. k place) h
 
-module _ (dialect : Dialect) (text : List ℕ) (functions : Signatures) (at : ℕ) (place : Span) (written : List Typed) (result : TypeTree) (within : Tree) (names : List Declaration) where
+module _ (dialect : Dialect) (text : List ℕ) (functions : Signatures) (at : ℕ) (place : Span) (written : List TypedName) (result : TypeTree) (within : Tree) (names : List InputDeclaration) where
   pub function_found : (r : Result (Option Told) AllocError) → names_verdict text [] written ≡ Ok names
       → IsFound (λ clash. Clashes dialect text functions at clash (names_context names) within) r → IsFound (FunctionClashes dialect text functions at place written result within) r
   function_found r e h =

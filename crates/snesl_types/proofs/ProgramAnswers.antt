@@ -6,11 +6,11 @@ use Rattle.std.proofs.lemmas.Bool.{le-leb, lt-leb}
 use Rattle.snesl_data.specs.declared.dialect.Dialect.{Dialect}
 use Rattle.snesl_data.specs.declared.refusal.Refusal.{Refusal}
 use Rattle.snesl_data.specs.declared.refusal.Refusal.TheVariants.{Name, Mismatch, TooBig}
-use Rattle.snesl_values.specs.Inputs.{Declaration}
+use Rattle.snesl_values.specs.Inputs.{InputDeclaration}
 use Rattle.snesl_data.specs.Types.{Ty}
 use Rattle.snesl_tree.specs.declared.span.Span.{Span}
 use Rattle.snesl_tree.specs.Spelling.{spelling}
-use Rattle.snesl_tree.specs.Tree.{Tree, Trees, Binders, Condition, integer, truth, name, binary, prefix, call, apply, group, pair as pair_tree, binding, choice, literal, filter, each, none, both, none_bound, binder, always, only_where, TypeTree, Typed, DeclarationTree, ProgramTree}
+use Rattle.snesl_tree.specs.Tree.{Tree, Trees, Binders, Condition, integer, truth, name, binary, prefix, call, apply, group, pair as pair_tree, binding, choice, literal, filter, each, none, both, none_bound, binder, always, only_where, TypeTree, TypedName, DeclarationTree, ProgramTree}
 use Rattle.snesl_types.specs.Contexts.{type_in, Signature, Signatures}
 use Rattle.snesl_types.specs.Sizes.{BodySizes, body_size, size, size_of_all, size_of_binders, size_of_condition, greatest_size}
 use Rattle.snesl_types.specs.Programs.{and_then, written_type, Declared, with_function, typed_name, NamesType, no_names, more_names, NamesViolate, named_twice, type_refused, later_names_violate, signature_of, FunctionTypes, function_type, FunctionViolates, function_twice, parameter_violates, result_refused, function_body_violates, function_mismatch, DeclarationsType, no_declarations, input_declared, function_declared, DeclarationsViolate, input_violates, function_violates, after_input_violates, after_function_violates, nothing_declared, ProgramTypes, ProgramViolates, many_declarations, declaration_violates, expression_violates, big_expression}
@@ -90,23 +90,23 @@ with_capped text declared signature body =
 
 -- the rules are what checking answers
 
-name_ok : (text : List ℕ) (earlier : List Declaration) (first : Typed) {t : Ty} → type_in (spelling text first.place) earlier ≡ None → written_type first.written ≡ Ok t
+name_ok : (text : List ℕ) (earlier : List InputDeclaration) (first : TypedName) {t : Ty} → type_in (spelling text first.place) earlier ≡ None → written_type first.written ≡ Ok t
     → name_verdict text earlier first ≡ Ok (typed_name text first t)
 name_ok text earlier first e w = then_ok _ (ap (new_name text first.place) e) (then_ok _ w refl)
 
-name_twice : (text : List ℕ) (earlier : List Declaration) (first : Typed) {t : Ty} → type_in (spelling text first.place) earlier ≡ Some t
+name_twice : (text : List ℕ) (earlier : List InputDeclaration) (first : TypedName) {t : Ty} → type_in (spelling text first.place) earlier ≡ Some t
     → name_verdict text earlier first ≡ Err (Name first.place.at)
 name_twice text earlier first e = then_err _ (ap (new_name text first.place) e)
 
-name_refused : (text : List ℕ) (earlier : List Declaration) (first : Typed) {r : Refusal} → type_in (spelling text first.place) earlier ≡ None → written_type first.written ≡ Err r
+name_refused : (text : List ℕ) (earlier : List InputDeclaration) (first : TypedName) {r : Refusal} → type_in (spelling text first.place) earlier ≡ None → written_type first.written ≡ Err r
     → name_verdict text earlier first ≡ Err r
 name_refused text earlier first e w = then_ok _ (ap (new_name text first.place) e) (then_err _ w)
 
-pub names_complete : {text : List ℕ} {earlier all : List Declaration} {written : List Typed} → NamesType text earlier written all → names_verdict text earlier written ≡ Ok all
+pub names_complete : {text : List ℕ} {earlier all : List InputDeclaration} {written : List TypedName} → NamesType text earlier written all → names_verdict text earlier written ≡ Ok all
 names_complete no_names = refl
 names_complete {text = text} {earlier = earlier} (more_names {first = first} e w rest) = then_ok _ (name_ok text earlier first e w) (names_complete rest)
 
-names_violate_complete : {text : List ℕ} {earlier : List Declaration} {written : List Typed} {r : Refusal} → NamesViolate text earlier written r → names_verdict text earlier written ≡ Err r
+names_violate_complete : {text : List ℕ} {earlier : List InputDeclaration} {written : List TypedName} {r : Refusal} → NamesViolate text earlier written r → names_verdict text earlier written ≡ Err r
 names_violate_complete {text = text} {earlier = earlier} (named_twice {first = first} e) = then_err _ (name_twice text earlier first e)
 names_violate_complete {text = text} {earlier = earlier} (type_refused {first = first} e w) = then_err _ (name_refused text earlier first e w)
 names_violate_complete {text = text} {earlier = earlier} (later_names_violate {first = first} e w v) = then_ok _ (name_ok text earlier first e w) (names_violate_complete v)
@@ -117,13 +117,13 @@ body_ok place signature t e = ap (λ b. cond b (Ok signature) (Err (Mismatch pla
 body_err : (place : Span) (signature : Signature) (t : Ty) → ¬ (t ≡ signature.result) → of_body place signature t ≡ Err (Mismatch place.at)
 body_err place signature t n = ap (λ b. cond b (Ok signature) (Err (Mismatch place.at))) (not_true (λ e. n (same_eq t signature.result e)))
 
-pub function_complete : {dialect : Dialect} {text : List ℕ} {functions : Signatures} {place : Span} {written : List Typed} {result : TypeTree} {body : Tree} {signature : Signature}
+pub function_complete : {dialect : Dialect} {text : List ℕ} {functions : Signatures} {place : Span} {written : List TypedName} {result : TypeTree} {body : Tree} {signature : Signature}
     → FunctionTypes dialect text functions place written result body signature → function_verdict dialect text functions place written result body ≡ Ok signature
 function_complete {text = text} {place = place} (function_type {parameters = parameters} {t = t} e n w d) =
     then_ok _ (ap (new_name text place) e) (then_ok _ (names_complete n) (then_ok _ w (then_ok _ (type_complete d)
     (body_ok place (signature_of text place parameters t) t refl))))
 
-function_violates_complete : {dialect : Dialect} {text : List ℕ} {functions : Signatures} {place : Span} {written : List Typed} {result : TypeTree} {body : Tree} {r : Refusal}
+function_violates_complete : {dialect : Dialect} {text : List ℕ} {functions : Signatures} {place : Span} {written : List TypedName} {result : TypeTree} {body : Tree} {r : Refusal}
     → FunctionViolates dialect text functions place written result body r → function_verdict dialect text functions place written result body ≡ Err r
 function_violates_complete {text = text} {place = place} (function_twice e) = then_err _ (ap (new_name text place) e)
 function_violates_complete {text = text} {place = place} (parameter_violates e v) = then_ok _ (ap (new_name text place) e) (then_err _ (names_violate_complete v))
@@ -149,7 +149,7 @@ declarations_violate_complete {text = text} {earlier = earlier} (input_violates 
 declarations_violate_complete {text = text} {earlier = earlier} (input_violates {declared = declared} (type_refused e w)) = then_err _ (then_err _ (name_refused text earlier.inputs declared e w))
 declarations_violate_complete (input_violates (later_names_violate e w v)) = absurd (none_left v)
   where
-    none_left : {text : List ℕ} {earlier : List Declaration} {r : Refusal} → NamesViolate text earlier [] r → ⊥
+    none_left : {text : List ℕ} {earlier : List InputDeclaration} {r : Refusal} → NamesViolate text earlier [] r → ⊥
     none_left v = elim v [ ]
 declarations_violate_complete (function_violates v) = then_err _ (then_err _ (function_violates_complete v))
 declarations_violate_complete {text = text} {earlier = earlier} (after_input_violates {declared = declared} (more_names e w no_names) v) =

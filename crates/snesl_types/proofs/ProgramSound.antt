@@ -5,11 +5,11 @@ use Rattle.std.proofs.lemmas.Bool.{leb-true, leb-false}
 use Rattle.snesl_data.specs.declared.dialect.Dialect.{Dialect}
 use Rattle.snesl_data.specs.declared.refusal.Refusal.{Refusal}
 use Rattle.snesl_data.specs.declared.refusal.Refusal.TheVariants.{Name, Mismatch, TooBig, NoMemory}
-use Rattle.snesl_values.specs.Inputs.{Declaration}
+use Rattle.snesl_values.specs.Inputs.{InputDeclaration}
 use Rattle.snesl_data.specs.Types.{Ty, is_same}
 use Rattle.snesl_tree.specs.declared.span.Span.{Span}
 use Rattle.snesl_tree.specs.Spelling.{spelling}
-use Rattle.snesl_tree.specs.Tree.{Tree, TypeTree, Typed, DeclarationTree, declares_input, declares_function, ProgramTree}
+use Rattle.snesl_tree.specs.Tree.{Tree, TypeTree, TypedName, DeclarationTree, declares_input, declares_function, ProgramTree}
 use Rattle.snesl_types.specs.Contexts.{names_context, type_in, Signature, Signatures, function_named}
 use Rattle.snesl_types.specs.Sizes.{size, greatest_size}
 use Rattle.snesl_types.specs.Ranges.{IsInRange, DeclarationsInRange, ProgramInRange}
@@ -22,11 +22,11 @@ use Rattle.snesl_types.proofs.Sound.{tree_sound}
 use Rattle.snesl_types.proofs.ProgramAnswers.{capped_all, size_capped, with_capped, names_complete, function_complete, program_complete, violation_complete}
 
 module _ (dialect : Dialect) (text : List ℕ) where
-  abbrev pub OfNames : List Declaration → List Typed → Result (List Declaration) Refusal → Type 0
+  abbrev pub OfNames : List InputDeclaration → List TypedName → Result (List InputDeclaration) Refusal → Type 0
   OfNames earlier written r = Outcome (NamesType text earlier written) (NamesViolate text earlier written) (Unit {0}) r
 
   -- one name, and what others after it give
-  name_outcome : (earlier : List Declaration) (first : Typed) (others : List Typed) {B : Type 0} {G : B → Type 0} {V : Refusal → Type 0} {R : Type 0} (next : Declaration → Result B Refusal)
+  name_outcome : (earlier : List InputDeclaration) (first : TypedName) (others : List TypedName) {B : Type 0} {G : B → Type 0} {V : Refusal → Type 0} {R : Type 0} (next : InputDeclaration → Result B Refusal)
       → ((r : Refusal) → NamesViolate text earlier (first ∷ []) r → V r)
       → ((t : Ty) → type_in (spelling text first.place) earlier ≡ None → written_type first.written ≡ Ok t → Outcome G V R (next (typed_name text first t)))
       → Outcome G V R (and_then (name_verdict text earlier first) next)
@@ -42,34 +42,34 @@ module _ (dialect : Dialect) (text : List ℕ) where
       of_name (Some t) e = violated (fails (Name first.place.at) (named_twice e))
       of_name None e = of_type e (written_type first.written) refl
 
-  one_violates : {earlier : List Declaration} {first : Typed} (others : List Typed) (r : Refusal) → NamesViolate text earlier (first ∷ []) r → NamesViolate text earlier (first ∷ others) r
+  one_violates : {earlier : List InputDeclaration} {first : TypedName} (others : List TypedName) (r : Refusal) → NamesViolate text earlier (first ∷ []) r → NamesViolate text earlier (first ∷ others) r
   one_violates others r (named_twice e) = named_twice e
   one_violates others r (type_refused e w) = type_refused e w
   one_violates others r (later_names_violate e w v) = elim v [ ]
 
-  pub names_sound : (earlier : List Declaration) (written : List Typed) → OfNames earlier written (names_verdict text earlier written)
+  pub names_sound : (earlier : List InputDeclaration) (written : List TypedName) → OfNames earlier written (names_verdict text earlier written)
   names_sound earlier [] = given no_names
   names_sound earlier (first ∷ others) =
       name_outcome earlier first others (λ declaration. names_verdict text (earlier ++ (declaration ∷ [])) others) (one_violates others)
       (λ t e w. of_others t e w (names_sound (earlier ++ (typed_name text first t ∷ [])) others))
     where
       of_others : (t : Ty) → type_in (spelling text first.place) earlier ≡ None → written_type first.written ≡ Ok t
-          → {r : Result (List Declaration) Refusal} → OfNames (earlier ++ (typed_name text first t ∷ [])) others r → OfNames earlier (first ∷ others) r
+          → {r : Result (List InputDeclaration) Refusal} → OfNames (earlier ++ (typed_name text first t ∷ [])) others r → OfNames earlier (first ∷ others) r
       of_others t e w (given n) = given (more_names e w n)
       of_others t e w (violated v) = violated (later_names_violate e w v)
       of_others t e w (out_of_range n) = absurd (n tt)
 
-  module _ (functions : Signatures) (place : Span) (written : List Typed) (result : TypeTree) (body : Tree) where
+  module _ (functions : Signatures) (place : Span) (written : List TypedName) (result : TypeTree) (body : Tree) where
     abbrev OfFunction : Result Signature Refusal → Type 0
     OfFunction r = Outcome (FunctionTypes dialect text functions place written result body) (FunctionViolates dialect text functions place written result body) (IsInRange dialect body) r
 
-    of_declared : (parameters : List Declaration) (t u : Ty) → function_named (spelling text place) functions ≡ None → NamesType text [] written parameters
+    of_declared : (parameters : List InputDeclaration) (t u : Ty) → function_named (spelling text place) functions ≡ None → NamesType text [] written parameters
         → written_type result ≡ Ok t → Types dialect text functions (names_context parameters) body u
         → (b : Bool) → is_same u t ≡ b → OfFunction (cond b (Ok (signature_of text place parameters t)) (Err (Mismatch place.at)))
     of_declared parameters t u e n w d true f = given (function_type e n w (subst (Types dialect text functions (names_context parameters) body) (same_eq u t f) d))
     of_declared parameters t u e n w d false f = violated (function_mismatch e n w d (λ same. let g = same_of same in cc))
 
-    of_result : (parameters : List Declaration) → function_named (spelling text place) functions ≡ None → NamesType text [] written parameters
+    of_result : (parameters : List InputDeclaration) → function_named (spelling text place) functions ≡ None → NamesType text [] written parameters
         → (w : Result Ty Refusal) → written_type result ≡ w
         → OfFunction (and_then w (λ t. and_then (verdict dialect text functions (names_context parameters) body) (of_body place (signature_of text place parameters t))))
     of_result parameters e n (Err r) w = violated (result_refused e n w)

@@ -5,11 +5,11 @@ use Rattle.std.proofs.lemmas.Slice.Eq.{bytes_eq-Decides}
 use Rattle.std.specs.Prelude.{if◌then◌else◌}
 use Rattle.std.specs.Str.{bytes_eq}
 use Rattle.snesl_data.specs.declared.dialect.Dialect.{Dialect}
-use Rattle.snesl_values.specs.Inputs.{Declaration, Environment, FitDeclarations}
+use Rattle.snesl_values.specs.Inputs.{InputDeclaration, Environment, FitDeclarations}
 use Rattle.snesl_data.specs.Values.{Value, HasType}
 use Rattle.snesl_tree.specs.declared.span.Span.{Span}
 use Rattle.snesl_tree.specs.Spelling.{spelling}
-use Rattle.snesl_tree.specs.Tree.{Tree, TypeTree, Typed, DeclarationTree, declares_input, declares_function}
+use Rattle.snesl_tree.specs.Tree.{Tree, TypeTree, TypedName, DeclarationTree, declares_input, declares_function}
 use Rattle.snesl_evaluation.specs.Answer.{gives}
 use Rattle.snesl_evaluation.specs.Eval.{Calls, eval, no_calls, parameters_with, function_answer, with_declaration, calls_after}
 use Rattle.snesl_types.specs.Contexts.{names_context, Signature, Signatures, function_named}
@@ -43,12 +43,12 @@ found_new bytes (first ∷ functions) new e same = by_test (λ e'. found_new byt
 
 module _ (dialect : Dialect) where
   -- the parameters of a function with values of their types: what the body sees
-  record ParametersSafe (text : List ℕ) (earlier : List Declaration) (written : List Typed) (all : List Declaration) : Type 0 where
-    new : List Declaration
+  record ParametersSafe (text : List ℕ) (earlier : List InputDeclaration) (written : List TypedName) (all : List InputDeclaration) : Type 0 where
+    new : List InputDeclaration
     same : all ≡ earlier ++ new
     safe : (at : ℕ) (vs : List Value) → HaveTypes dialect vs (map (λ parameter. parameter.1) new) → Safe (FitDeclarations dialect new) (parameters_with at text written vs)
 
-  parameters_safe : {text : List ℕ} {earlier all : List Declaration} {written : List Typed} → NamesType text earlier written all → ParametersSafe text earlier written all
+  parameters_safe : {text : List ℕ} {earlier all : List InputDeclaration} {written : List TypedName} → NamesType text earlier written all → ParametersSafe text earlier written all
   parameters_safe {text = text} {earlier = earlier} no_names = record { new = []; same = sym (append-nil earlier); safe = none }
     where
       none : (at : ℕ) (vs : List Value) → HaveTypes dialect vs [] → Safe (FitDeclarations dialect []) (parameters_with at text [] vs)
@@ -66,7 +66,7 @@ module _ (dialect : Dialect) where
       more later at [] h = absurd h
 
   -- a function's calls give values of its declared type
-  function_safe : {text : List ℕ} {functions : Signatures} {place : Span} {written : List Typed} {result : TypeTree} {body : Tree} {signature : Signature}
+  function_safe : {text : List ℕ} {functions : Signatures} {place : Span} {written : List TypedName} {result : TypeTree} {body : Tree} {signature : Signature}
       → FunctionTypes dialect text functions place written result body signature → (calls : Calls) → CallsHold dialect functions calls
       → (at : ℕ) (vs : List Value) → HaveTypes dialect vs signature.parameters
       → Safe (λ v. HasType dialect v signature.result) (function_answer dialect at text calls written body vs)
@@ -74,7 +74,7 @@ module _ (dialect : Dialect) where
       let all = parameters_safe names in
       let fits : Safe (FitDeclarations dialect parameters) (parameters_with at text written vs) =
       subst (λ p. Safe (FitDeclarations dialect p) (parameters_with at text written vs)) (sym all.same)
-      (all.safe at vs (subst (λ p. HaveTypes dialect vs (map (λ (parameter : Declaration). parameter.1) p)) all.same h)) in
+      (all.safe at vs (subst (λ p. HaveTypes dialect vs (map (λ (parameter : InputDeclaration). parameter.1) p)) all.same h)) in
       go_safe (FitDeclarations dialect parameters) (λ v. HasType dialect v t) (parameters_with at text written vs) (λ environment. eval dialect body text calls environment) fits (λ environment he.
       sound dialect calls hold d environment (alone environment he))
     where
@@ -84,12 +84,12 @@ module _ (dialect : Dialect) where
           (subst (λ r. Holds dialect (names_context parameters ++ []) r) (append-nil environment) (opened_holds dialect parameters environment [] [] he tt))
 
   -- the name of a function is new, and its signature has it
-  fresh_of : {text : List ℕ} {functions : Signatures} {place : Span} {written : List Typed} {result : TypeTree} {body : Tree} {signature : Signature}
+  fresh_of : {text : List ℕ} {functions : Signatures} {place : Span} {written : List TypedName} {result : TypeTree} {body : Tree} {signature : Signature}
       → FunctionTypes dialect text functions place written result body signature
       → (function_named (spelling text place) functions ≡ None) × (signature.bytes ≡ spelling text place)
   fresh_of (function_type fresh names w d) = (fresh, refl)
 
-  one_more : {text : List ℕ} {functions : Signatures} {place : Span} {written : List Typed} {result : TypeTree} {body : Tree} {signature : Signature}
+  one_more : {text : List ℕ} {functions : Signatures} {place : Span} {written : List TypedName} {result : TypeTree} {body : Tree} {signature : Signature}
       → FunctionTypes dialect text functions place written result body signature → (calls : Calls) → CallsHold dialect functions calls
       → function_named (spelling text place) functions ≡ None → signature.bytes ≡ spelling text place
       → (at : ℕ) (bytes : List ℕ) (called : Signature) (vs : List Value) → function_named bytes (functions ++ (signature ∷ [])) ≡ Some called → HaveTypes dialect vs called.parameters

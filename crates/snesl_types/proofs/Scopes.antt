@@ -4,7 +4,7 @@ use Rattle.std.specs.Result.{IsErr, IsErrAnd}
 use Rattle.snesl_data.specs.declared.refusal.Refusal.{Refusal}
 use Rattle.snesl_data.specs.declared.refusal.Refusal.TheVariants.{NoMemory}
 use Rattle.snesl_data.specs.declared.ty.Ty.{Ty as TyTree}
-use Rattle.snesl_values.specs.Inputs.{Declaration}
+use Rattle.snesl_values.specs.Inputs.{InputDeclaration}
 use Rattle.snesl_data.specs.Types.{Ty, ty_of}
 use Rattle.snesl_tree.specs.declared.expr.Expr.{Expr, Each}
 use Rattle.snesl_tree.specs.declared.expr.Binder.{Binder}
@@ -48,14 +48,14 @@ module _ (inner scope : Scope) (context : Context) (within : Within inner scope 
   condition_typed_within always = refl
   condition_typed_within (only_where tree) = typed_within tree
 
-module _ (inner scope : Scope) (items : List Declaration)
+module _ (inner scope : Scope) (items : List InputDeclaration)
     (within : Within inner scope (names_context items ++ inside (context_of scope.text.now scope.names.now)))
     (tree : Tree) {at : ℕ} (body : Tree) (binders : Binders) (condition : Condition)
     (is : tree ≡ each at body binders condition) (bound_by : binders_typed_in scope [] binders ≡ Ok items) where
   abbrev here : Context
   here = names_context items ++ inside (context_of scope.text.now scope.names.now)
 
-  abbrev then_all : (List Declaration) → Result Ty Refusal
+  abbrev then_all : (List InputDeclaration) → Result Ty Refusal
   then_all all =
       and_then (both_of (condition_verdict_at scope (names_context all ++ inside (context_of scope.text.now scope.names.now)) condition)
       (verdict_at scope (names_context all ++ inside (context_of scope.text.now scope.names.now)) body)) (λ ts. of_each at binders ts.1 ts.0)

@@ -3,7 +3,7 @@ use Rattle.std.proofs.Common.{◌≡◌, ℕ, Bool, true, false, cond, List, [],
 use Rattle.std.specs.Str.{bytes_eq}
 use Rattle.snesl_data.specs.Types.{is_concrete}
 use Rattle.snesl_data.specs.Types.{Ty}
-use Rattle.snesl_values.specs.Inputs.{Declaration}
+use Rattle.snesl_values.specs.Inputs.{InputDeclaration}
 use Rattle.snesl_types.specs.Contexts.{Binding, open_to, shut, Context, names_context, inside, shut_if_streamed, found, type_in}
 use Rattle.snesl_types.specs.Names.{seen}
 
@@ -39,7 +39,7 @@ seen_here None = refl
 seen_here (Some binding) = refl
 
 -- what is seen of declared names, and after them
-pub found-opened : (bytes : List ℕ) (declarations : List Declaration) (t : Ty) → Some t ≡ type_in bytes declarations → found bytes (names_context declarations) ≡ Some (open_to t)
+pub found-opened : (bytes : List ℕ) (declarations : List InputDeclaration) (t : Ty) → Some t ≡ type_in bytes declarations → found bytes (names_context declarations) ≡ Some (open_to t)
 found-opened bytes [] t e = cc
 found-opened bytes (declaration ∷ declarations) t e = by_test (bytes_eq bytes declaration.0) e (found-opened bytes declarations t)
   where
@@ -49,7 +49,7 @@ found-opened bytes (declaration ∷ declarations) t e = by_test (bytes_eq bytes 
     by_test true e f = cc
     by_test false e f = f e
 
-pub unfound-opened : (bytes : List ℕ) (declarations : List Declaration) → None ≡ type_in bytes declarations → found bytes (names_context declarations) ≡ None
+pub unfound-opened : (bytes : List ℕ) (declarations : List InputDeclaration) → None ≡ type_in bytes declarations → found bytes (names_context declarations) ≡ None
 unfound-opened bytes [] e = refl
 unfound-opened bytes (declaration ∷ declarations) e = by_test (bytes_eq bytes declaration.0) e (unfound-opened bytes declarations)
   where
@@ -59,7 +59,7 @@ unfound-opened bytes (declaration ∷ declarations) e = by_test (bytes_eq bytes 
     by_test true e f = cc
     by_test false e f = f e
 
-pub found-before : (bytes : List ℕ) (declarations : List Declaration) (context : Context) (t : Ty) → Some t ≡ type_in bytes declarations
+pub found-before : (bytes : List ℕ) (declarations : List InputDeclaration) (context : Context) (t : Ty) → Some t ≡ type_in bytes declarations
     → found bytes (names_context declarations ++ context) ≡ Some (open_to t)
 found-before bytes [] context t e = cc
 found-before bytes (declaration ∷ declarations) context t e = by_test (bytes_eq bytes declaration.0) e (found-before bytes declarations context t)
@@ -70,7 +70,7 @@ found-before bytes (declaration ∷ declarations) context t e = by_test (bytes_e
     by_test true e f = cc
     by_test false e f = f e
 
-pub found-behind : (bytes : List ℕ) (declarations : List Declaration) (context : Context) → None ≡ type_in bytes declarations
+pub found-behind : (bytes : List ℕ) (declarations : List InputDeclaration) (context : Context) → None ≡ type_in bytes declarations
     → found bytes (names_context declarations ++ context) ≡ found bytes context
 found-behind bytes [] context e = refl
 found-behind bytes (declaration ∷ declarations) context e = by_test (bytes_eq bytes declaration.0) e (found-behind bytes declarations context)

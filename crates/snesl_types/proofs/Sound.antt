@@ -4,7 +4,7 @@ use Rattle.std.proofs.lemmas.List.{append-nil}
 use Rattle.snesl_data.specs.declared.dialect.Dialect.{Dialect}
 use Rattle.snesl_data.specs.declared.refusal.Refusal.{Refusal}
 use Rattle.snesl_data.specs.declared.refusal.Refusal.TheVariants.{Mismatch, Streamed, TooBig, NoMemory}
-use Rattle.snesl_values.specs.Inputs.{Declaration}
+use Rattle.snesl_values.specs.Inputs.{InputDeclaration}
 use Rattle.snesl_data.specs.Integers.{is_integer}
 use Rattle.snesl_data.specs.Types.{Ty, int, bool, pair, vec, seq, is_same}
 use Rattle.snesl_tree.specs.declared.operator.Builtin.{Builtin}
@@ -42,7 +42,7 @@ module _ (dialect : Dialect) (text : List ℕ) (functions : Signatures) (context
   OfTrees earlier trees r =
       Outcome (λ all. (ts : List Ty) × AllTypes dialect text functions context trees ts × (all ≡ earlier ++ ts)) (AnyViolates dialect text functions context trees) (AreInRange dialect trees) r
 
-  abbrev pub OfBinders : List Declaration → Binders → Result (List Declaration) Refusal → Type 0
+  abbrev pub OfBinders : List InputDeclaration → Binders → Result (List InputDeclaration) Refusal → Type 0
   OfBinders earlier binders r =
       Outcome (BindersType dialect text functions context earlier binders) (BindersViolate dialect text functions context earlier binders) (BindersInRange dialect binders) r
 
@@ -119,7 +119,7 @@ module _ (dialect : Dialect) (text : List ℕ) (functions : Signatures) (context
   of_condition at item condition t u x y true e = given (filter_type x (subst (Types dialect text functions context condition) (same_eq u bool e) y))
   of_condition at item condition t u x y false e = violated (filter_mismatch x y (λ same. let g = same_of same in cc))
 
-  in_condition : (at : ℕ) (body : Tree) (place : Span) (source : Tree) (others : Binders) (condition : Condition) (items : List Declaration) (t u : Ty)
+  in_condition : (at : ℕ) (body : Tree) (place : Span) (source : Tree) (others : Binders) (condition : Condition) (items : List InputDeclaration) (t u : Ty)
       → BindersType dialect text functions context [] (binder place source others) items
       → ConditionTypes dialect text functions (names_context items ++ inside context) condition t → Types dialect text functions (names_context items ++ inside context) body u
       → (b : Bool) → is_same t bool ≡ b → OfForm (each at body (binder place source others) condition) (cond b (Ok (seq u)) (Err (Mismatch at)))
@@ -127,7 +127,7 @@ module _ (dialect : Dialect) (text : List ℕ) (functions : Signatures) (context
       given (each_type bs (subst (ConditionTypes dialect text functions (names_context items ++ inside context) condition) (same_eq t bool e) c) y)
   in_condition at body place source others condition items t u bs c y false e = violated (condition_mismatch bs c y (λ same. let g = same_of same in cc))
 
-  of_comprehension : (at : ℕ) (body : Tree) (binders : Binders) (condition : Condition) (items : List Declaration) (t u : Ty)
+  of_comprehension : (at : ℕ) (body : Tree) (binders : Binders) (condition : Condition) (items : List InputDeclaration) (t u : Ty)
       → BindersType dialect text functions context [] binders items
       → ConditionTypes dialect text functions (names_context items ++ inside context) condition t → Types dialect text functions (names_context items ++ inside context) body u
       → OfForm (each at body binders condition) (of_each at binders u t)
@@ -136,7 +136,7 @@ module _ (dialect : Dialect) (text : List ℕ) (functions : Signatures) (context
       in_condition at body place source others condition items t u bs c y (is_same t bool) refl
 
   -- a condition's violation is one of the comprehension
-  in_each : (at : ℕ) (body : Tree) (binders : Binders) (condition : Condition) (items : List Declaration) (r : Refusal)
+  in_each : (at : ℕ) (body : Tree) (binders : Binders) (condition : Condition) (items : List InputDeclaration) (r : Refusal)
       → BindersType dialect text functions context [] binders items → ConditionViolates dialect text functions (names_context items ++ inside context) condition r
       → Violates dialect text functions context (each at body binders condition) r
   in_each at body binders always items r bs v = absurd v
@@ -217,7 +217,7 @@ mutual
       of_others t a (violated v) = violated (later_violates a v)
       of_others t a (out_of_range n) = out_of_range (λ h. n h.1)
 
-  pub binders_sound : (dialect : Dialect) (text : List ℕ) (functions : Signatures) (context : Context) (earlier : List Declaration) (binders : Binders)
+  pub binders_sound : (dialect : Dialect) (text : List ℕ) (functions : Signatures) (context : Context) (earlier : List InputDeclaration) (binders : Binders)
       → OfBinders dialect text functions context earlier binders (binders_verdict dialect text functions context earlier binders)
   binders_sound dialect text functions context earlier none_bound = given no_binders
   binders_sound dialect text functions context earlier (binder place source others) =
@@ -225,13 +225,13 @@ mutual
       (λ t a. of_place t a (type_in (spelling text place) earlier) refl (λ item. binders_sound dialect text functions context (earlier ++ ((spelling text place, item) ∷ [])) others))
     where
       go_on : (item : Ty) → Types dialect text functions context source (seq item) → type_in (spelling text place) earlier ≡ None
-          → {r : Result (List Declaration) Refusal} → OfBinders dialect text functions context (earlier ++ ((spelling text place, item) ∷ [])) others r
+          → {r : Result (List InputDeclaration) Refusal} → OfBinders dialect text functions context (earlier ++ ((spelling text place, item) ∷ [])) others r
           → OfBinders dialect text functions context earlier (binder place source others) r
       go_on item a e (given bs) = given (more_binders a e bs)
       go_on item a e (violated v) = violated (later_binder_violates a e v)
       go_on item a e (out_of_range n) = out_of_range (λ h. n h.1)
 
-      next : Ty → Result (List Declaration) Refusal
+      next : Ty → Result (List InputDeclaration) Refusal
       next item = binders_verdict dialect text functions context (earlier ++ ((spelling text place, item) ∷ [])) others
 
       of_source : (t : Ty) → Types dialect text functions context source t → type_in (spelling text place) earlier ≡ None

@@ -4,10 +4,10 @@ use Rattle.std.specs.Prelude.{if◌then◌else◌}
 use Rattle.snesl_data.specs.declared.dialect.Dialect.{Dialect}
 use Rattle.snesl_data.specs.declared.refusal.Refusal.{Refusal}
 use Rattle.snesl_data.specs.declared.refusal.Refusal.TheVariants.{Name, Mismatch, Streamed, TooBig}
-use Rattle.snesl_values.specs.Inputs.{Declaration}
+use Rattle.snesl_values.specs.Inputs.{InputDeclaration}
 use Rattle.snesl_data.specs.Types.{Ty, vec, pair, seq, is_concrete}
 use Rattle.snesl_tree.specs.declared.span.Span.{Span}
-use Rattle.snesl_tree.specs.Tree.{Tree, Trees, Binders, TypeTree, int_type, bool_type, pair_type, vector_type, sequence_type, Typed, DeclarationTree, ProgramTree}
+use Rattle.snesl_tree.specs.Tree.{Tree, Trees, Binders, TypeTree, int_type, bool_type, pair_type, vector_type, sequence_type, TypedName, DeclarationTree, ProgramTree}
 use Rattle.snesl_types.specs.Contexts.{Context, Signatures}
 use Rattle.snesl_types.specs.Sizes.{is_small}
 use Rattle.snesl_types.specs.Programs.{Declared, small_type, and_then, written_type, NamesViolate, FunctionViolates, DeclarationsViolate, ProgramViolates, named_twice, type_refused, later_names_violate, function_twice, parameter_violates, result_refused, function_body_violates, function_mismatch, input_violates, function_violates, after_input_violates, after_function_violates, many_declarations, declaration_violates, expression_violates, big_expression}
@@ -96,18 +96,18 @@ mutual
   any_of_typing (first_violates v) = of_typing v
   any_of_typing (later_violates _ v) = any_of_typing v
 
-  binders_of_typing : {dialect : Dialect} {text : List ℕ} {functions : Signatures} {context : Context} {earlier : List Declaration} {binders : Binders} {refusal : Refusal} → BindersViolate dialect text functions context earlier binders refusal → IsOfTyping refusal
+  binders_of_typing : {dialect : Dialect} {text : List ℕ} {functions : Signatures} {context : Context} {earlier : List InputDeclaration} {binders : Binders} {refusal : Refusal} → BindersViolate dialect text functions context earlier binders refusal → IsOfTyping refusal
   binders_of_typing (source_violates v) = of_typing v
   binders_of_typing (bound_twice _ _) = tt
   binders_of_typing (binder_mismatch _ _ _) = tt
   binders_of_typing (later_binder_violates _ _ v) = binders_of_typing v
 
-names_of_typing : {text : List ℕ} {earlier : List Declaration} {written : List Typed} {refusal : Refusal} → NamesViolate text earlier written refusal → IsOfTyping refusal
+names_of_typing : {text : List ℕ} {earlier : List InputDeclaration} {written : List TypedName} {refusal : Refusal} → NamesViolate text earlier written refusal → IsOfTyping refusal
 names_of_typing (named_twice _) = tt
 names_of_typing (type_refused {first = first} {refusal = refusal} _ e) = written_of_typing first.written refusal e
 names_of_typing (later_names_violate _ _ v) = names_of_typing v
 
-function_of_typing : {dialect : Dialect} {text : List ℕ} {functions : Signatures} {place : Span} {written : List Typed} {result : TypeTree} {body : Tree} {refusal : Refusal} → FunctionViolates dialect text functions place written result body refusal → IsOfTyping refusal
+function_of_typing : {dialect : Dialect} {text : List ℕ} {functions : Signatures} {place : Span} {written : List TypedName} {result : TypeTree} {body : Tree} {refusal : Refusal} → FunctionViolates dialect text functions place written result body refusal → IsOfTyping refusal
 function_of_typing (function_twice _) = tt
 function_of_typing (parameter_violates _ v) = names_of_typing v
 function_of_typing (result_refused {result = result} {refusal = refusal} _ _ e) = written_of_typing result refusal e

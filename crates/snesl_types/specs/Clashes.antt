@@ -1,20 +1,20 @@
 -- Which types stand where a rule fails although all parts have types.
 use Rattle.std.specs.Prelude.{◌≡◌, ℕ, false, List, [], ◌∷◌, ◌++◌, map, Option, Some, None, Result, Ok, Err}
 use Rattle.snesl_data.specs.declared.dialect.Dialect.{Dialect}
-use Rattle.snesl_values.specs.Inputs.{Declaration}
+use Rattle.snesl_values.specs.Inputs.{InputDeclaration}
 use Rattle.snesl_data.specs.Types.{Ty, bool, seq, ty_of}
 use Rattle.snesl_tree.specs.declared.operator.Builtin.{Builtin}
 use Rattle.snesl_tree.specs.declared.operator.Operator.{Operator}
 use Rattle.snesl_tree.specs.declared.operator.Prefix.{Prefix}
 use Rattle.snesl_tree.specs.declared.span.Span.{Span}
 use Rattle.snesl_tree.specs.Spelling.{spelling}
-use Rattle.snesl_tree.specs.Tree.{Tree, Trees, Binders, Condition, integer, truth, name, binary, prefix, call, apply, group, pair as pair_tree, binding, choice, literal, filter, each, none, both, none_bound, binder, only_where, offset, TypeTree, Typed, DeclarationTree, declares_function, ProgramTree}
+use Rattle.snesl_tree.specs.Tree.{Tree, Trees, Binders, Condition, integer, truth, name, binary, prefix, call, apply, group, pair as pair_tree, binding, choice, literal, filter, each, none, both, none_bound, binder, only_where, offset, TypeTree, TypedName, DeclarationTree, declares_function, ProgramTree}
 use Rattle.snesl_types.specs.declared.clashes.Clash.{Clash as Told}
 use Rattle.snesl_types.specs.declared.clashes.Clash.TheVariants.{Operands, Operand, Arguments, Parameters, Branches, Items, Condition as ConditionTold, Source, Body}
 use Rattle.snesl_types.specs.Contexts.{Context, bound, names_context, inside, Signature, Signatures, function_named}
 use Rattle.snesl_types.specs.Forms.{operator_result, prefix_result, result_of, tabs_streamed}
 use Rattle.snesl_types.specs.Typing.{Types, AllTypes, BindersType}
-use Rattle.snesl_types.specs.Violations.{AreAlike}
+use Rattle.snesl_types.specs.Violations.{AreOneType}
 use Rattle.snesl_types.specs.Programs.{Declared, nothing_declared, written_type, NamesType, DeclarationsType}
 
 -- the types that stand where types do not fit
@@ -92,13 +92,13 @@ pub data Misfits (dialect : Dialect) (text : List ℕ) (functions : Signatures) 
       → ¬ ((t ≡ bool) × (u ≡ v))
       → Misfits dialect text functions context (choice at cond positive negative) (branches t u v)
   items_misfit : {at : ℕ} {all : Trees} {ts : List Ty}
-      → AllTypes dialect text functions context all ts → ¬ AreAlike ts
+      → AllTypes dialect text functions context all ts → ¬ AreOneType ts
       → Misfits dialect text functions context (literal at all) (items ts)
   filter_misfits : {at : ℕ} {item cond : Tree} {t u : Ty}
       → Types dialect text functions context item t → Types dialect text functions context cond u → ¬ (u ≡ bool)
       → Misfits dialect text functions context (filter at item cond) (condition u)
   -- the condition sees the binders' names, and the outer ones as from inside
-  condition_misfits : {at : ℕ} {within cond : Tree} {binders : Binders} {all : List Declaration} {t : Ty}
+  condition_misfits : {at : ℕ} {within cond : Tree} {binders : Binders} {all : List InputDeclaration} {t : Ty}
       → BindersType dialect text functions context [] binders all
       → Types dialect text functions (names_context all ++ inside context) cond t → ¬ (t ≡ bool)
       → Misfits dialect text functions context (each at within binders (only_where cond)) (condition t)
@@ -128,11 +128,11 @@ mutual
         → Clashes dialect text functions at clash (bound (spelling text place) t ∷ context) within
         → Clashes dialect text functions at clash context (binding start place value within)
     -- a comprehension's condition and its body see the binders' names, and the outer ones as from inside
-    in_condition : {context : Context} {place : ℕ} {within cond : Tree} {binders : Binders} {all : List Declaration}
+    in_condition : {context : Context} {place : ℕ} {within cond : Tree} {binders : Binders} {all : List InputDeclaration}
         → BindersType dialect text functions context [] binders all
         → Clashes dialect text functions at clash (names_context all ++ inside context) cond
         → Clashes dialect text functions at clash context (each place within binders (only_where cond))
-    in_body : {context : Context} {place : ℕ} {within : Tree} {binders : Binders} {cond : Condition} {all : List Declaration}
+    in_body : {context : Context} {place : ℕ} {within : Tree} {binders : Binders} {cond : Condition} {all : List InputDeclaration}
         → BindersType dialect text functions context [] binders all
         → Clashes dialect text functions at clash (names_context all ++ inside context) within
         → Clashes dialect text functions at clash context (each place within binders cond)
@@ -145,19 +145,19 @@ mutual
         → AnyClashes dialect text functions at clash context others → AnyClashes dialect text functions at clash context (both first others)
 
 -- types clash in the function's body, which sees its parameters, or the body has not the type that was declared
-pub data FunctionClashes (dialect : Dialect) (text : List ℕ) (functions : Signatures) (at : ℕ) : Span → List Typed → TypeTree → Tree → Clash → Type 0 where
-  within_body : {place : Span} {written : List Typed} {result : TypeTree} {within : Tree} {names : List Declaration} {clash : Clash}
+pub data FunctionClashes (dialect : Dialect) (text : List ℕ) (functions : Signatures) (at : ℕ) : Span → List TypedName → TypeTree → Tree → Clash → Type 0 where
+  within_body : {place : Span} {written : List TypedName} {result : TypeTree} {within : Tree} {names : List InputDeclaration} {clash : Clash}
       → NamesType text [] written names
       → Clashes dialect text functions at clash (names_context names) within
       → FunctionClashes dialect text functions at place written result within clash
-  body_misfits : {place : Span} {written : List Typed} {result : TypeTree} {within : Tree} {names : List Declaration} {t u : Ty}
+  body_misfits : {place : Span} {written : List TypedName} {result : TypeTree} {within : Tree} {names : List InputDeclaration} {t u : Ty}
       → place.at ≡ at → NamesType text [] written names → written_type result ≡ Ok t
       → Types dialect text functions (names_context names) within u → ¬ (u ≡ t)
       → FunctionClashes dialect text functions at place written result within (body u t)
 
 -- these types clash at the offset: in a function after what was declared before it, or in the final expression
 pub data ProgramClashes (text : List ℕ) (program : ProgramTree) (at : ℕ) (clash : Clash) : Type 0 where
-  in_function : (before after : List DeclarationTree) {declared : Declared} {place : Span} {written : List Typed} {result : TypeTree} {within : Tree}
+  in_function : (before after : List DeclarationTree) {declared : Declared} {place : Span} {written : List TypedName} {result : TypeTree} {within : Tree}
       → program.declarations ≡ before ++ (declares_function place written result within ∷ after)
       → DeclarationsType program.dialect text nothing_declared before declared
       → FunctionClashes program.dialect text declared.functions at place written result within clash

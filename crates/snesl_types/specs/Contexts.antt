@@ -2,7 +2,7 @@
 use Rattle.std.specs.Prelude.{ℕ, if◌then◌else◌, List, [], ◌∷◌, map, Option, Some, None}
 use Rattle.std.specs.Str.{bytes_eq}
 use Rattle.snesl_data.specs.Types.{Ty, is_concrete}
-use Rattle.snesl_values.specs.Inputs.{Declaration}
+use Rattle.snesl_values.specs.Inputs.{InputDeclaration}
 
 -- what a variable stands for: a value of a type, or one of a streamed type that a comprehension's body must not use
 pub data Binding : Type 0 where
@@ -21,7 +21,7 @@ abbrev pub bound : List ℕ → Ty → Entry
 bound bytes t = record { bytes = bytes; binding = open_to t }
 
 -- names with their types as a context: inputs, parameters, or the binders of one comprehension
-abbrev pub names_context : List Declaration → Context
+abbrev pub names_context : List InputDeclaration → Context
 names_context = map (λ declaration. bound declaration.0 declaration.1)
 
 -- the innermost binding of a name
@@ -39,7 +39,7 @@ inside [] = []
 inside (entry ∷ context) = record { bytes = entry.bytes; binding = shut_if_streamed entry.binding } ∷ inside context
 
 -- the type of the first of these that has the name
-abbrev pub type_in : List ℕ → List Declaration → Option Ty
+abbrev pub type_in : List ℕ → List InputDeclaration → Option Ty
 type_in bytes [] = None
 type_in bytes (declaration ∷ declarations) = if bytes_eq bytes declaration.0 then Some declaration.1 else type_in bytes declarations
 

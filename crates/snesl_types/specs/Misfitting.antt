@@ -5,7 +5,7 @@ use Rattle.snesl_data.specs.declared.refusal.Refusal.{Refusal}
 use Rattle.snesl_data.specs.declared.refusal.Refusal.TheVariants.{Mismatch}
 use Rattle.snesl_data.specs.declared.ty.Ty.{Ty as TyTree}
 use Rattle.snesl_data.specs.Types.{Ty, seq}
-use Rattle.snesl_values.specs.Inputs.{Declaration}
+use Rattle.snesl_values.specs.Inputs.{InputDeclaration}
 use Rattle.snesl_tree.specs.Tree.{Tree, Trees, Binders, Condition, always, only_where, binding, each, TypeTree, DeclarationTree}
 use Rattle.snesl_tree.specs.declared.span.Span.{Span}
 use Rattle.snesl_types.specs.declared.names.Scope.{Scope}
@@ -47,7 +47,7 @@ TypesIn scope = Types scope.dialect scope.text.now (functions_in scope) (context
 abbrev pub AllTypeIn : Scope → Trees → List Ty → Type 0
 AllTypeIn scope = AllTypes scope.dialect scope.text.now (functions_in scope) (context_names scope)
 
-abbrev pub BindersTypeIn : Scope → Binders → List Declaration → Type 0
+abbrev pub BindersTypeIn : Scope → Binders → List InputDeclaration → Type 0
 BindersTypeIn scope = BindersType scope.dialect scope.text.now (functions_in scope) (context_names scope) []
 
 -- what does not fit in a scope

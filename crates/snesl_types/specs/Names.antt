@@ -3,7 +3,7 @@ use Rattle.std.specs.Prelude.{ℕ, Bool, true, false, List, ◌∷◌, ◌++◌,
 use Rattle.std.specs.Global.{Global}
 use Rattle.snesl_data.specs.declared.refusal.Refusal.{Refusal}
 use Rattle.snesl_data.specs.Types.{Ty, ty_of}
-use Rattle.snesl_values.specs.Inputs.{Declaration, declared}
+use Rattle.snesl_values.specs.Inputs.{InputDeclaration, declared}
 use Rattle.snesl_tree.specs.Spelling.{spelling}
 use Rattle.snesl_tree.specs.Tree.{Tree, Trees, Binders, Condition, always, only_where}
 use Rattle.snesl_tree.specs.declared.expr.Expr.{Expr}
@@ -62,7 +62,7 @@ abbrev pub all_typed_in : Scope → List Ty → Trees → Result (List Ty) Refus
 all_typed_in scope earlier trees = verdicts scope.dialect scope.text.now (signatures_in scope.text.now scope.functions.now) (context_of scope.text.now scope.names.now) earlier trees
 
 -- of binders after earlier ones
-abbrev pub binders_typed_in : Scope → List Declaration → Binders → Result (List Declaration) Refusal
+abbrev pub binders_typed_in : Scope → List InputDeclaration → Binders → Result (List InputDeclaration) Refusal
 binders_typed_in scope earlier binders = binders_verdict scope.dialect scope.text.now (signatures_in scope.text.now scope.functions.now) (context_of scope.text.now scope.names.now) earlier binders
 
 -- of a condition

@@ -3,11 +3,11 @@ use Rattle.std.specs.Prelude.{◌≡◌, ℕ, suc, ◌<◌, ◌≤◌, nat_le, B
 use Rattle.snesl_data.specs.declared.dialect.Dialect.{Dialect}
 use Rattle.snesl_data.specs.declared.refusal.Refusal.{Refusal}
 use Rattle.snesl_data.specs.declared.refusal.Refusal.TheVariants.{Name, Mismatch, Streamed, TooBig, NoMemory}
-use Rattle.snesl_values.specs.Inputs.{Declaration}
+use Rattle.snesl_values.specs.Inputs.{InputDeclaration}
 use Rattle.snesl_data.specs.Types.{Ty, int, bool, pair, vec, seq, is_concrete}
 use Rattle.snesl_tree.specs.declared.span.Span.{Span}
 use Rattle.snesl_tree.specs.Spelling.{spelling}
-use Rattle.snesl_tree.specs.Tree.{Tree, TypeTree, int_type, bool_type, pair_type, vector_type, sequence_type, Typed, DeclarationTree, declares_input, declares_function, ProgramTree}
+use Rattle.snesl_tree.specs.Tree.{Tree, TypeTree, int_type, bool_type, pair_type, vector_type, sequence_type, TypedName, DeclarationTree, declares_input, declares_function, ProgramTree}
 use Rattle.snesl_types.specs.Contexts.{names_context, type_in, Signature, Signatures, function_named}
 use Rattle.snesl_types.specs.Sizes.{BodySizes, is_small, size, greatest_size, greatest_count}
 use Rattle.snesl_types.specs.Ranges.{ProgramInRange}
@@ -35,12 +35,12 @@ written_type (sequence_type at item) = and_then (written_type item) (λ t. small
 -- what was declared so far: the inputs and the functions, in order, and the sizes of the functions' bodies
 -- with the calls in them written out
 pub record Declared : Type 0 where
-  pub inputs : List Declaration
+  pub inputs : List InputDeclaration
   pub functions : Signatures
   pub sizes : BodySizes
 
 -- with these inputs
-abbrev pub with_inputs : Declared → List Declaration → Declared
+abbrev pub with_inputs : Declared → List InputDeclaration → Declared
 with_inputs declared inputs = record { inputs = inputs; functions = declared.functions; sizes = declared.sizes }
 
 -- with one more function, of this body
@@ -52,36 +52,36 @@ with_function text declared signature body = record {
 }
 
 -- a name with its type
-abbrev pub typed_name : List ℕ → Typed → Ty → Declaration
+abbrev pub typed_name : List ℕ → TypedName → Ty → InputDeclaration
 typed_name text typed t = (spelling text typed.place, t)
 
 -- after these declared names, further ones give all of these: an input, or parameters
-pub data NamesType (text : List ℕ) : List Declaration → List Typed → List Declaration → Type 0 where
-  no_names : {earlier : List Declaration} → NamesType text earlier [] earlier
-  more_names : {earlier all : List Declaration} {first : Typed} {others : List Typed} {t : Ty}
+pub data NamesType (text : List ℕ) : List InputDeclaration → List TypedName → List InputDeclaration → Type 0 where
+  no_names : {earlier : List InputDeclaration} → NamesType text earlier [] earlier
+  more_names : {earlier all : List InputDeclaration} {first : TypedName} {others : List TypedName} {t : Ty}
       → type_in (spelling text first.place) earlier ≡ None
       → written_type first.written ≡ Ok t
       → NamesType text (earlier ++ (typed_name text first t ∷ [])) others all
       → NamesType text earlier (first ∷ others) all
 
 -- the first violation in them: of each first its name, then its type
-pub data NamesViolate (text : List ℕ) : List Declaration → List Typed → Refusal → Type 0 where
+pub data NamesViolate (text : List ℕ) : List InputDeclaration → List TypedName → Refusal → Type 0 where
   -- a name that is declared for the second time
-  named_twice : {earlier : List Declaration} {first : Typed} {others : List Typed} {t : Ty}
+  named_twice : {earlier : List InputDeclaration} {first : TypedName} {others : List TypedName} {t : Ty}
       → type_in (spelling text first.place) earlier ≡ Some t
       → NamesViolate text earlier (first ∷ others) (Name first.place.at)
-  type_refused : {earlier : List Declaration} {first : Typed} {others : List Typed} {refusal : Refusal}
+  type_refused : {earlier : List InputDeclaration} {first : TypedName} {others : List TypedName} {refusal : Refusal}
       → type_in (spelling text first.place) earlier ≡ None
       → written_type first.written ≡ Err refusal
       → NamesViolate text earlier (first ∷ others) refusal
-  later_names_violate : {earlier : List Declaration} {first : Typed} {others : List Typed} {t : Ty} {refusal : Refusal}
+  later_names_violate : {earlier : List InputDeclaration} {first : TypedName} {others : List TypedName} {t : Ty} {refusal : Refusal}
       → type_in (spelling text first.place) earlier ≡ None
       → written_type first.written ≡ Ok t
       → NamesViolate text (earlier ++ (typed_name text first t ∷ [])) others refusal
       → NamesViolate text earlier (first ∷ others) refusal
 
 -- what a call sees of a function of this name
-abbrev pub signature_of : List ℕ → Span → List Declaration → Ty → Signature
+abbrev pub signature_of : List ℕ → Span → List InputDeclaration → Ty → Signature
 signature_of text place parameters result = record {
   bytes = spelling text place;
   parameters = map (λ parameter. parameter.1) parameters;
@@ -89,8 +89,8 @@ signature_of text place parameters result = record {
 }
 
 -- a function's parameters, result and body fit under the earlier functions; its body sees its parameters only
-pub data FunctionTypes (dialect : Dialect) (text : List ℕ) (functions : Signatures) : Span → List Typed → TypeTree → Tree → Signature → Type 0 where
-  function_type : {place : Span} {written : List Typed} {result : TypeTree} {body : Tree} {parameters : List Declaration} {t : Ty}
+pub data FunctionTypes (dialect : Dialect) (text : List ℕ) (functions : Signatures) : Span → List TypedName → TypeTree → Tree → Signature → Type 0 where
+  function_type : {place : Span} {written : List TypedName} {result : TypeTree} {body : Tree} {parameters : List InputDeclaration} {t : Ty}
       → function_named (spelling text place) functions ≡ None
       → NamesType text [] written parameters
       → written_type result ≡ Ok t
@@ -98,27 +98,27 @@ pub data FunctionTypes (dialect : Dialect) (text : List ℕ) (functions : Signat
       → FunctionTypes dialect text functions place written result body (signature_of text place parameters t)
 
 -- the first violation in a function: its name, its parameters, its result's type, its body, and that the body has this type
-pub data FunctionViolates (dialect : Dialect) (text : List ℕ) (functions : Signatures) : Span → List Typed → TypeTree → Tree → Refusal → Type 0 where
-  function_twice : {place : Span} {written : List Typed} {result : TypeTree} {body : Tree} {signature : Signature}
+pub data FunctionViolates (dialect : Dialect) (text : List ℕ) (functions : Signatures) : Span → List TypedName → TypeTree → Tree → Refusal → Type 0 where
+  function_twice : {place : Span} {written : List TypedName} {result : TypeTree} {body : Tree} {signature : Signature}
       → function_named (spelling text place) functions ≡ Some signature
       → FunctionViolates dialect text functions place written result body (Name place.at)
-  parameter_violates : {place : Span} {written : List Typed} {result : TypeTree} {body : Tree} {refusal : Refusal}
+  parameter_violates : {place : Span} {written : List TypedName} {result : TypeTree} {body : Tree} {refusal : Refusal}
       → function_named (spelling text place) functions ≡ None
       → NamesViolate text [] written refusal
       → FunctionViolates dialect text functions place written result body refusal
-  result_refused : {place : Span} {written : List Typed} {result : TypeTree} {body : Tree} {parameters : List Declaration} {refusal : Refusal}
+  result_refused : {place : Span} {written : List TypedName} {result : TypeTree} {body : Tree} {parameters : List InputDeclaration} {refusal : Refusal}
       → function_named (spelling text place) functions ≡ None
       → NamesType text [] written parameters
       → written_type result ≡ Err refusal
       → FunctionViolates dialect text functions place written result body refusal
-  function_body_violates : {place : Span} {written : List Typed} {result : TypeTree} {body : Tree} {parameters : List Declaration} {t : Ty} {refusal : Refusal}
+  function_body_violates : {place : Span} {written : List TypedName} {result : TypeTree} {body : Tree} {parameters : List InputDeclaration} {t : Ty} {refusal : Refusal}
       → function_named (spelling text place) functions ≡ None
       → NamesType text [] written parameters
       → written_type result ≡ Ok t
       → Violates dialect text functions (names_context parameters) body refusal
       → FunctionViolates dialect text functions place written result body refusal
   -- a body of another type than the declared one
-  function_mismatch : {place : Span} {written : List Typed} {result : TypeTree} {body : Tree} {parameters : List Declaration} {t u : Ty}
+  function_mismatch : {place : Span} {written : List TypedName} {result : TypeTree} {body : Tree} {parameters : List InputDeclaration} {t u : Ty}
       → function_named (spelling text place) functions ≡ None
       → NamesType text [] written parameters
       → written_type result ≡ Ok t
@@ -129,28 +129,28 @@ pub data FunctionViolates (dialect : Dialect) (text : List ℕ) (functions : Sig
 -- after what was declared, these declarations in order give all of this
 pub data DeclarationsType (dialect : Dialect) (text : List ℕ) : Declared → List DeclarationTree → Declared → Type 0 where
   no_declarations : {earlier : Declared} → DeclarationsType dialect text earlier [] earlier
-  input_declared : {earlier all : Declared} {inputs : List Declaration} {declared : Typed} {others : List DeclarationTree}
+  input_declared : {earlier all : Declared} {inputs : List InputDeclaration} {declared : TypedName} {others : List DeclarationTree}
       → NamesType text earlier.inputs (declared ∷ []) inputs
       → DeclarationsType dialect text (with_inputs earlier inputs) others all
       → DeclarationsType dialect text earlier (declares_input declared ∷ others) all
-  function_declared : {earlier all : Declared} {place : Span} {written : List Typed} {result : TypeTree} {body : Tree} {signature : Signature} {others : List DeclarationTree}
+  function_declared : {earlier all : Declared} {place : Span} {written : List TypedName} {result : TypeTree} {body : Tree} {signature : Signature} {others : List DeclarationTree}
       → FunctionTypes dialect text earlier.functions place written result body signature
       → DeclarationsType dialect text (with_function text earlier signature body) others all
       → DeclarationsType dialect text earlier (declares_function place written result body ∷ others) all
 
 -- the first violation in them
 pub data DeclarationsViolate (dialect : Dialect) (text : List ℕ) : Declared → List DeclarationTree → Refusal → Type 0 where
-  input_violates : {earlier : Declared} {declared : Typed} {others : List DeclarationTree} {refusal : Refusal}
+  input_violates : {earlier : Declared} {declared : TypedName} {others : List DeclarationTree} {refusal : Refusal}
       → NamesViolate text earlier.inputs (declared ∷ []) refusal
       → DeclarationsViolate dialect text earlier (declares_input declared ∷ others) refusal
-  function_violates : {earlier : Declared} {place : Span} {written : List Typed} {result : TypeTree} {body : Tree} {others : List DeclarationTree} {refusal : Refusal}
+  function_violates : {earlier : Declared} {place : Span} {written : List TypedName} {result : TypeTree} {body : Tree} {others : List DeclarationTree} {refusal : Refusal}
       → FunctionViolates dialect text earlier.functions place written result body refusal
       → DeclarationsViolate dialect text earlier (declares_function place written result body ∷ others) refusal
-  after_input_violates : {earlier : Declared} {inputs : List Declaration} {declared : Typed} {others : List DeclarationTree} {refusal : Refusal}
+  after_input_violates : {earlier : Declared} {inputs : List InputDeclaration} {declared : TypedName} {others : List DeclarationTree} {refusal : Refusal}
       → NamesType text earlier.inputs (declared ∷ []) inputs
       → DeclarationsViolate dialect text (with_inputs earlier inputs) others refusal
       → DeclarationsViolate dialect text earlier (declares_input declared ∷ others) refusal
-  after_function_violates : {earlier : Declared} {place : Span} {written : List Typed} {result : TypeTree} {body : Tree} {signature : Signature} {others : List DeclarationTree} {refusal : Refusal}
+  after_function_violates : {earlier : Declared} {place : Span} {written : List TypedName} {result : TypeTree} {body : Tree} {signature : Signature} {others : List DeclarationTree} {refusal : Refusal}
       → FunctionTypes dialect text earlier.functions place written result body signature
       → DeclarationsViolate dialect text (with_function text earlier signature body) others refusal
       → DeclarationsViolate dialect text earlier (declares_function place written result body ∷ others) refusal
@@ -181,7 +181,7 @@ pub record ProgramTypes (text : List ℕ) (program : ProgramTree) (declared : De
   pub size : size text declared.sizes program.expression ≤ greatest_size
 
 -- the program has these inputs and this type
-abbrev pub HasTyping : List ℕ → ProgramTree → List Declaration → Ty → Type 0
+abbrev pub HasTyping : List ℕ → ProgramTree → List InputDeclaration → Ty → Type 0
 HasTyping text program inputs t = (declared : Declared) × ProgramTypes text program declared t × (declared.inputs ≡ inputs)
 
 -- the first rule that the program violates: too many declarations before all else, too big an expression after all else

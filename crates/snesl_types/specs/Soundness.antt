@@ -59,6 +59,6 @@ TypedProgramsAreSound =
     → Safe (λ value. HasType program.dialect value t) (program_value text program environment)
 
 -- the datum is of the type, or the fault is one that types cannot rule out
-abbrev pub IsSound : Dialect → Ty → Result Datum Fault → Type 0
-IsSound dialect t (Ok datum) = HasType dialect (value_of datum) t
-IsSound dialect t (Err fault) = fault.kind ≢ Shape
+abbrev pub TypesAllow : Dialect → Ty → Result Datum Fault → Type 0
+TypesAllow dialect t (Ok datum) = HasType dialect (value_of datum) t
+TypesAllow dialect t (Err fault) = fault.kind ≢ Shape

@@ -2,7 +2,7 @@
 use Rattle.std.specs.Prelude.{◌≡◌, ℕ, ℤ, Bool, true, List, [], ◌∷◌, ◌++◌, Some, None}
 use Rattle.snesl_data.specs.declared.dialect.Dialect.{Dialect}
 use Rattle.snesl_data.specs.Integers.{IsInteger}
-use Rattle.snesl_values.specs.Inputs.{Declaration}
+use Rattle.snesl_values.specs.Inputs.{InputDeclaration}
 use Rattle.snesl_data.specs.Types.{Ty, int, bool, pair, seq}
 use Rattle.snesl_tree.specs.declared.operator.Builtin.{Builtin}
 use Rattle.snesl_tree.specs.declared.operator.Operator.{Operator}
@@ -68,7 +68,7 @@ mutual
         → Gives dialect text functions context (filter at item condition) (seq t)
     -- there is a binder; the condition and the body see the outer names as from inside, and the binders' names
     each_type : {context : Context} {at : ℕ} {body : Tree} {place : Span} {source : Tree} {others : Binders} {condition : Condition}
-        {items : List Declaration} {t : Ty}
+        {items : List InputDeclaration} {t : Ty}
         → BindersType dialect text functions context [] (binder place source others) items
         → ConditionTypes dialect text functions (names_context items ++ inside context) condition bool
         → Types dialect text functions (names_context items ++ inside context) body t
@@ -83,9 +83,9 @@ mutual
 
   -- after the earlier binders of their comprehension, the binders have these names with the types of their elements,
   -- the earlier ones first; a sequence sees none of these names
-  pub data BindersType (dialect : Dialect) (text : List ℕ) (functions : Signatures) : Context → List Declaration → Binders → List Declaration → Type 0 where
-    no_binders : {context : Context} {earlier : List Declaration} → BindersType dialect text functions context earlier none_bound earlier
-    more_binders : {context : Context} {earlier all : List Declaration} {place : Span} {source : Tree} {others : Binders} {t : Ty}
+  pub data BindersType (dialect : Dialect) (text : List ℕ) (functions : Signatures) : Context → List InputDeclaration → Binders → List InputDeclaration → Type 0 where
+    no_binders : {context : Context} {earlier : List InputDeclaration} → BindersType dialect text functions context earlier none_bound earlier
+    more_binders : {context : Context} {earlier all : List InputDeclaration} {place : Span} {source : Tree} {others : Binders} {t : Ty}
         → Types dialect text functions context source (seq t)
         → type_in (spelling text place) earlier ≡ None
         → BindersType dialect text functions context (earlier ++ ((spelling text place, t) ∷ [])) others all

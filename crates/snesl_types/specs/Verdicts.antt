@@ -4,13 +4,13 @@ use Rattle.std.specs.Prelude.{◌≡◌, ℕ, ◌⊎◌, min, nat_le, Bool, true
 use Rattle.snesl_data.specs.declared.dialect.Dialect.{Dialect}
 use Rattle.snesl_data.specs.declared.refusal.Refusal.{Refusal}
 use Rattle.snesl_data.specs.declared.refusal.Refusal.TheVariants.{Name, Mismatch, Streamed, TooBig, NoMemory}
-use Rattle.snesl_values.specs.Inputs.{Declaration}
+use Rattle.snesl_values.specs.Inputs.{InputDeclaration}
 use Rattle.snesl_data.specs.Integers.{is_integer}
 use Rattle.snesl_data.specs.Types.{Ty, int, bool, pair, seq, is_same}
 use Rattle.snesl_tree.specs.declared.operator.Builtin.{Builtin}
 use Rattle.snesl_tree.specs.declared.span.Span.{Span}
 use Rattle.snesl_tree.specs.Spelling.{spelling}
-use Rattle.snesl_tree.specs.Tree.{Tree, Trees, Binders, Condition, integer, truth, name, binary, prefix, call, apply, group, pair as pair_tree, binding, choice, literal, filter, each, none, both, none_bound, binder, always, only_where, TypeTree, Typed, DeclarationTree, declares_input, declares_function, ProgramTree}
+use Rattle.snesl_tree.specs.Tree.{Tree, Trees, Binders, Condition, integer, truth, name, binary, prefix, call, apply, group, pair as pair_tree, binding, choice, literal, filter, each, none, both, none_bound, binder, always, only_where, TypeTree, TypedName, DeclarationTree, declares_input, declares_function, ProgramTree}
 use Rattle.snesl_types.specs.Contexts.{Binding, open_to, shut, Context, bound, names_context, found, inside, type_in, Signature, Signatures, function_named}
 use Rattle.snesl_types.specs.Forms.{operator_result, prefix_result, result_of, tabs_streamed}
 use Rattle.snesl_types.specs.Sizes.{size, greatest_size}
@@ -118,7 +118,7 @@ abbrev mutual
       and_then (sized (rule dialect text functions context first)) (λ t. verdicts dialect text functions context (earlier ++ (t ∷ [])) others)
 
   -- the names of binders after earlier ones, with the types of their elements
-  pub binders_verdict : (dialect : Dialect) (text : List ℕ) (functions : Signatures) → Context → List Declaration → Binders → Result (List Declaration) Refusal
+  pub binders_verdict : (dialect : Dialect) (text : List ℕ) (functions : Signatures) → Context → List InputDeclaration → Binders → Result (List InputDeclaration) Refusal
   binders_verdict dialect text functions context earlier none_bound = Ok earlier
   binders_verdict dialect text functions context earlier (binder place source others) =
       and_then (sized (rule dialect text functions context source)) (λ t.
@@ -139,13 +139,13 @@ new_name text place (Some earlier) = Err (Name place.at)
 new_name text place None = Ok (spelling text place)
 
 -- a name after earlier ones, with its type
-abbrev pub name_verdict : List ℕ → List Declaration → Typed → Result Declaration Refusal
+abbrev pub name_verdict : List ℕ → List InputDeclaration → TypedName → Result InputDeclaration Refusal
 name_verdict text earlier first =
     and_then (new_name text first.place (type_in (spelling text first.place) earlier)) (λ bytes.
     and_then (written_type first.written) (λ t. Ok (bytes, t)))
 
 -- names after earlier ones, with their types
-abbrev pub names_verdict : List ℕ → List Declaration → List Typed → Result (List Declaration) Refusal
+abbrev pub names_verdict : List ℕ → List InputDeclaration → List TypedName → Result (List InputDeclaration) Refusal
 names_verdict text earlier [] = Ok earlier
 names_verdict text earlier (first ∷ others) =
     and_then (name_verdict text earlier first) (λ declaration. names_verdict text (earlier ++ (declaration ∷ [])) others)
@@ -155,7 +155,7 @@ abbrev pub of_body : Span → Signature → Ty → Result Signature Refusal
 of_body place signature t = if is_same t signature.result then Ok signature else Err (Mismatch place.at)
 
 -- what a call sees of a function
-abbrev pub function_verdict : (dialect : Dialect) (text : List ℕ) (functions : Signatures) → Span → List Typed → TypeTree → Tree → Result Signature Refusal
+abbrev pub function_verdict : (dialect : Dialect) (text : List ℕ) (functions : Signatures) → Span → List TypedName → TypeTree → Tree → Result Signature Refusal
 function_verdict dialect text functions place parameters result body =
     and_then (new_name text place (function_named (spelling text place) functions)) (λ bytes.
     and_then (names_verdict text [] parameters) (λ declarations.

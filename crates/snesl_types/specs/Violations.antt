@@ -3,7 +3,7 @@ use Rattle.std.specs.Prelude.{◌≡◌, ℕ, true, false, List, [], ◌∷◌, 
 use Rattle.snesl_data.specs.declared.dialect.Dialect.{Dialect}
 use Rattle.snesl_data.specs.declared.refusal.Refusal.{Refusal}
 use Rattle.snesl_data.specs.declared.refusal.Refusal.TheVariants.{Name, Mismatch, Streamed, TooBig}
-use Rattle.snesl_values.specs.Inputs.{Declaration}
+use Rattle.snesl_values.specs.Inputs.{InputDeclaration}
 use Rattle.snesl_data.specs.Types.{Ty, bool, seq}
 use Rattle.snesl_tree.specs.declared.operator.Builtin.{Builtin}
 use Rattle.snesl_tree.specs.declared.operator.Operator.{Operator}
@@ -17,9 +17,9 @@ use Rattle.snesl_types.specs.Sizes.{is_small}
 use Rattle.snesl_types.specs.Typing.{AllAre, Types, Gives, AllTypes, BindersType, ConditionTypes}
 
 -- there is a first type, and the others are this type too
-abbrev pub AreAlike : List Ty → Type 0
-AreAlike [] = ⊥
-AreAlike (t ∷ ts) = AllAre t ts
+abbrev pub AreOneType : List Ty → Type 0
+AreOneType [] = ⊥
+AreOneType (t ∷ ts) = AllAre t ts
 
 mutual
   -- the first rule that the expression violates, going through its parts from left to right, but through a comprehension's
@@ -111,7 +111,7 @@ mutual
         → Violates dialect text functions context (literal at items) refusal
     -- items of several types
     items_mismatch : {context : Context} {at : ℕ} {items : Trees} {ts : List Ty}
-        → AllTypes dialect text functions context items ts → ¬ AreAlike ts
+        → AllTypes dialect text functions context items ts → ¬ AreOneType ts
         → Violates dialect text functions context (literal at items) (Mismatch at)
     filtered_violates : {context : Context} {at : ℕ} {item condition : Tree} {refusal : Refusal}
         → Violates dialect text functions context item refusal
@@ -126,24 +126,24 @@ mutual
     binder_violates : {context : Context} {at : ℕ} {body : Tree} {binders : Binders} {condition : Condition} {refusal : Refusal}
         → BindersViolate dialect text functions context [] binders refusal
         → Violates dialect text functions context (each at body binders condition) refusal
-    condition_violates : {context : Context} {at : ℕ} {body : Tree} {binders : Binders} {condition : Tree} {items : List Declaration} {refusal : Refusal}
+    condition_violates : {context : Context} {at : ℕ} {body : Tree} {binders : Binders} {condition : Tree} {items : List InputDeclaration} {refusal : Refusal}
         → BindersType dialect text functions context [] binders items
         → Violates dialect text functions (names_context items ++ inside context) condition refusal
         → Violates dialect text functions context (each at body binders (only_where condition)) refusal
-    body_violates : {context : Context} {at : ℕ} {body : Tree} {binders : Binders} {condition : Condition} {items : List Declaration} {t : Ty} {refusal : Refusal}
+    body_violates : {context : Context} {at : ℕ} {body : Tree} {binders : Binders} {condition : Condition} {items : List InputDeclaration} {t : Ty} {refusal : Refusal}
         → BindersType dialect text functions context [] binders items
         → ConditionTypes dialect text functions (names_context items ++ inside context) condition t
         → Violates dialect text functions (names_context items ++ inside context) body refusal
         → Violates dialect text functions context (each at body binders condition) refusal
     -- a condition that is no truth value
-    condition_mismatch : {context : Context} {at : ℕ} {body : Tree} {binders : Binders} {condition : Condition} {items : List Declaration} {t u : Ty}
+    condition_mismatch : {context : Context} {at : ℕ} {body : Tree} {binders : Binders} {condition : Condition} {items : List InputDeclaration} {t u : Ty}
         → BindersType dialect text functions context [] binders items
         → ConditionTypes dialect text functions (names_context items ++ inside context) condition t
         → Types dialect text functions (names_context items ++ inside context) body u
         → ¬ (t ≡ bool)
         → Violates dialect text functions context (each at body binders condition) (Mismatch at)
     -- a comprehension without a binder
-    binder_missing : {context : Context} {at : ℕ} {body : Tree} {condition : Condition} {items : List Declaration} {t u : Ty}
+    binder_missing : {context : Context} {at : ℕ} {body : Tree} {condition : Condition} {items : List InputDeclaration} {t u : Ty}
         → BindersType dialect text functions context [] none_bound items
         → ConditionTypes dialect text functions (names_context items ++ inside context) condition t
         → Types dialect text functions (names_context items ++ inside context) body u
@@ -159,19 +159,19 @@ mutual
         → AnyViolates dialect text functions context (both first others) refusal
 
   -- the first violation in binders after these earlier ones: of a binder first its sequence, then its name, then that it is a sequence
-  pub data BindersViolate (dialect : Dialect) (text : List ℕ) (functions : Signatures) : Context → List Declaration → Binders → Refusal → Type 0 where
-    source_violates : {context : Context} {earlier : List Declaration} {place : Span} {source : Tree} {others : Binders} {refusal : Refusal}
+  pub data BindersViolate (dialect : Dialect) (text : List ℕ) (functions : Signatures) : Context → List InputDeclaration → Binders → Refusal → Type 0 where
+    source_violates : {context : Context} {earlier : List InputDeclaration} {place : Span} {source : Tree} {others : Binders} {refusal : Refusal}
         → Violates dialect text functions context source refusal
         → BindersViolate dialect text functions context earlier (binder place source others) refusal
     -- a name that an earlier binder of the comprehension has
-    bound_twice : {context : Context} {earlier : List Declaration} {place : Span} {source : Tree} {others : Binders} {t u : Ty}
+    bound_twice : {context : Context} {earlier : List InputDeclaration} {place : Span} {source : Tree} {others : Binders} {t u : Ty}
         → Types dialect text functions context source t → type_in (spelling text place) earlier ≡ Some u
         → BindersViolate dialect text functions context earlier (binder place source others) (Name place.at)
     -- a binder over something that is no sequence
-    binder_mismatch : {context : Context} {earlier : List Declaration} {place : Span} {source : Tree} {others : Binders} {t : Ty}
+    binder_mismatch : {context : Context} {earlier : List InputDeclaration} {place : Span} {source : Tree} {others : Binders} {t : Ty}
         → Types dialect text functions context source t → type_in (spelling text place) earlier ≡ None → ((item : Ty) → ¬ (t ≡ seq item))
         → BindersViolate dialect text functions context earlier (binder place source others) (Mismatch place.at)
-    later_binder_violates : {context : Context} {earlier : List Declaration} {place : Span} {source : Tree} {others : Binders} {t : Ty} {refusal : Refusal}
+    later_binder_violates : {context : Context} {earlier : List InputDeclaration} {place : Span} {source : Tree} {others : Binders} {t : Ty} {refusal : Refusal}
         → Types dialect text functions context source (seq t) → type_in (spelling text place) earlier ≡ None
         → BindersViolate dialect text functions context (earlier ++ ((spelling text place, t) ∷ [])) others refusal
         → BindersViolate dialect text functions context earlier (binder place source others) refusal

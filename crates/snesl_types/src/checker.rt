@@ -13,7 +13,7 @@ use crate::declarations::{Declarations, declarations_of, few};
 use crate::expressions::type_of;
 use crate::names::{Names, Scope};
 use crate::sizes::size_of;
-use crate::typed::Typed;
+use crate::typed::TypedProgram;
 use snesl_data::{Dialect, Refusal, Ty};
 use snesl_grammar::Program;
 use snesl_tree::Expr;
@@ -28,7 +28,7 @@ const GREATEST_SIZE: usize = 65_536;
 /// comprehension before its body. More than 64 functions or 64 inputs are `TooBig` before all else,
 /// and a final expression that has with its calls written out a size over 65,536 is so after all
 /// else. `NoMemory` where memory ran out.
-pub fn check(alloc: Global, program: &Program) -> Result<Typed<'_>, Refusal>
+pub fn check(alloc: Global, program: &Program) -> Result<TypedProgram<'_>, Refusal>
     ensures program { IfOk result (λ typed. program_of typed ≡ program.now) }
     ensures typed { IfOk result (λ typed. HasTyping program.now.text.items
         (tree_of_program program.now) (typed_inputs typed) (typed_ty typed)) }
@@ -40,7 +40,7 @@ pub fn check(alloc: Global, program: &Program) -> Result<Typed<'_>, Refusal>
         (tree_of_program program.now)) }
 {
     let (declarations, ty) = typing_of(alloc, program)?;
-    Ok(Typed {
+    Ok(TypedProgram {
         program,
         inputs: declarations.inputs,
         ty,

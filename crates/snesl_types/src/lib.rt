@@ -17,4 +17,4 @@ pub mod typed;
 pub use checker::{check, one_typing};
 pub use clashes::{Clash, clash_at};
 pub use reference::{plain, soundness};
-pub use typed::Typed;
+pub use typed::TypedProgram;

@@ -13,7 +13,7 @@ use snesl_values::Inputs;
 
 /// A program with its inputs and its type. It keeps that the program has this type.
 #[derive(Debug, Drop)]
-pub struct Typed<'a> {
+pub struct TypedProgram<'a> {
     pub(crate) program: &'a Program,
     pub(crate) inputs: Vec<(Vec<u8>, Ty)>,
     pub(crate) ty: Ty,
@@ -21,7 +21,7 @@ pub struct Typed<'a> {
         (declared inputs.items) (ty_of ty) ∥₁ },
 }
 
-impl<'a> Typed<'a> {
+impl<'a> TypedProgram<'a> {
     ghost use Rattle.snesl_types.specs.Typed.{program_of, typed_dialect, typed_inputs, typed_ty};
 
     /// The program.

@@ -3,22 +3,22 @@ use Rattle.std.proofs.Common.{◌≡◌, ℕ, suc, ◌+◌, ◌-◌, ◌≤◌, 
 use Rattle.snesl_data.specs.declared.dialect.Dialect.{Dialect}
 use Rattle.snesl_data.specs.Values.{Value, HasType}
 use Rattle.snesl_values.specs.InputTokens.{Token, word, next_at, next_token, HasTokens, none, IsNextToken}
-use Rattle.snesl_values.specs.Inputs.{Declaration, Environment, FitDeclarations, equals, semicolon, value_tokens, entry_tokens, further_entries, environment_tokens, AreEntries, SpellsEnvironment, MayFollow, StopsAt, declared, declaration_of}
+use Rattle.snesl_values.specs.Inputs.{InputDeclaration, Environment, FitDeclarations, equals, semicolon, value_tokens, entry_tokens, further_entries, environment_tokens, AreEntries, SpellsEnvironment, MayFollow, StopsAt, declared, declaration_of}
 use Rattle.snesl_data.specs.declared.ty.Ty.{Ty as TyTree}
-use Rattle.snesl_values.specs.Wants.{Want, one, perhaps, a_value, Fills, entry_wants, further_wants, wants_of, IsEntry, AllRead, IsStop, IsStopOf}
+use Rattle.snesl_values.specs.Wants.{ToCome, one, perhaps, a_value, Fills, entry_wants, further_wants, wants_of, IsEntry, AllRead, IsStop, IsStopOf}
 use Rattle.snesl_values.specs.declared.inputs.InputError.{InputError}
 use Rattle.snesl_values.specs.declared.inputs.InputError.TheVariants.{Bad, NoMemory}
 use Rattle.snesl_values.proofs.InputReads.{reads-append, stops_after, stops_here}
 use Rattle.snesl_values.proofs.InputWants.{one_in, one_out, value_in, value_out, one_value, after_head, after_one}
 
 -- an entry and what follows it
-entry_in : (dialect : Dialect) → (d : Declaration) (wants : List Want) (v : Value) (us : List Token) → HasType dialect v d.1 → Fills dialect wants us
+entry_in : (dialect : Dialect) → (d : InputDeclaration) (wants : List ToCome) (v : Value) (us : List Token) → HasType dialect v d.1 → Fills dialect wants us
     → Fills dialect (entry_wants d wants) (word d.0 ∷ equals ∷ (value_tokens v ++ us))
 entry_in dialect d wants v us h f =
     one_in dialect (word d.0) (one equals ∷ a_value d.1 ∷ wants) (equals ∷ (value_tokens v ++ us))
     (one_in dialect equals (a_value d.1 ∷ wants) (value_tokens v ++ us) (value_in dialect d.1 v wants us h f))
 
-entry_out : (dialect : Dialect) → (d : Declaration) (wants : List Want) (us : List Token) → Fills dialect (entry_wants d wants) us
+entry_out : (dialect : Dialect) → (d : InputDeclaration) (wants : List ToCome) (us : List Token) → Fills dialect (entry_wants d wants) us
     → (v : Value) × (rest : List Token) × HasType dialect v d.1 × (us ≡ word d.0 ∷ equals ∷ (value_tokens v ++ rest)) × Fills dialect wants rest
 entry_out dialect d wants us f =
     let name = one_out dialect (word d.0) (one equals ∷ a_value d.1 ∷ wants) us f in
@@ -26,7 +26,7 @@ entry_out dialect d wants us f =
     let v = value_out dialect d.1 wants sign.0 sign.2 in
     (v.0, v.1, v.2, name.1 ∙ ap (λ l. word d.0 ∷ l) (sign.1 ∙ ap (λ l. equals ∷ l) v.3), v.4)
 
-pub after_entry : (dialect : Dialect) → (text : List ℕ) (d : Declaration) (wants : List Want) (entry : List ℕ × Value) (from place n : ℕ) → IsEntry dialect text from d entry place
+pub after_entry : (dialect : Dialect) → (text : List ℕ) (d : InputDeclaration) (wants : List ToCome) (entry : List ℕ × Value) (from place n : ℕ) → IsEntry dialect text from d entry place
     → StopsAt (Fills dialect wants) text place n → StopsAt (Fills dialect (entry_wants d wants)) text from n
 after_entry dialect text d wants entry from place n read s =
     stops_after (Fills dialect (entry_wants d wants)) (Fills dialect wants) text (word d.0 ∷ equals ∷ value_tokens entry.1) from place n
@@ -61,7 +61,7 @@ one_less_end entry es us (inl e) = (further_entries es, e, inl refl)
 one_less_end entry es us (inr e) =
     (further_entries es ++ (semicolon ∷ []), e ∙ ap (λ l. semicolon ∷ l) (append_assoc (entry_tokens entry) (further_entries es) (semicolon ∷ [])), inr refl)
 
-further_lawful : (dialect : Dialect) → (ds : List Declaration) (us : List Token) → Fills dialect (further_wants ds) us → (es : Environment) × FitDeclarations dialect ds es × MayEnd es us
+further_lawful : (dialect : Dialect) → (ds : List InputDeclaration) (us : List Token) → Fills dialect (further_wants ds) us → (es : Environment) × FitDeclarations dialect ds es × MayEnd es us
 further_lawful dialect [] us f = ([], tt, at_end dialect us f)
 further_lawful dialect (d ∷ ds) us f =
     let c = one_out dialect semicolon (entry_wants d (further_wants ds)) us f in
@@ -72,7 +72,7 @@ further_lawful dialect (d ∷ ds) us f =
       subst (MayEnd ((d.0, entry.0) ∷ rest.0)) (sym (c.1 ∙ ap (λ l. semicolon ∷ l) entry.3)) (one_more_end (d.0, entry.0) rest.0 entry.1 rest.2),
     )
 
-lawful_further : (dialect : Dialect) → (ds : List Declaration) (es : Environment) (us : List Token) → FitDeclarations dialect ds es → MayEnd es us → Fills dialect (further_wants ds) us
+lawful_further : (dialect : Dialect) → (ds : List InputDeclaration) (es : Environment) (us : List Token) → FitDeclarations dialect ds es → MayEnd es us → Fills dialect (further_wants ds) us
 lawful_further dialect [] [] us h m = at_end_in dialect us m
 lawful_further dialect [] (e ∷ es) us h m = absurd h
 lawful_further dialect (d ∷ ds) [] us h m = absurd h
@@ -94,7 +94,7 @@ first_rest entry es us (inl e) = (further_entries es, e, inl refl)
 first_rest entry es us (inr e) =
     (further_entries es ++ (semicolon ∷ []), e ∙ append_assoc (entry_tokens entry) (further_entries es) (semicolon ∷ []), inr refl)
 
-wants_lawful : (dialect : Dialect) → (ds : List Declaration) (us : List Token) → Fills dialect (wants_of ds) us → SpellsEnvironment dialect ds us
+wants_lawful : (dialect : Dialect) → (ds : List InputDeclaration) (us : List Token) → Fills dialect (wants_of ds) us → SpellsEnvironment dialect ds us
 wants_lawful dialect [] us f = ([], record { fits = tt; entries = f })
 wants_lawful dialect (d ∷ ds) us f =
     let entry = entry_out dialect d (further_wants ds) us f in
@@ -106,7 +106,7 @@ wants_lawful dialect (d ∷ ds) us f =
       },
     )
 
-lawful_wants : (dialect : Dialect) → (ds : List Declaration) (es : Environment) (us : List Token) → FitDeclarations dialect ds es → AreEntries es us → Fills dialect (wants_of ds) us
+lawful_wants : (dialect : Dialect) → (ds : List InputDeclaration) (es : Environment) (us : List Token) → FitDeclarations dialect ds es → AreEntries es us → Fills dialect (wants_of ds) us
 lawful_wants dialect [] [] us h m = m
 lawful_wants dialect [] (e ∷ es) us h m = absurd h
 lawful_wants dialect (d ∷ ds) [] us h m = absurd h
@@ -116,7 +116,7 @@ lawful_wants dialect (d ∷ ds) (e ∷ es) us h m =
     (entry_in dialect d (further_wants ds) e.1 rest.0 h.1 (lawful_further dialect ds es rest.0 h.2 rest.2))
 
 -- what stops by its wants stops in a lawful text
-pub stops_lawful : (dialect : Dialect) → (text : List ℕ) (ds : List Declaration) (n : ℕ) → StopsAt (Fills dialect (wants_of ds)) text 0 n → StopsAt (SpellsEnvironment dialect ds) text 0 n
+pub stops_lawful : (dialect : Dialect) → (text : List ℕ) (ds : List InputDeclaration) (n : ℕ) → StopsAt (Fills dialect (wants_of ds)) text 0 n → StopsAt (SpellsEnvironment dialect ds) text 0 n
 stops_lawful dialect text ds n s =
     stops_after (SpellsEnvironment dialect ds) (Fills dialect (wants_of ds)) text [] 0 0 n none (wants_lawful dialect ds) (λ us l. lawful_wants dialect ds l.0 us l.1.fits l.1.entries) s
 
@@ -175,14 +175,14 @@ are_entries [] us some m = absurd (omega arith)
 are_entries (e ∷ es) us some m = m
 
 -- some inputs were read, up to this offset, and these are left
-pub record SoFar (dialect : Dialect) (text : List ℕ) (ds left : List Declaration) (es : Environment) (at : ℕ) : Type 0 where
+pub record SoFar (dialect : Dialect) (text : List ℕ) (ds left : List InputDeclaration) (es : Environment) (at : ℕ) : Type 0 where
   pub within : at ≤ length text
   pub some : 0 < length es
   pub fits : (later : Environment) → FitDeclarations dialect left later → FitDeclarations dialect ds (es ++ later)
   pub reads : HasTokens text 0 (environment_tokens es) at
   pub stops : (n : ℕ) → StopsAt (Fills dialect (further_wants left)) text at n → StopsAt (Fills dialect (wants_of ds)) text 0 n
 
-pub first_so_far : (dialect : Dialect) → (text : List ℕ) (d : Declaration) (ds : List Declaration) (entry : List ℕ × Value) (end : ℕ) → IsEntry dialect text 0 d entry end
+pub first_so_far : (dialect : Dialect) → (text : List ℕ) (d : InputDeclaration) (ds : List InputDeclaration) (entry : List ℕ × Value) (end : ℕ) → IsEntry dialect text 0 d entry end
     → SoFar dialect text (d ∷ ds) ds (entry ∷ []) end
 first_so_far dialect text d ds entry end read = record {
   within = read.within;
@@ -192,7 +192,7 @@ first_so_far dialect text d ds entry end read = record {
   stops = λ n s. after_entry dialect text d (further_wants ds) entry 0 end n read s;
 }
 
-pub next_so_far : (dialect : Dialect) → (text : List ℕ) (ds : List Declaration) (d : Declaration) (left : List Declaration) (es : Environment) (entry : List ℕ × Value) (at start end : ℕ)
+pub next_so_far : (dialect : Dialect) → (text : List ℕ) (ds : List InputDeclaration) (d : InputDeclaration) (left : List InputDeclaration) (es : Environment) (entry : List ℕ × Value) (at start end : ℕ)
     → SoFar dialect text ds (d ∷ left) es at → IsNextToken text at semicolon start → IsEntry dialect text start d entry end → SoFar dialect text ds left (es ++ entry ∷ []) end
 next_so_far dialect text ds d left es entry at start end s parting read = record {
   within = read.within;
@@ -203,10 +203,10 @@ next_so_far dialect text ds d left es entry at start end s parting read = record
       (after_entry dialect text d (further_wants left) entry start end n read k));
 }
 
-all_fit : (dialect : Dialect) → (ds : List Declaration) (es : Environment) → FitDeclarations dialect ds (es ++ []) → FitDeclarations dialect ds es
+all_fit : (dialect : Dialect) → (ds : List InputDeclaration) (es : Environment) → FitDeclarations dialect ds (es ++ []) → FitDeclarations dialect ds es
 all_fit dialect ds es h = subst (FitDeclarations dialect ds) (append-nil es) h
 
-pub all_read_closed : (dialect : Dialect) → (text : List ℕ) (ds : List Declaration) (es : Environment) (at end : ℕ) → SoFar dialect text ds [] es at → IsNextToken text at semicolon end
+pub all_read_closed : (dialect : Dialect) → (text : List ℕ) (ds : List InputDeclaration) (es : Environment) (at end : ℕ) → SoFar dialect text ds [] es at → IsNextToken text at semicolon end
     → AllRead dialect text ds es end
 all_read_closed dialect text ds es at end s closing = record {
   tokens = environment_tokens es ++ (semicolon ∷ []);
@@ -217,7 +217,7 @@ all_read_closed dialect text ds es at end s closing = record {
       (s.stops (next_at text end) (last_semicolon dialect text at end (next_at text end) closing.reads (nothing_wanted dialect text end some)));
 }
 
-pub all_read_open : (dialect : Dialect) → (text : List ℕ) (ds : List Declaration) (es : Environment) (at : ℕ) → SoFar dialect text ds [] es at → (next_token text at ≡ Some semicolon → ⊥)
+pub all_read_open : (dialect : Dialect) → (text : List ℕ) (ds : List InputDeclaration) (es : Environment) (at : ℕ) → SoFar dialect text ds [] es at → (next_token text at ≡ Some semicolon → ⊥)
     → AllRead dialect text ds es at
 all_read_open dialect text ds es at s another = record {
   tokens = environment_tokens es;
@@ -256,8 +256,8 @@ pub none_left : (ds : List (Vec ℕ Global × TyTree)) (k : ℕ) → length ds �
 none_left ds k h = none_declared (drop k ds) (omega (arith, length-drop k ds))
 
 -- the error of a part, as that of a whole text
-pub stop_whole : (dialect : Dialect) → (text : List ℕ) (part : List Want) (ds : List Declaration) (place : ℕ) (e : InputError)
-    → ((n : ℕ) → ((further : List Want) → StopsAt (Fills dialect (part ++ further)) text place n) → StopsAt (Fills dialect (wants_of ds)) text 0 n)
+pub stop_whole : (dialect : Dialect) → (text : List ℕ) (part : List ToCome) (ds : List InputDeclaration) (place : ℕ) (e : InputError)
+    → ((n : ℕ) → ((further : List ToCome) → StopsAt (Fills dialect (part ++ further)) text place n) → StopsAt (Fills dialect (wants_of ds)) text 0 n)
     → IsStop dialect part text place e → IsStopOf dialect ds text e
 stop_whole dialect text part ds place (Bad n) f h = stops_lawful dialect text ds n (f n h)
 stop_whole dialect text part ds place NoMemory f h = tt

@@ -3,7 +3,7 @@ use Rattle.std.proofs.Common.{◌≡◌, ℕ, ◌+◌, List, [], ◌∷◌, ◌+
 use Rattle.snesl_data.specs.declared.dialect.Dialect.{Dialect}
 use Rattle.snesl_data.specs.Values.{Value}
 use Rattle.snesl_values.specs.InputTokens.{Token, SizedToken, word, next_at, next_token, HasTokens, none, more}
-use Rattle.snesl_values.specs.Inputs.{Declaration, Environment, FitDeclarations, equals, semicolon, entry_tokens, further_entries, environment_tokens, AreEntries, Spells, SpellsEnvironment, MayFollow, StopsAt, InputAnswer, spells, refused_at, InputMeans, too_long, lawful, unlawful}
+use Rattle.snesl_values.specs.Inputs.{InputDeclaration, Environment, FitDeclarations, equals, semicolon, entry_tokens, further_entries, environment_tokens, AreEntries, Spells, SpellsEnvironment, MayFollow, StopsAt, InputAnswer, spells, refused_at, InputMeans, too_long, lawful, unlawful}
 use Rattle.snesl_values.proofs.InputReads.{first_next}
 use Rattle.snesl_values.proofs.InputWants.{one_value, after_head}
 
@@ -81,13 +81,13 @@ one_tokens text a b ts us r s e f = by_length (go_on r s)
     by_length (first_longer rest g h) = sym (sym (append-nil us) ∙ ap (λ l. us ++ l) (sym (no_further text b a rest h f)) ∙ g)
 
 -- tokens spell one environment
-same_entry : (d : Declaration) (e f : List ℕ × Value) → e.0 ≡ d.0 → f.0 ≡ d.0 → e.1 ≡ f.1 → e ≡ f
+same_entry : (d : InputDeclaration) (e f : List ℕ × Value) → e.0 ≡ d.0 → f.0 ≡ d.0 → e.1 ≡ f.1 → e ≡ f
 same_entry d e f h k v = let names : e.0 ≡ f.0 = h ∙ sym k in ap (λ name. (name, e.1)) names ∙ ap (λ x. (f.0, x)) v
 
 entry_parts : (e f : List ℕ × Value) (r s : List Token) → entry_tokens e ++ r ≡ entry_tokens f ++ s → (e.1 ≡ f.1) × (r ≡ s)
 entry_parts e f r s same = one_value e.1 f.1 r s (after_head equals equals _ _ (after_head (word e.0) (word f.0) _ _ same))
 
-one_further_environment : (dialect : Dialect) → (ds : List Declaration) (es fs : Environment) (r s : List Token) → FitDeclarations dialect ds es → FitDeclarations dialect ds fs
+one_further_environment : (dialect : Dialect) → (ds : List InputDeclaration) (es fs : Environment) (r s : List Token) → FitDeclarations dialect ds es → FitDeclarations dialect ds fs
     → further_entries es ++ r ≡ further_entries fs ++ s → es ≡ fs
 one_further_environment dialect [] [] [] r s h k e = refl
 one_further_environment dialect [] [] (f ∷ fs) r s h k e = absurd k
@@ -105,7 +105,7 @@ entries_end [] us e = ([], e)
 entries_end (x ∷ es) us (inl e) = ([], e ∙ sym (append-nil (environment_tokens (x ∷ es))))
 entries_end (x ∷ es) us (inr e) = (semicolon ∷ [], e)
 
-one_environment : (dialect : Dialect) → (ds : List Declaration) (es fs : Environment) (r s : List Token) → FitDeclarations dialect ds es → FitDeclarations dialect ds fs
+one_environment : (dialect : Dialect) → (ds : List InputDeclaration) (es fs : Environment) (r s : List Token) → FitDeclarations dialect ds es → FitDeclarations dialect ds fs
     → environment_tokens es ++ r ≡ environment_tokens fs ++ s → es ≡ fs
 one_environment dialect [] [] [] r s h k e = refl
 one_environment dialect [] [] (f ∷ fs) r s h k e = absurd k
@@ -118,13 +118,13 @@ one_environment dialect (d ∷ ds) (x ∷ es) (y ∷ fs) r s h k e =
     let rest = one_further_environment dialect ds es fs r s h.2 k.2 parts.1 in
     ap (λ z. z ∷ es) (same_entry d x y h.0 k.0 parts.0) ∙ ap (λ l. y ∷ l) rest
 
-one_spelling : (dialect : Dialect) → (ds : List Declaration) (es fs : Environment) (us : List Token) → Spells dialect ds es us → Spells dialect ds fs us → es ≡ fs
+one_spelling : (dialect : Dialect) → (ds : List InputDeclaration) (es fs : Environment) (us : List Token) → Spells dialect ds es us → Spells dialect ds fs us → es ≡ fs
 one_spelling dialect ds es fs us h k =
     let a = entries_end es us h.entries in
     let b = entries_end fs us k.entries in
     one_environment dialect ds es fs a.0 b.0 h.fits k.fits (sym a.1 ∙ b.1)
 
-pub one_meaning : (dialect : Dialect) → (ds : List Declaration) (text : List ℕ) (a b : InputAnswer) → InputMeans dialect ds text a → InputMeans dialect ds text b → a ≡ b
+pub one_meaning : (dialect : Dialect) → (ds : List InputDeclaration) (text : List ℕ) (a b : InputAnswer) → InputMeans dialect ds text a → InputMeans dialect ds text b → a ≡ b
 one_meaning dialect ds text a b (too_long h) (too_long k) = refl
 one_meaning dialect ds text a b (too_long h) (lawful k r e s) = absurd (omega arith)
 one_meaning dialect ds text a b (too_long h) (unlawful k s) = absurd (omega arith)

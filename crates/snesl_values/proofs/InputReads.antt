@@ -1,6 +1,6 @@
 -- Tokens that were read one after the other, and where a reader stops.
 use Rattle.std.proofs.Common.{◌≡◌, ℕ, List, [], ◌∷◌, ◌++◌, Option, Some, None, option_map, ◌⊎◌, ⊎_elim, refl, sym, ap, ◌∙◌, subst, append_assoc}
-use Rattle.snesl_values.specs.InputTokens.{Token, SizedToken, next, next_at, next_token, HasTokens, none, more}
+use Rattle.snesl_values.specs.InputTokens.{Token, SizedToken, next_lexeme, next_at, next_token, HasTokens, none, more}
 use Rattle.snesl_values.specs.Inputs.{CanBecome, MayFollow, StopsAt}
 
 pub reads-append : {text : List ℕ} {a b c : ℕ} {ts us : List Token} → HasTokens text a ts b → HasTokens text b us c → HasTokens text a (ts ++ us) c
@@ -22,7 +22,7 @@ with_length (Some (y, len)) x e = let same : y ≡ x = cc in (len, ap (λ z. Som
 
 -- a token that comes next can be read
 pub next_read : (text : List ℕ) (from : ℕ) (x : Token) → next_token text from ≡ Some x → (end : ℕ) × HasTokens text from (x ∷ []) end
-next_read text from x e = let found = with_length (next text from) x e in (_, more x found.0 found.1 none)
+next_read text from x e = let found = with_length (next_lexeme text from) x e in (_, more x found.0 found.1 none)
 
 -- what stops here
 pub stops_here : (L : List Token → Type 0) (text : List ℕ) (from : ℕ) → CanBecome L [] → (MayFollow L [] (next_token text from) → ⊥)

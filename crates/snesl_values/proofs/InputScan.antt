@@ -11,7 +11,7 @@ use Rattle.snesl_data.specs.declared.dialect.Dialect.{Dialect}
 use Rattle.snesl_data.specs.declared.dialect.Dialect.TheVariants.{Two}
 use Rattle.snesl_data.specs.Integers.{greatest_integer, IsInteger}
 use Rattle.snesl_data.specs.Characters.{is_word, value_from}
-use Rattle.snesl_values.specs.InputTokens.{Token, SizedToken, word, integer, sign, bad, is_sign, negated, minus_lexeme, first, next, next_at, next_token, HasTokens, none, more, IsNextToken, digits_at, number_of, IsNumber}
+use Rattle.snesl_values.specs.InputTokens.{Token, SizedToken, word, integer, sign, bad, is_sign, negated, minus_lexeme, first, next_lexeme, next_at, next_token, HasTokens, none, more, IsNextToken, digits_at, number_of, IsNumber}
 
 abbrev pub rest_of : List ℕ → ℕ → List ℕ
 rest_of text at = take (length text - at) (drop at text)
@@ -23,8 +23,8 @@ pub next_at-is : (text : List ℕ) (at : ℕ) → next_at text at ≡ at + prefi
 unfolding next_at
 next_at-is text at = refl
 
-next-is : (text : List ℕ) (at start : ℕ) → start ≡ next_at text at → next text at ≡ first (drop start text)
-unfolding next
+next-is : (text : List ℕ) (at start : ℕ) → start ≡ next_at text at → next_lexeme text at ≡ first (drop start text)
+unfolding next_lexeme
 next-is text at start e = ap (λ n. first (drop n text)) (sym e)
 
 -- what stands first, by the first byte

@@ -10,7 +10,7 @@ use Rattle.snesl_data.specs.Types.{Ty, int, bool, pair, vec, seq}
 use Rattle.snesl_data.specs.Values.{Value, an_int, a_bool, a_pair, a_vec, a_seq, Values, no_values, more_values, HasType, AllHaveType}
 use Rattle.snesl_values.specs.InputTokens.{Token, word, integer, sign, next_at, next_token, HasTokens, none}
 use Rattle.snesl_values.specs.Inputs.{value_tokens, items_tokens, further_tokens, left_paren, right_paren, comma, left_bracket, right_bracket, left_brace, right_brace, StopsAt}
-use Rattle.snesl_values.specs.Wants.{Want, one, perhaps, a_value, items, further_items, Fills, IsStop}
+use Rattle.snesl_values.specs.Wants.{ToCome, one, perhaps, a_value, items, further_items, Fills, IsStop}
 use Rattle.snesl_values.proofs.InputReads.{stops_after, stops_unless, stops_first}
 
 -- the signs that close items
@@ -117,7 +117,7 @@ some_value dialect (vec a) = (a_vec no_values, tt)
 some_value dialect (seq a) = (a_seq no_values, tt)
 
 -- all wants can be met
-pub fillable : (dialect : Dialect) → (wants : List Want) → (us : List Token) × Fills dialect wants us
+pub fillable : (dialect : Dialect) → (wants : List ToCome) → (us : List Token) × Fills dialect wants us
 fillable dialect [] = ([], refl)
 fillable dialect (one t ∷ wants) = let rest = fillable dialect wants in (t ∷ rest.0, (t ∷ [], rest.0, refl, refl, rest.1))
 fillable dialect (perhaps t ∷ wants) = let rest = fillable dialect wants in (rest.0, ([], rest.0, refl, inl refl, rest.1))
@@ -129,21 +129,21 @@ fillable dialect (items t close ∷ wants) = let rest = fillable dialect wants i
 fillable dialect (further_items t close ∷ wants) = let rest = fillable dialect wants in (sign close ∷ rest.0, (sign close ∷ [], rest.0, refl, (no_values, tt, refl), rest.1))
 
 -- how a want is met, with what is left
-pub one_in : (dialect : Dialect) → (t : Token) (wants : List Want) (us : List Token) → Fills dialect wants us → Fills dialect (one t ∷ wants) (t ∷ us)
+pub one_in : (dialect : Dialect) → (t : Token) (wants : List ToCome) (us : List Token) → Fills dialect wants us → Fills dialect (one t ∷ wants) (t ∷ us)
 one_in dialect t wants us f = (t ∷ [], us, refl, refl, f)
 
-pub one_out : (dialect : Dialect) → (t : Token) (wants : List Want) (us : List Token) → Fills dialect (one t ∷ wants) us → (rest : List Token) × (us ≡ t ∷ rest) × Fills dialect wants rest
+pub one_out : (dialect : Dialect) → (t : Token) (wants : List ToCome) (us : List Token) → Fills dialect (one t ∷ wants) us → (rest : List Token) × (us ≡ t ∷ rest) × Fills dialect wants rest
 one_out dialect t wants us (these, rest, e, m, f) = (rest, e ∙ ap (λ l. l ++ rest) m, f)
 
-pub value_in : (dialect : Dialect) → (t : Ty) (v : Value) (wants : List Want) (us : List Token) → HasType dialect v t → Fills dialect wants us → Fills dialect (a_value t ∷ wants) (value_tokens v ++ us)
+pub value_in : (dialect : Dialect) → (t : Ty) (v : Value) (wants : List ToCome) (us : List Token) → HasType dialect v t → Fills dialect wants us → Fills dialect (a_value t ∷ wants) (value_tokens v ++ us)
 value_in dialect t v wants us h f = (value_tokens v, us, refl, (v, h, refl), f)
 
-pub value_out : (dialect : Dialect) → (t : Ty) (wants : List Want) (us : List Token) → Fills dialect (a_value t ∷ wants) us
+pub value_out : (dialect : Dialect) → (t : Ty) (wants : List ToCome) (us : List Token) → Fills dialect (a_value t ∷ wants) us
     → (v : Value) × (rest : List Token) × HasType dialect v t × (us ≡ value_tokens v ++ rest) × Fills dialect wants rest
 value_out dialect t wants us (these, rest, e, (v, h, m), f) = (v, rest, h, e ∙ ap (λ l. l ++ rest) m, f)
 
 -- after a token that was wanted
-pub after_one : (dialect : Dialect) → (text : List ℕ) (t : Token) (wants : List Want) (from place n : ℕ) → HasTokens text from (t ∷ []) place
+pub after_one : (dialect : Dialect) → (text : List ℕ) (t : Token) (wants : List ToCome) (from place n : ℕ) → HasTokens text from (t ∷ []) place
     → StopsAt (Fills dialect wants) text place n → StopsAt (Fills dialect (one t ∷ wants)) text from n
 after_one dialect text t wants from place n read s =
     stops_after (Fills dialect (one t ∷ wants)) (Fills dialect wants) text (t ∷ []) from place n read
@@ -152,7 +152,7 @@ after_one dialect text t wants from place n read s =
     s
 
 -- after a value that was wanted
-pub after_value : (dialect : Dialect) → (text : List ℕ) (t : Ty) (v : Value) (wants : List Want) (from place n : ℕ) → HasType dialect v t → HasTokens text from (value_tokens v) place
+pub after_value : (dialect : Dialect) → (text : List ℕ) (t : Ty) (v : Value) (wants : List ToCome) (from place n : ℕ) → HasType dialect v t → HasTokens text from (value_tokens v) place
     → StopsAt (Fills dialect wants) text place n → StopsAt (Fills dialect (a_value t ∷ wants)) text from n
 after_value dialect text t v wants from place n h read s =
     stops_after (Fills dialect (a_value t ∷ wants)) (Fills dialect wants) text (value_tokens v) from place n read
@@ -163,7 +163,7 @@ after_value dialect text t v wants from place n h read s =
     s
 
 -- where a token was wanted and another or none comes
-pub another_one : (dialect : Dialect) → (text : List ℕ) (t : Token) (wants : List Want) (from : ℕ) → (next_token text from ≡ Some t → ⊥)
+pub another_one : (dialect : Dialect) → (text : List ℕ) (t : Token) (wants : List ToCome) (from : ℕ) → (next_token text from ≡ Some t → ⊥)
     → StopsAt (Fills dialect (one t ∷ wants)) text from (next_at text from)
 another_one dialect text t wants from another =
     stops_first (Fills dialect (one t ∷ wants)) (λ u. u ≡ t) text from (fillable dialect (one t ∷ wants))
@@ -178,7 +178,7 @@ int_opens dialect (a_pair v w) rest h = absurd h
 int_opens dialect (a_vec vs) rest h = absurd h
 int_opens dialect (a_seq vs) rest h = absurd h
 
-pub no_integer : (dialect : Dialect) → (text : List ℕ) (wants : List Want) (from : ℕ) → ((n : ℤ) → IsInteger dialect n → next_token text from ≡ Some (integer n) → ⊥)
+pub no_integer : (dialect : Dialect) → (text : List ℕ) (wants : List ToCome) (from : ℕ) → ((n : ℤ) → IsInteger dialect n → next_token text from ≡ Some (integer n) → ⊥)
     → StopsAt (Fills dialect (a_value int ∷ wants)) text from (next_at text from)
 no_integer dialect text wants from another =
     stops_first (Fills dialect (a_value int ∷ wants)) (λ t. (n : ℤ) × IsInteger dialect n × (t ≡ integer n)) text from (fillable dialect (a_value int ∷ wants))
@@ -195,7 +195,7 @@ bool_opens dialect (a_pair v w) rest h = absurd h
 bool_opens dialect (a_vec vs) rest h = absurd h
 bool_opens dialect (a_seq vs) rest h = absurd h
 
-pub no_truth : (dialect : Dialect) → (text : List ℕ) (wants : List Want) (from : ℕ) → (next_token text from ≡ Some (word (codes "true")) → ⊥)
+pub no_truth : (dialect : Dialect) → (text : List ℕ) (wants : List ToCome) (from : ℕ) → (next_token text from ≡ Some (word (codes "true")) → ⊥)
     → (next_token text from ≡ Some (word (codes "false")) → ⊥)
     → StopsAt (Fills dialect (a_value bool ∷ wants)) text from (next_at text from)
 no_truth dialect text wants from untrue unfalse =
@@ -204,7 +204,7 @@ no_truth dialect text wants from untrue unfalse =
     (λ t e same. ⊎_elim (λ s. untrue (e ∙ ap (λ x. Some x) s)) (λ s. unfalse (e ∙ ap (λ x. Some x) s)) same)
 
 -- a pair, part by part
-pair_in : (dialect : Dialect) → (a b : Ty) (wants : List Want) (us : List Token)
+pair_in : (dialect : Dialect) → (a b : Ty) (wants : List ToCome) (us : List Token)
     → Fills dialect (one left_paren ∷ a_value a ∷ one comma ∷ a_value b ∷ one right_paren ∷ wants) us → Fills dialect (a_value (pair a b) ∷ wants) us
 pair_in dialect a b wants us f =
     let p = one_out dialect left_paren (a_value a ∷ one comma ∷ a_value b ∷ one right_paren ∷ wants) us f in
@@ -217,7 +217,7 @@ pair_in dialect a b wants us f =
     ∙ sym (pair_parts v.0 w.0 r.0) in
     (value_tokens (a_pair v.0 w.0), r.0, whole, (a_pair v.0 w.0, (v.2, w.2), refl), r.2)
 
-pair_of : (dialect : Dialect) → (a b : Ty) (wants : List Want) (v : Value) (rest : List Token) → HasType dialect v (pair a b) → Fills dialect wants rest
+pair_of : (dialect : Dialect) → (a b : Ty) (wants : List ToCome) (v : Value) (rest : List Token) → HasType dialect v (pair a b) → Fills dialect wants rest
     → Fills dialect (one left_paren ∷ a_value a ∷ one comma ∷ a_value b ∷ one right_paren ∷ wants) (value_tokens v ++ rest)
 pair_of dialect a b wants (an_int n) rest h f = absurd h
 pair_of dialect a b wants (a_bool x) rest h f = absurd h
@@ -230,7 +230,7 @@ pair_of dialect a b wants (a_pair v w) rest h f =
 pair_of dialect a b wants (a_vec vs) rest h f = absurd h
 pair_of dialect a b wants (a_seq vs) rest h f = absurd h
 
-pub pair_stops : (dialect : Dialect) → (text : List ℕ) (a b : Ty) (wants : List Want) (from n : ℕ)
+pub pair_stops : (dialect : Dialect) → (text : List ℕ) (a b : Ty) (wants : List ToCome) (from n : ℕ)
     → StopsAt (Fills dialect (one left_paren ∷ a_value a ∷ one comma ∷ a_value b ∷ one right_paren ∷ wants)) text from n
     → StopsAt (Fills dialect (a_value (pair a b) ∷ wants)) text from n
 pair_stops dialect text a b wants from n s =
@@ -241,26 +241,26 @@ pair_stops dialect text a b wants from n s =
     s
 
 -- items and the sign that closes them
-items_in : (dialect : Dialect) → (t : Ty) (close : ℕ) (vs : Values) (wants : List Want) (us : List Token) → AllHaveType dialect vs t → Fills dialect wants us
+items_in : (dialect : Dialect) → (t : Ty) (close : ℕ) (vs : Values) (wants : List ToCome) (us : List Token) → AllHaveType dialect vs t → Fills dialect wants us
     → Fills dialect (items t close ∷ wants) (items_tokens vs ++ (sign close ∷ us))
 items_in dialect t close vs wants us h f = (items_tokens vs ++ (sign close ∷ []), us, sym (append_assoc (items_tokens vs) (sign close ∷ []) us), (vs, h, refl), f)
 
-items_out : (dialect : Dialect) → (t : Ty) (close : ℕ) (wants : List Want) (us : List Token) → Fills dialect (items t close ∷ wants) us
+items_out : (dialect : Dialect) → (t : Ty) (close : ℕ) (wants : List ToCome) (us : List Token) → Fills dialect (items t close ∷ wants) us
     → (vs : Values) × (rest : List Token) × AllHaveType dialect vs t × (us ≡ items_tokens vs ++ (sign close ∷ rest)) × Fills dialect wants rest
 items_out dialect t close wants us (these, rest, e, (vs, h, m), f) =
     (vs, rest, h, e ∙ ap (λ l. l ++ rest) m ∙ append_assoc (items_tokens vs) (sign close ∷ []) rest, f)
 
-further_in : (dialect : Dialect) → (t : Ty) (close : ℕ) (vs : Values) (wants : List Want) (us : List Token) → AllHaveType dialect vs t → Fills dialect wants us
+further_in : (dialect : Dialect) → (t : Ty) (close : ℕ) (vs : Values) (wants : List ToCome) (us : List Token) → AllHaveType dialect vs t → Fills dialect wants us
     → Fills dialect (further_items t close ∷ wants) (further_tokens vs ++ (sign close ∷ us))
 further_in dialect t close vs wants us h f = (further_tokens vs ++ (sign close ∷ []), us, sym (append_assoc (further_tokens vs) (sign close ∷ []) us), (vs, h, refl), f)
 
-further_out : (dialect : Dialect) → (t : Ty) (close : ℕ) (wants : List Want) (us : List Token) → Fills dialect (further_items t close ∷ wants) us
+further_out : (dialect : Dialect) → (t : Ty) (close : ℕ) (wants : List ToCome) (us : List Token) → Fills dialect (further_items t close ∷ wants) us
     → (vs : Values) × (rest : List Token) × AllHaveType dialect vs t × (us ≡ further_tokens vs ++ (sign close ∷ rest)) × Fills dialect wants rest
 further_out dialect t close wants us (these, rest, e, (vs, h, m), f) =
     (vs, rest, h, e ∙ ap (λ l. l ++ rest) m ∙ append_assoc (further_tokens vs) (sign close ∷ []) rest, f)
 
 -- a first item and further ones
-first_in : (dialect : Dialect) → (t : Ty) (close : ℕ) (wants : List Want) (us : List Token) → Fills dialect (a_value t ∷ further_items t close ∷ wants) us → Fills dialect (items t close ∷ wants) us
+first_in : (dialect : Dialect) → (t : Ty) (close : ℕ) (wants : List ToCome) (us : List Token) → Fills dialect (a_value t ∷ further_items t close ∷ wants) us → Fills dialect (items t close ∷ wants) us
 first_in dialect t close wants us f =
     let v = value_out dialect t (further_items t close ∷ wants) us f in
     let vs = further_out dialect t close wants v.1 v.4 in
@@ -268,7 +268,7 @@ first_in dialect t close wants us f =
     (append_assoc (value_tokens v.0) (further_tokens vs.0) (sign close ∷ vs.1) ∙ ap (λ l. value_tokens v.0 ++ l) (sym vs.3) ∙ sym v.3)
     (items_in dialect t close (more_values v.0 vs.0) wants vs.1 (v.2, vs.2) vs.4)
 
-first_of_items : (dialect : Dialect) → (t : Ty) (close : ℕ) (wants : List Want) (us rest : List Token) (vs : Values) → AllHaveType dialect vs t → Fills dialect wants rest
+first_of_items : (dialect : Dialect) → (t : Ty) (close : ℕ) (wants : List ToCome) (us rest : List Token) (vs : Values) → AllHaveType dialect vs t → Fills dialect wants rest
     → us ≡ items_tokens vs ++ (sign close ∷ rest)
     → Fills dialect (a_value t ∷ further_items t close ∷ wants) us ⊎ ((others : List Token) × (us ≡ sign close ∷ others))
 first_of_items dialect t close wants us rest no_values h f e = inr (rest, e)
@@ -276,7 +276,7 @@ first_of_items dialect t close wants us rest (more_values v vs) h f e =
     inl (subst (Fills dialect (a_value t ∷ further_items t close ∷ wants)) (sym (e ∙ append_assoc (value_tokens v) (further_tokens vs) (sign close ∷ rest)))
     (value_in dialect t v (further_items t close ∷ wants) (further_tokens vs ++ (sign close ∷ rest)) h.0 (further_in dialect t close vs wants rest h.1 f)))
 
-pub first_item : (dialect : Dialect) → (text : List ℕ) (t : Ty) (close : ℕ) (wants : List Want) (from n : ℕ) → (next_token text from ≡ Some (sign close) → ⊥)
+pub first_item : (dialect : Dialect) → (text : List ℕ) (t : Ty) (close : ℕ) (wants : List ToCome) (from n : ℕ) → (next_token text from ≡ Some (sign close) → ⊥)
     → StopsAt (Fills dialect (a_value t ∷ further_items t close ∷ wants)) text from n → StopsAt (Fills dialect (items t close ∷ wants)) text from n
 first_item dialect text t close wants from n another s =
     stops_unless (Fills dialect (items t close ∷ wants)) (Fills dialect (a_value t ∷ further_items t close ∷ wants)) text (sign close) from n another
@@ -285,7 +285,7 @@ first_item dialect text t close wants from n another s =
     s
 
 -- a further item
-comma_in : (dialect : Dialect) → (t : Ty) (close : ℕ) (wants : List Want) (us : List Token) → Fills dialect (one comma ∷ a_value t ∷ further_items t close ∷ wants) us
+comma_in : (dialect : Dialect) → (t : Ty) (close : ℕ) (wants : List ToCome) (us : List Token) → Fills dialect (one comma ∷ a_value t ∷ further_items t close ∷ wants) us
     → Fills dialect (further_items t close ∷ wants) us
 comma_in dialect t close wants us f =
     let c = one_out dialect comma (a_value t ∷ further_items t close ∷ wants) us f in
@@ -295,7 +295,7 @@ comma_in dialect t close wants us f =
     (ap (λ l. comma ∷ l) (append_assoc (value_tokens v.0) (further_tokens vs.0) (sign close ∷ vs.1) ∙ ap (λ l. value_tokens v.0 ++ l) (sym vs.3) ∙ sym v.3) ∙ sym c.1)
     (further_in dialect t close (more_values v.0 vs.0) wants vs.1 (v.2, vs.2) vs.4)
 
-comma_of_items : (dialect : Dialect) → (t : Ty) (close : ℕ) (wants : List Want) (us rest : List Token) (vs : Values) → AllHaveType dialect vs t → Fills dialect wants rest
+comma_of_items : (dialect : Dialect) → (t : Ty) (close : ℕ) (wants : List ToCome) (us rest : List Token) (vs : Values) → AllHaveType dialect vs t → Fills dialect wants rest
     → us ≡ further_tokens vs ++ (sign close ∷ rest)
     → Fills dialect (one comma ∷ a_value t ∷ further_items t close ∷ wants) us ⊎ ((others : List Token) × (us ≡ sign close ∷ others))
 comma_of_items dialect t close wants us rest no_values h f e = inr (rest, e)
@@ -305,7 +305,7 @@ comma_of_items dialect t close wants us rest (more_values v vs) h f e =
     (one_in dialect comma (a_value t ∷ further_items t close ∷ wants) (value_tokens v ++ (further_tokens vs ++ (sign close ∷ rest)))
     (value_in dialect t v (further_items t close ∷ wants) (further_tokens vs ++ (sign close ∷ rest)) h.0 (further_in dialect t close vs wants rest h.1 f))))
 
-pub later_item : (dialect : Dialect) → (text : List ℕ) (t : Ty) (close : ℕ) (wants : List Want) (from n : ℕ) → (next_token text from ≡ Some (sign close) → ⊥)
+pub later_item : (dialect : Dialect) → (text : List ℕ) (t : Ty) (close : ℕ) (wants : List ToCome) (from n : ℕ) → (next_token text from ≡ Some (sign close) → ⊥)
     → StopsAt (Fills dialect (one comma ∷ a_value t ∷ further_items t close ∷ wants)) text from n → StopsAt (Fills dialect (further_items t close ∷ wants)) text from n
 later_item dialect text t close wants from n another s =
     stops_unless (Fills dialect (further_items t close ∷ wants)) (Fills dialect (one comma ∷ a_value t ∷ further_items t close ∷ wants)) text (sign close) from n another
@@ -314,14 +314,14 @@ later_item dialect text t close wants from n another s =
     s
 
 -- vectors and sequences
-bracket_in : (dialect : Dialect) → (a : Ty) (wants : List Want) (us : List Token) → Fills dialect (one left_bracket ∷ items a 93 ∷ wants) us → Fills dialect (a_value (vec a) ∷ wants) us
+bracket_in : (dialect : Dialect) → (a : Ty) (wants : List ToCome) (us : List Token) → Fills dialect (one left_bracket ∷ items a 93 ∷ wants) us → Fills dialect (a_value (vec a) ∷ wants) us
 bracket_in dialect a wants us f =
     let p = one_out dialect left_bracket (items a 93 ∷ wants) us f in
     let vs = items_out dialect a 93 wants p.0 p.2 in
     subst (Fills dialect (a_value (vec a) ∷ wants)) (vec_parts vs.0 vs.1 ∙ ap (λ l. left_bracket ∷ l) (sym vs.3) ∙ sym p.1)
     (value_in dialect (vec a) (a_vec vs.0) wants vs.1 vs.2 vs.4)
 
-bracket_of : (dialect : Dialect) → (a : Ty) (wants : List Want) (v : Value) (rest : List Token) → HasType dialect v (vec a) → Fills dialect wants rest
+bracket_of : (dialect : Dialect) → (a : Ty) (wants : List ToCome) (v : Value) (rest : List Token) → HasType dialect v (vec a) → Fills dialect wants rest
     → Fills dialect (one left_bracket ∷ items a 93 ∷ wants) (value_tokens v ++ rest)
 bracket_of dialect a wants (an_int n) rest h f = absurd h
 bracket_of dialect a wants (a_bool x) rest h f = absurd h
@@ -331,7 +331,7 @@ bracket_of dialect a wants (a_vec vs) rest h f =
     (one_in dialect left_bracket (items a 93 ∷ wants) (items_tokens vs ++ (right_bracket ∷ rest)) (items_in dialect a 93 vs wants rest h f))
 bracket_of dialect a wants (a_seq vs) rest h f = absurd h
 
-pub vec_stops : (dialect : Dialect) → (text : List ℕ) (a : Ty) (wants : List Want) (from n : ℕ) → StopsAt (Fills dialect (one left_bracket ∷ items a 93 ∷ wants)) text from n
+pub vec_stops : (dialect : Dialect) → (text : List ℕ) (a : Ty) (wants : List ToCome) (from n : ℕ) → StopsAt (Fills dialect (one left_bracket ∷ items a 93 ∷ wants)) text from n
     → StopsAt (Fills dialect (a_value (vec a) ∷ wants)) text from n
 vec_stops dialect text a wants from n s =
     stops_after (Fills dialect (a_value (vec a) ∷ wants)) (Fills dialect (one left_bracket ∷ items a 93 ∷ wants)) text [] from from n none
@@ -340,14 +340,14 @@ vec_stops dialect text a wants from n s =
     subst (Fills dialect (one left_bracket ∷ items a 93 ∷ wants)) (sym out.3) (bracket_of dialect a wants out.0 out.1 out.2 out.4))
     s
 
-brace_in : (dialect : Dialect) → (a : Ty) (wants : List Want) (us : List Token) → Fills dialect (one left_brace ∷ items a 125 ∷ wants) us → Fills dialect (a_value (seq a) ∷ wants) us
+brace_in : (dialect : Dialect) → (a : Ty) (wants : List ToCome) (us : List Token) → Fills dialect (one left_brace ∷ items a 125 ∷ wants) us → Fills dialect (a_value (seq a) ∷ wants) us
 brace_in dialect a wants us f =
     let p = one_out dialect left_brace (items a 125 ∷ wants) us f in
     let vs = items_out dialect a 125 wants p.0 p.2 in
     subst (Fills dialect (a_value (seq a) ∷ wants)) (seq_parts vs.0 vs.1 ∙ ap (λ l. left_brace ∷ l) (sym vs.3) ∙ sym p.1)
     (value_in dialect (seq a) (a_seq vs.0) wants vs.1 vs.2 vs.4)
 
-brace_of : (dialect : Dialect) → (a : Ty) (wants : List Want) (v : Value) (rest : List Token) → HasType dialect v (seq a) → Fills dialect wants rest
+brace_of : (dialect : Dialect) → (a : Ty) (wants : List ToCome) (v : Value) (rest : List Token) → HasType dialect v (seq a) → Fills dialect wants rest
     → Fills dialect (one left_brace ∷ items a 125 ∷ wants) (value_tokens v ++ rest)
 brace_of dialect a wants (an_int n) rest h f = absurd h
 brace_of dialect a wants (a_bool x) rest h f = absurd h
@@ -357,7 +357,7 @@ brace_of dialect a wants (a_seq vs) rest h f =
     subst (Fills dialect (one left_brace ∷ items a 125 ∷ wants)) (sym (seq_parts vs rest))
     (one_in dialect left_brace (items a 125 ∷ wants) (items_tokens vs ++ (right_brace ∷ rest)) (items_in dialect a 125 vs wants rest h f))
 
-pub seq_stops : (dialect : Dialect) → (text : List ℕ) (a : Ty) (wants : List Want) (from n : ℕ) → StopsAt (Fills dialect (one left_brace ∷ items a 125 ∷ wants)) text from n
+pub seq_stops : (dialect : Dialect) → (text : List ℕ) (a : Ty) (wants : List ToCome) (from n : ℕ) → StopsAt (Fills dialect (one left_brace ∷ items a 125 ∷ wants)) text from n
     → StopsAt (Fills dialect (a_value (seq a) ∷ wants)) text from n
 seq_stops dialect text a wants from n s =
     stops_after (Fills dialect (a_value (seq a) ∷ wants)) (Fills dialect (one left_brace ∷ items a 125 ∷ wants)) text [] from from n none
@@ -372,8 +372,8 @@ passed_on P (Ok x) e h p = tt
 passed_on P (Err x) e h p = subst P (sym h) p
 
 -- the error of a part, as that of the whole
-pub stop_of : (dialect : Dialect) → (text : List ℕ) (part whole : List Want) (place from : ℕ) (e : InputError)
-    → ((n : ℕ) → ((further : List Want) → StopsAt (Fills dialect (part ++ further)) text place n) → (further : List Want) → StopsAt (Fills dialect (whole ++ further)) text from n)
+pub stop_of : (dialect : Dialect) → (text : List ℕ) (part whole : List ToCome) (place from : ℕ) (e : InputError)
+    → ((n : ℕ) → ((further : List ToCome) → StopsAt (Fills dialect (part ++ further)) text place n) → (further : List ToCome) → StopsAt (Fills dialect (whole ++ further)) text from n)
     → IsStop dialect part text place e → IsStop dialect whole text from e
 stop_of dialect text part whole place from (Bad n) f h = f n h
 stop_of dialect text part whole place from NoMemory f h = tt

@@ -5,7 +5,7 @@ use Rattle.std.proofs.Props.{props}
 use Rattle.snesl_data.specs.declared.dialect.Dialect.{Dialect}
 use Rattle.snesl_data.specs.Types.{Ty, int, bool, pair, vec, seq}
 use Rattle.snesl_data.specs.Values.{Value, an_int, a_bool, a_pair, a_vec, a_seq, Values, no_values, more_values, HasType, AllHaveType}
-use Rattle.snesl_values.specs.Declarations.{Declaration, Environment, FitDeclarations}
+use Rattle.snesl_values.specs.Declarations.{InputDeclaration, Environment, FitDeclarations}
 
 mutual
   pub HasType-prop : (dialect : Dialect) → (v : Value) (t : Ty) → IsProp (HasType dialect v t)
@@ -20,7 +20,7 @@ mutual
   AllHaveType-prop dialect no_values item = hlevel
   AllHaveType-prop dialect (more_values v vs) item = hlevel (HasType-prop dialect v item, AllHaveType-prop dialect vs item)
 
-pub Fits-prop : (dialect : Dialect) → (ds : List Declaration) (es : Environment) → IsProp (FitDeclarations dialect ds es)
+pub Fits-prop : (dialect : Dialect) → (ds : List InputDeclaration) (es : Environment) → IsProp (FitDeclarations dialect ds es)
 Fits-prop dialect [] [] = hlevel
 Fits-prop dialect (d ∷ ds) (e ∷ es) = hlevel (props, HasType-prop dialect e.1 d.1, Fits-prop dialect ds es)
 Fits-prop dialect _ _ = hlevel

@@ -2,7 +2,7 @@
 use Rattle.std.proofs.Common.{◌≡◌, ℕ, ◌+◌, ◌-◌, ◌<◌, ◌≤◌, false, List, [], ◌∷◌, ◌++◌, length, Option, Some, None, refl, sym, ap, ◌∙◌, arith, append-nil}
 use Rattle.snesl_data.specs.declared.datum.Datum.TheVariants.{Bool as BoolDatum}
 use Rattle.snesl_data.specs.Values.{Value}
-use Rattle.snesl_values.specs.InputTokens.{SizedToken, next_at, next}
+use Rattle.snesl_values.specs.InputTokens.{SizedToken, next_at, next_lexeme}
 use Rattle.snesl_values.specs.declared.marks.Found.{Found}
 use Rattle.snesl_values.specs.declared.builder.Pending.{Pending}
 use Rattle.snesl_values.specs.Marks.{mark_of, Spot, spots_in, spots, found_from}
@@ -54,25 +54,25 @@ read_empty [] v none = refl
 read_empty (x ∷ all) v none = absurd (omega arith)
 
 -- the tokens after one that was found
-pub spots_found : (text : List ℕ) (at : ℕ) (f : Found) → at ≤ length text → Some f ≡ found_from (next_at text at) (next text at) → spots text at ≡ (f.mark, at) ∷ spots text f.end
-spots_found text at f within e = by_next (next text at) refl e
+pub spots_found : (text : List ℕ) (at : ℕ) (f : Found) → at ≤ length text → Some f ≡ found_from (next_at text at) (next_lexeme text at) → spots text at ≡ (f.mark, at) ∷ spots text f.end
+spots_found text at f within e = by_next (next_lexeme text at) refl e
   where
-    by_next : (o : Option SizedToken) → next text at ≡ o → Some f ≡ found_from (next_at text at) o → spots text at ≡ (f.mark, at) ∷ spots text f.end
+    by_next : (o : Option SizedToken) → next_lexeme text at ≡ o → Some f ≡ found_from (next_at text at) o → spots text at ≡ (f.mark, at) ∷ spots text f.end
     by_next None is e = absurd (cc)
     by_next (Some l) is e =
         let g : Found = record { mark = mark_of l.0; end = next_at text at + l.1 } in
         let same : g ≡ f = cc in
         spots_some text at l within is ∙ ap (λ (f : Found). (f.mark, at) ∷ spots text f.end) same
 
-pub spots_unfound : (text : List ℕ) (at : ℕ) → None ≡ found_from (next_at text at) (next text at) → spots text at ≡ []
-spots_unfound text at e = by_next (next text at) refl e
+pub spots_unfound : (text : List ℕ) (at : ℕ) → None ≡ found_from (next_at text at) (next_lexeme text at) → spots text at ≡ []
+spots_unfound text at e = by_next (next_lexeme text at) refl e
   where
-    by_next : (o : Option SizedToken) → next text at ≡ o → None ≡ found_from (next_at text at) o → spots text at ≡ []
+    by_next : (o : Option SizedToken) → next_lexeme text at ≡ o → None ≡ found_from (next_at text at) o → spots text at ≡ []
     by_next None is e = spots_none text at is
     by_next (Some l) is e = absurd (cc)
 
 -- what is spelled, token by token
-pub spells_on : (text : List ℕ) (at : ℕ) (f : Found) (frames : List OpenPart) (value : Option Value) (r : Reading) → at ≤ length text → Some f ≡ found_from (next_at text at) (next text at) → after_token value frames f.mark ≡ r
+pub spells_on : (text : List ℕ) (at : ℕ) (f : Found) (frames : List OpenPart) (value : Option Value) (r : Reading) → at ≤ length text → Some f ≡ found_from (next_at text at) (next_lexeme text at) → after_token value frames f.mark ≡ r
     → spelled frames value (spots text at) ≡ spelled r.0 r.1 (spots text f.end)
 spells_on text at f frames value r within e step =
     ap (spelled frames value) (spots_found text at f within e) ∙ ap (λ (r : Reading). spelled r.0 r.1 (spots text f.end)) step
@@ -87,7 +87,7 @@ unfolding frames_of
 spells_whole text at [] value v none is = ap (λ o. spelled [] o (spots text at)) is ∙ spelled_whole v (spots text at) ∙ ap (read_value []) (sym is)
 spells_whole text at (x ∷ all) value v none is = absurd (omega arith)
 
-pub spells_end : (text : List ℕ) (at : ℕ) (frames : List OpenPart) (value : Option Value) → None ≡ found_from (next_at text at) (next text at) → spelled frames value (spots text at) ≡ read_value frames value
+pub spells_end : (text : List ℕ) (at : ℕ) (frames : List OpenPart) (value : Option Value) → None ≡ found_from (next_at text at) (next_lexeme text at) → spelled frames value (spots text at) ≡ read_value frames value
 spells_end text at frames value e = ap (spelled frames value) (spots_unfound text at e)
 
 -- the beginning

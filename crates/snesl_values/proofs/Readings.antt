@@ -1,6 +1,6 @@
 -- Reading a text token by token.
 use Rattle.std.proofs.Common.{◌≡◌, ℕ, ◌+◌, ◌≤◌, List, [], ◌∷◌, ◌++◌, length, Option, Some, None, arith}
-use Rattle.snesl_values.specs.InputTokens.{Token, next_at, next, HasTokens, none, more}
+use Rattle.snesl_values.specs.InputTokens.{Token, next_at, next_lexeme, HasTokens, none, more}
 use Rattle.snesl_values.specs.Marks.{mark_of, spots}
 use Rattle.snesl_values.proofs.Spots.{spots_some, uncons, unread, Next, nothing, lexeme, next_is}
 
@@ -12,7 +12,7 @@ reads-split (t ∷ ts) us r = let w = uncons r in let v = reads-split ts us w.2 
 -- the first token was read, and the others are to be
 pub record Read (text : List ℕ) (from : ℕ) (t : Token) (ts : List Token) (end : ℕ) : Type 0 where
   pub len : ℕ
-  pub next : next text from ≡ Some (t, len)
+  pub next : next_lexeme text from ≡ Some (t, len)
   pub inside : next_at text from + len ≤ length text
   pub rest : HasTokens text (next_at text from + len) ts end
   pub spot : spots text from ≡ (mark_of t, from) ∷ spots text (next_at text from + len)
@@ -23,7 +23,7 @@ read {text = text} {from = from} {end = end} {t = t} {ts = ts} inside r =
     record {
       len = w.0;
       next = w.1;
-      inside = by_next (next text from) (next_is text from inside) w.1;
+      inside = by_next (next_lexeme text from) (next_is text from inside) w.1;
       rest = w.2;
       spot = spots_some text from (t, w.0) inside w.1;
     }

@@ -8,8 +8,8 @@ use Rattle.snesl_data.specs.Integers.{is_integer, IsInteger}
 use Rattle.snesl_data.specs.Types.{Ty, int, bool, pair, vec, seq}
 use Rattle.snesl_data.specs.Values.{Value, an_int, a_bool, a_pair, a_vec, a_seq, Values, values_of, AllHaveType}
 use Rattle.snesl_values.specs.InputTokens.{Token, word, integer, sign, bad, next_at, next_token, HasTokens, none, IsNextToken}
-use Rattle.snesl_values.specs.Inputs.{greatest_input_length, Declaration, Environment, equals, semicolon, comma, left_paren, right_paren, left_bracket, left_brace, StopsAt, SpellsEnvironment, InputAnswer, spells, refused_at, InputMeans, too_long, lawful, unlawful}
-use Rattle.snesl_values.specs.Wants.{Want, one, a_value, items, further_items, Fills, entry_wants, further_wants, IsValueRead, AreRead, IsEntry, AllRead}
+use Rattle.snesl_values.specs.Inputs.{greatest_input_length, InputDeclaration, Environment, equals, semicolon, comma, left_paren, right_paren, left_bracket, left_brace, StopsAt, SpellsEnvironment, InputAnswer, spells, refused_at, InputMeans, too_long, lawful, unlawful}
+use Rattle.snesl_values.specs.Wants.{ToCome, one, a_value, items, further_items, Fills, entry_wants, further_wants, IsValueRead, AreRead, IsEntry, AllRead}
 use Rattle.snesl_values.proofs.InputScan.{Coming, nothing_comes, comes, coming}
 use Rattle.snesl_values.proofs.InputReads.{reads-append, first_next}
 use Rattle.snesl_values.proofs.InputWants.{after_one, after_value, another_one, no_integer, no_truth, pair_stops, vec_stops, seq_stops, first_item, later_item}
@@ -17,9 +17,9 @@ use Rattle.snesl_values.proofs.InputItems.{leading_tokens, have_type-push, items
 use Rattle.snesl_values.proofs.InputEntries.{stops_lawful, SoFar, first_so_far, next_so_far, all_read_closed, all_read_open, none_read}
 
 -- what was wanted is read and ends at this offset, or the reader stops
-data Reading (dialect : Dialect) (text : List ℕ) (from : ℕ) (wants : List Want) (IsDone : ℕ → Type 0) : Type 0 where
+data Reading (dialect : Dialect) (text : List ℕ) (from : ℕ) (wants : List ToCome) (IsDone : ℕ → Type 0) : Type 0 where
   done : (end : ℕ) → IsDone end → Reading dialect text from wants IsDone
-  stopped : (n : ℕ) → ((further : List Want) → StopsAt (Fills dialect (wants ++ further)) text from n) → Reading dialect text from wants IsDone
+  stopped : (n : ℕ) → ((further : List ToCome) → StopsAt (Fills dialect (wants ++ further)) text from n) → Reading dialect text from wants IsDone
 
 abbrev ReadingOf : Dialect → List ℕ → Ty → ℕ → Type 0
 ReadingOf dialect text t from = Reading dialect text from (a_value t ∷ []) (λ end. (v : Value) × IsValueRead dialect text from t v end)
@@ -157,7 +157,7 @@ record ItemsSoFar (dialect : Dialect) (text : List ℕ) (from place : ℕ) (t : 
   begun : from ≤ place
   have_type : AllHaveType dialect (values_of vs) t
   reads : HasTokens text from (leading_tokens vs) place
-  stops : (wants : List Want) (n : ℕ) → StopsAt (Fills dialect (a_value t ∷ further_items t close ∷ wants)) text place n
+  stops : (wants : List ToCome) (n : ℕ) → StopsAt (Fills dialect (a_value t ∷ further_items t close ∷ wants)) text place n
       → StopsAt (Fills dialect (items t close ∷ wants)) text from n
 
 abbrev ReadingOfItems : Dialect → List ℕ → Ty → ℕ → ℕ → Type 0
@@ -252,10 +252,10 @@ readable dialect text (vec a) = a_vec_of dialect text a (readable dialect text a
 readable dialect text (seq a) = a_seq_of dialect text a (readable dialect text a)
 
 -- a declared input
-abbrev ReadingOfEntry : Dialect → List ℕ → Declaration → ℕ → Type 0
+abbrev ReadingOfEntry : Dialect → List ℕ → InputDeclaration → ℕ → Type 0
 ReadingOfEntry dialect text d from = Reading dialect text from (entry_wants d []) (λ end. (entry : List ℕ × Value) × IsEntry dialect text from d entry end)
 
-an_entry : (dialect : Dialect) → (text : List ℕ) (d : Declaration) (from : ℕ) → from ≤ length text → ReadingOfEntry dialect text d from
+an_entry : (dialect : Dialect) → (text : List ℕ) (d : InputDeclaration) (from : ℕ) → from ≤ length text → ReadingOfEntry dialect text d from
 an_entry dialect text d from within = by_name (one_word dialect text from d.0 within)
   where
     by_value : (behind start : ℕ) → IsNextToken text from (word d.0) behind → IsNextToken text behind equals start → ReadingOf dialect text d.1 start → ReadingOfEntry dialect text d from
@@ -283,12 +283,12 @@ an_entry dialect text d from within = by_name (one_word dialect text from d.0 wi
     by_name (stopped n s) = stopped n (λ further. s (one equals ∷ a_value d.1 ∷ further))
 
 -- all declared inputs were read, or the reader stops
-data WholeReading (dialect : Dialect) (text : List ℕ) (ds : List Declaration) : Type 0 where
+data WholeReading (dialect : Dialect) (text : List ℕ) (ds : List InputDeclaration) : Type 0 where
   all_read : (es : Environment) (end : ℕ) → AllRead dialect text ds es end → WholeReading dialect text ds
   stopped_at : (n : ℕ) → StopsAt (SpellsEnvironment dialect ds) text 0 n → WholeReading dialect text ds
 
 -- no input is left
-no_entries : (dialect : Dialect) → (text : List ℕ) (ds : List Declaration) (es : Environment) (at : ℕ) → SoFar dialect text ds [] es at → WholeReading dialect text ds
+no_entries : (dialect : Dialect) → (text : List ℕ) (ds : List InputDeclaration) (es : Environment) (at : ℕ) → SoFar dialect text ds [] es at → WholeReading dialect text ds
 no_entries dialect text ds es at sofar = by_end (whether text at semicolon (same_sign 59) sofar.within)
   where
     by_end : Whether text at semicolon → WholeReading dialect text ds
@@ -296,7 +296,7 @@ no_entries dialect text ds es at sofar = by_end (whether text at semicolon (same
     by_end (another n) = all_read es at (all_read_open dialect text ds es at sofar n)
 
 -- one input more, where the further ones can be read
-next_entry : (dialect : Dialect) → (text : List ℕ) (ds : List Declaration) (d : Declaration) (left : List Declaration) (es : Environment) (at : ℕ)
+next_entry : (dialect : Dialect) → (text : List ℕ) (ds : List InputDeclaration) (d : InputDeclaration) (left : List InputDeclaration) (es : Environment) (at : ℕ)
     → SoFar dialect text ds (d ∷ left) es at → ((news : Environment) (end : ℕ) → SoFar dialect text ds left news end → WholeReading dialect text ds) → WholeReading dialect text ds
 next_entry dialect text ds d left es at sofar later = by_semicolon (one_sign dialect text at 59 sofar.within)
   where
@@ -311,11 +311,11 @@ next_entry dialect text ds d left es at sofar later = by_semicolon (one_sign dia
     by_semicolon (stopped n s) = stopped_at n (stops_lawful dialect text ds n (sofar.stops n (s (entry_wants d (further_wants left)))))
 
 -- the inputs that are left
-more_entries : (dialect : Dialect) → (left : List Declaration) (text : List ℕ) (ds : List Declaration) (es : Environment) (at : ℕ) → SoFar dialect text ds left es at → WholeReading dialect text ds
+more_entries : (dialect : Dialect) → (left : List InputDeclaration) (text : List ℕ) (ds : List InputDeclaration) (es : Environment) (at : ℕ) → SoFar dialect text ds left es at → WholeReading dialect text ds
 more_entries dialect [] text ds es at sofar = no_entries dialect text ds es at sofar
 more_entries dialect (d ∷ left) text ds es at sofar = next_entry dialect text ds d left es at sofar (λ news end further. more_entries dialect left text ds news end further)
 
-whole : (dialect : Dialect) → (text : List ℕ) (ds : List Declaration) → WholeReading dialect text ds
+whole : (dialect : Dialect) → (text : List ℕ) (ds : List InputDeclaration) → WholeReading dialect text ds
 whole dialect text [] = all_read [] 0 (none_read dialect text)
 whole dialect text (d ∷ ds) = by_entry (an_entry dialect text d 0 (omega arith))
   where
@@ -323,7 +323,7 @@ whole dialect text (d ∷ ds) = by_entry (an_entry dialect text d 0 (omega arith
     by_entry (done end (entry, read)) = more_entries dialect ds text (d ∷ ds) (entry ∷ []) end (first_so_far dialect text d ds entry end read)
     by_entry (stopped n s) = stopped_at n (stops_lawful dialect text (d ∷ ds) n (s (further_wants ds)))
 
-pub some_meaning : (dialect : Dialect) → (ds : List Declaration) (text : List ℕ) → (answer : InputAnswer) × InputMeans dialect ds text answer
+pub some_meaning : (dialect : Dialect) → (ds : List InputDeclaration) (text : List ℕ) → (answer : InputAnswer) × InputMeans dialect ds text answer
 some_meaning dialect ds text = by_length (cases_lt greatest_input_length (length text))
   where
     by_next : length text ≤ greatest_input_length → (es : Environment) (end : ℕ) → AllRead dialect text ds es end → Coming text end

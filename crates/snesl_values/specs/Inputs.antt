@@ -1,5 +1,6 @@
 -- What an input text spells, and where it is refused.
-use Rattle.std.specs.Prelude.{◌≡◌, ℕ, ◌<◌, ◌≤◌, List, [], ◌∷◌, ◌++◌, ◌⊎◌, length, Option, Some, None, if◌then◌else◌}
+use Rattle.std.specs.Prelude.{◌≡◌, ℕ, ◌<◌, ◌≤◌, List, [], ◌∷◌, ◌++◌, ◌⊎◌, length, Option, Some, None, option_map, Result, Err, IsOk, if◌then◌else◌}
+use Rattle.std.specs.List.{slice_get}
 use Rattle.std.specs.Str.{bytes_eq}
 use Rattle.std.specs.Arc.{arc_value}
 use Rattle.snesl_data.specs.declared.dialect.Dialect.{Dialect}
@@ -8,11 +9,12 @@ use Rattle.snesl_values.specs.declared.inputs.InputError.{InputError}
 use Rattle.snesl_values.specs.declared.inputs.InputError.TheVariants.{Bad, NoMemory}
 use Rattle.snesl_data.specs.declared.refusal.Refusal.{Refusal}
 use Rattle.snesl_data.specs.declared.refusal.Refusal.TheVariants as refusals
-pub use Rattle.snesl_values.specs.Declarations.{Declaration, Environment, FitDeclarations, declaration_of, declared}
+pub use Rattle.snesl_values.specs.Declarations.{InputDeclaration, Environment, FitDeclarations, declaration_of, declared}
 pub use Rattle.snesl_values.specs.Spellings.{equals, semicolon, comma, left_paren, right_paren, left_bracket, right_bracket, left_brace, right_brace, value_tokens, items_tokens, further_tokens}
-use Rattle.snesl_values.specs.declared.places.Placed.{Placed}
-use Rattle.snesl_values.specs.Entries.{environment_at}
-use Rattle.snesl_data.specs.Values.{Value}
+use Rattle.snesl_values.specs.declared.places.InputPlace.{InputPlace}
+use Rattle.snesl_values.specs.Entries.{environment_at, AreSpelledAt}
+use Rattle.snesl_data.specs.declared.datum.Datum.{Datum}
+use Rattle.snesl_data.specs.Values.{Value, value_of}
 use Rattle.snesl_values.specs.InputTokens.{Token, word, next_at, next_token, HasTokens}
 
 -- the greatest length of an input text, in bytes
@@ -40,12 +42,12 @@ AreEntries environment tokens =
     (tokens ≡ environment_tokens environment) ⊎ (tokens ≡ environment_tokens environment ++ (semicolon ∷ []))
 
 -- the tokens spell this environment for these declarations, in the dialect
-pub record Spells (dialect : Dialect) (declarations : List Declaration) (environment : Environment) (tokens : List Token) : Type 0 where
+pub record Spells (dialect : Dialect) (declarations : List InputDeclaration) (environment : Environment) (tokens : List Token) : Type 0 where
   pub fits : FitDeclarations dialect declarations environment
   pub entries : AreEntries environment tokens
 
 -- the tokens spell some environment
-abbrev pub SpellsEnvironment : Dialect → List Declaration → List Token → Type 0
+abbrev pub SpellsEnvironment : Dialect → List InputDeclaration → List Token → Type 0
 SpellsEnvironment dialect declarations tokens = (environment : Environment) × Spells dialect declarations environment tokens
 
 -- some list of tokens of this kind begins with these
@@ -73,7 +75,7 @@ pub data InputAnswer : Type 0 where
   refused_at : ℕ → InputAnswer
 
 -- the answer that a text has for these declarations, in the dialect
-pub data InputMeans (dialect : Dialect) (declarations : List Declaration) (text : List ℕ) : InputAnswer → Type 0 where
+pub data InputMeans (dialect : Dialect) (declarations : List InputDeclaration) (text : List ℕ) : InputAnswer → Type 0 where
   -- a text that is too long is refused at the limit, whatever it holds
   too_long : greatest_input_length < length text → InputMeans dialect declarations text (refused_at greatest_input_length)
   -- a text spells the environment that its tokens do
@@ -87,15 +89,15 @@ pub data InputMeans (dialect : Dialect) (declarations : List Declaration) (text 
 -- no text has two answers
 abbrev pub OneInputMeaning : Type 0
 OneInputMeaning =
-    (dialect : Dialect) (declarations : List Declaration) (text : List ℕ) (a b : InputAnswer)
+    (dialect : Dialect) (declarations : List InputDeclaration) (text : List ℕ) (a b : InputAnswer)
     → InputMeans dialect declarations text a → InputMeans dialect declarations text b → a ≡ b
 
 -- each text has an answer
 abbrev pub SomeInputMeaning : Type 0
-SomeInputMeaning = (dialect : Dialect) (declarations : List Declaration) (text : List ℕ) → (answer : InputAnswer) × InputMeans dialect declarations text answer
+SomeInputMeaning = (dialect : Dialect) (declarations : List InputDeclaration) (text : List ℕ) → (answer : InputAnswer) × InputMeans dialect declarations text answer
 
 -- the declarations for which inputs were read
-unfoldable pub declarations_of : Inputs → List Declaration
+unfoldable pub declarations_of : Inputs → List InputDeclaration
 declarations_of inputs = declared inputs.decls.items
 
 -- the dialect in which they were read
@@ -107,12 +109,48 @@ unfoldable pub text_in : Inputs → List ℕ
 text_in inputs = (arc_value inputs.text).items
 
 -- the names and the places of their values in the text
-unfoldable pub placed_in : Inputs → List Placed
+unfoldable pub placed_in : Inputs → List InputPlace
 placed_in inputs = inputs.all.items
 
 -- the names and the values that are spelled at their places
 unfoldable pub environment_of : Inputs → Environment
 environment_of inputs = environment_at (arc_value inputs.text).items inputs.all.items
+
+-- the name of the entry of this number
+abbrev pub entry_name_at : Environment → ℕ → Option (List ℕ)
+entry_name_at environment number = option_map (λ (entry : List ℕ × Value). entry.0) (slice_get environment number)
+
+-- the datum is the value of the entry of this number
+abbrev pub IsEntryValue : Environment → ℕ → Datum → Type 0
+IsEntryValue environment number datum = option_map (λ (entry : List ℕ × Value). entry.1) (slice_get environment number) ≡ Some (value_of datum)
+
+-- the inputs have the names and types of the declarations, in order
+abbrev pub InputsFit : Dialect → List InputDeclaration → Inputs → Type 0
+InputsFit dialect declarations inputs = FitDeclarations dialect declarations (environment_of inputs)
+
+-- from each place on, the text spells a value of the declared type
+abbrev pub InputsPlaced : Inputs → Type 0
+InputsPlaced inputs = AreSpelledAt (dialect_of inputs) (text_in inputs) (declarations_of inputs) (placed_in inputs)
+
+-- the names, each beside the value that the text spells from its place on
+abbrev pub spelled_environment : Inputs → Environment
+spelled_environment inputs = environment_at (text_in inputs) (placed_in inputs)
+
+-- the inputs are what the text spells
+abbrev pub AreMeant : (InputAnswer → Type 0) → Inputs → Type 0
+AreMeant Means inputs = Means (spells (environment_of inputs))
+
+-- the error is that memory was refused, or the offset at which the text is
+abbrev pub IsMeantStop : (InputAnswer → Type 0) → InputError → Type 0
+IsMeantStop Means error = (error ≡ NoMemory) ⊎ ((at : ℕ) × (error ≡ Bad at) × Means (refused_at at))
+
+-- a text that spells an environment was read, unless memory was refused
+abbrev pub ReadsLawful : (InputAnswer → Type 0) → Result Inputs InputError → Type 0
+ReadsLawful Means result = (environment : Environment) → Means (spells environment) → IsOk result ⊎ (result ≡ Err NoMemory)
+
+-- a text that is refused at an offset was refused there, unless memory was refused
+abbrev pub RefusesUnlawful : (InputAnswer → Type 0) → Result Inputs InputError → Type 0
+RefusesUnlawful Means result = (at : ℕ) → Means (refused_at at) → (result ≡ Err (Bad at)) ⊎ (result ≡ Err NoMemory)
 
 -- the value of the first entry of this name
 abbrev pub value_in : List ℕ → Environment → Option Value

@@ -3,7 +3,7 @@ use Rattle.std.specs.Prelude.{ℕ, zero, suc, ◌+◌, ◌-◌, ◌==◌, true, 
 use Rattle.std.specs.Str.{bytes_eq}
 use Rattle.snesl_data.specs.declared.dialect.Dialect.TheVariants.{Two}
 use Rattle.snesl_data.specs.Integers.{is_integer}
-use Rattle.snesl_values.specs.InputTokens.{Token, word, integer, sign, bad, SizedToken, next_at, next}
+use Rattle.snesl_values.specs.InputTokens.{Token, word, integer, sign, bad, SizedToken, next_at, next_lexeme}
 use Rattle.snesl_values.specs.declared.marks.Bracket.TheVariants.{Round, Square, Curly}
 use Rattle.snesl_values.specs.declared.marks.Found.{Found}
 use Rattle.snesl_values.specs.declared.marks.Mark.{Mark}
@@ -26,6 +26,10 @@ mark_of (integer n) = cond (is_integer Two n) (Number n) Other
 mark_of (sign b) = sign_mark b
 mark_of bad = Other
 
+-- the mark of a token, and its length
+abbrev pub sized_mark : SizedToken → Mark × ℕ
+sized_mark lexeme = (mark_of lexeme.0, lexeme.1)
+
 -- a mark and the offset from which its token was looked for
 abbrev pub Spot : Type 0
 Spot = Mark × ℕ
@@ -43,7 +47,7 @@ spots_by behind text at (Some lexeme) = (mark_of lexeme.0, at) ∷ behind (next_
 -- the tokens from an offset on, so many at most
 abbrev pub spots_in : ℕ → List ℕ → ℕ → List Spot
 spots_in zero text at = []
-spots_in (suc most) text at = spots_by (spots_in most text) text at (next text at)
+spots_in (suc most) text at = spots_by (spots_in most text) text at (next_lexeme text at)
 
 -- all tokens from an offset on, of which each takes a byte at least
 unfoldable pub spots : List ℕ → ℕ → List Spot

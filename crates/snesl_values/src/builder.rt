@@ -1,11 +1,11 @@
 // Values, built from the tokens of a text that spell them.
 
-ghost use Rattle.std.specs.Prelude.{◌≡◌, ◌∷◌, [], map, option_map, IfOk, OnOk, Some, None};
+ghost use Rattle.std.specs.Prelude.{◌≡◌, option_map, IfOk, OnOk};
 ghost use Rattle.snesl_data.specs.Values.{a_vec, value_of, values_of};
 ghost use Rattle.snesl_data.specs.Builders.{built_in};
-ghost use Rattle.snesl_values.specs.declared.marks.Bracket.TheVariants.{Square, Curly};
-ghost use Rattle.snesl_values.specs.Places.{value_at, on_none, on_some, close_none, read_value, in_items, in_first, in_second, unlawful};
-ghost use Rattle.snesl_values.specs.Pendings.{frames_of, reading_of};
+ghost use Rattle.snesl_values.specs.declared.builder.Pending.TheVariants.{Vector, Sequence, First, Second};
+ghost use Rattle.snesl_values.specs.Places.{value_at, on_none, on_some, close_none, read_value, unlawful};
+ghost use Rattle.snesl_values.specs.Pendings.{frames_of, frames_in, reading_of, reading_in, HasRead, OpensBracket};
 
 use crate::marks::{Bracket, Mark, mark_at};
 use snesl_data::{Builder, Datum};
@@ -75,8 +75,7 @@ fn before_value(
     pending: &mut Vec<Pending>,
     mark: Mark,
 ) -> Result<Option<Datum>, AllocError>
-    ensures { IfOk result (λ last. reading_of pending.new.items last ≡
-        on_none (frames_of pending.old.items) mark) }
+    ensures { HasRead result pending.new (on_none (frames_in pending.old) mark) }
 {
     match mark {
         Mark::Number(number) => Ok(Some(Datum::Int(number))),
@@ -96,8 +95,7 @@ fn open_bracket(
     pending: &mut Vec<Pending>,
     bracket: Bracket,
 ) -> Result<(), AllocError>
-    ensures { OnOk result (reading_of pending.new.items None ≡
-        on_none (frames_of pending.old.items) (Mark.Open bracket)) }
+    ensures { OnOk result (OpensBracket pending.old pending.new bracket) }
 {
     match bracket {
         Bracket::Round => pending.push(Pending::First)?,
@@ -109,8 +107,7 @@ fn open_bracket(
 
 // Closes a bracket where a value could come next. The result is the value that is whole then.
 fn close_empty(alloc: Global, pending: &mut Vec<Pending>) -> Result<Option<Datum>, AllocError>
-    ensures { IfOk result (λ last. reading_of pending.new.items last ≡
-        close_none (frames_of pending.old.items)) }
+    ensures { HasRead result pending.new (close_none (frames_in pending.old)) }
 {
     match pending.pop() {
         Some(Pending::Vector(elements)) => {
@@ -131,8 +128,7 @@ fn behind_value(
     datum: Datum,
     mark: Mark,
 ) -> Result<Option<Datum>, AllocError>
-    ensures { IfOk result (λ last. reading_of pending.new.items last ≡
-        on_some (value_of datum) (frames_of pending.old.items) mark) }
+    ensures { HasRead result pending.new (on_some (value_of datum) (frames_in pending.old) mark) }
 {
     match pending.pop() {
         Some(Pending::Vector(elements)) => after_element(alloc, pending, elements, datum, mark),
@@ -151,9 +147,7 @@ fn after_element(
     datum: Datum,
     mark: Mark,
 ) -> Result<Option<Datum>, AllocError>
-    ensures { IfOk result (λ last. reading_of pending.new.items last ≡
-        on_some (value_of datum)
-        (in_items Square (built_in elements) ∷ frames_of pending.old.items) mark) }
+    ensures { HasRead result pending.new (reading_in pending.old (Vector elements) datum mark) }
 {
     let mut all = elements;
     match mark {
@@ -178,9 +172,7 @@ fn after_item(
     datum: Datum,
     mark: Mark,
 ) -> Result<Option<Datum>, AllocError>
-    ensures { IfOk result (λ last. reading_of pending.new.items last ≡
-        on_some (value_of datum)
-        (in_items Curly (map value_of items.items) ∷ frames_of pending.old.items) mark) }
+    ensures { HasRead result pending.new (reading_in pending.old (Sequence items) datum mark) }
 {
     let mut all = items;
     match mark {
@@ -203,8 +195,7 @@ fn after_first(
     datum: Datum,
     mark: Mark,
 ) -> Result<Option<Datum>, AllocError>
-    ensures { IfOk result (λ last. reading_of pending.new.items last ≡
-        on_some (value_of datum) (in_first ∷ frames_of pending.old.items) mark) }
+    ensures { HasRead result pending.new (reading_in pending.old First datum mark) }
 {
     match mark {
         Mark::Comma => {
@@ -223,8 +214,7 @@ fn after_second(
     second: Datum,
     mark: Mark,
 ) -> Result<Option<Datum>, AllocError>
-    ensures { IfOk result (λ last. reading_of pending.new.items last ≡
-        on_some (value_of second) (in_second (value_of first) ∷ frames_of pending.old.items) mark) }
+    ensures { HasRead result pending.new (reading_in pending.old (Second first) second mark) }
 {
     match mark {
         Mark::Close(_) => {

@@ -4,9 +4,8 @@
 
 ghost use Rattle.std.specs.Prelude.{◌≡◌, ◌≤◌, ◌∷◌, [], ◌⊎◌, length, IsTrue, IfOk, IfErr};
 ghost use Rattle.snesl_values.specs.InputTokens.{word, sign, is_sign, IsNextToken};
-ghost use Rattle.snesl_data.specs.Types.{ty_of, bool, pair};
-ghost use Rattle.snesl_data.specs.Values.{Value, Values};
-ghost use Rattle.snesl_values.specs.Wants.{one, a_value, items, IsStop, IsValueRead, AreRead};
+ghost use Rattle.snesl_data.specs.Types.{ty_of, bool};
+ghost use Rattle.snesl_values.specs.Wants.{one, items, pair_of, IsStop, IsValueStop, SomeValueRead, SomeItemsRead};
 
 use crate::inputs::InputError;
 use crate::scan::{after_sign, after_word, integer_at, skip_blanks};
@@ -47,9 +46,8 @@ pub fn expect_word(
 #[cycle(values)]
 pub fn check_value(dialect: Dialect, text: &[u8], at: usize, ty: &Ty) -> Result<usize, InputError>
     requires { at ≤ length text.now }
-    ensures read { IfOk result (λ end.
-        (value : Value) × IsValueRead dialect text.now at (ty_of ty.now) value end) }
-    ensures stops { IfErr result (IsStop dialect (a_value (ty_of ty.now) ∷ []) text.now at) }
+    ensures read { IfOk result (SomeValueRead dialect text.now at (ty_of ty.now)) }
+    ensures stops { IfErr result (IsValueStop dialect (ty_of ty.now) text.now at) }
 {
     match ty {
         Ty::Int => {
@@ -76,9 +74,8 @@ pub fn check_value(dialect: Dialect, text: &[u8], at: usize, ty: &Ty) -> Result<
 // The offset after the truth value that comes next.
 fn check_truth(dialect: Dialect, text: &[u8], at: usize) -> Result<usize, InputError>
     requires { at ≤ length text.now }
-    ensures read { IfOk result (λ end.
-        (value : Value) × IsValueRead dialect text.now at bool value end) }
-    ensures stops { IfErr result (IsStop dialect (a_value bool ∷ []) text.now at) }
+    ensures read { IfOk result (SomeValueRead dialect text.now at bool) }
+    ensures stops { IfErr result (IsValueStop dialect bool text.now at) }
 {
     if let Some(end) = after_word(text, at, b"true") {
         return Ok(end);
@@ -99,10 +96,8 @@ fn check_pair(
     second: &Ty,
 ) -> Result<usize, InputError>
     requires { at ≤ length text.now }
-    ensures read { IfOk result (λ end. (value : Value) ×
-        IsValueRead dialect text.now at (pair (ty_of first.now) (ty_of second.now)) value end) }
-    ensures stops { IfErr result
-        (IsStop dialect (a_value (pair (ty_of first.now) (ty_of second.now)) ∷ []) text.now at) }
+    ensures read { IfOk result (SomeValueRead dialect text.now at (pair_of first.now second.now)) }
+    ensures stops { IfErr result (IsValueStop dialect (pair_of first.now second.now) text.now at) }
 {
     let at_first = expect_sign(dialect, text, at, b'(')?;
     let after_first = check_value(dialect, text, at_first, first)?;
@@ -124,8 +119,7 @@ fn check_items(
 ) -> Result<usize, InputError>
     requires within { at ≤ length text.now }
     requires closes { (close ≡ 93) ⊎ (close ≡ 125) }
-    ensures read { IfOk result (λ end. (values : Values) ×
-        AreRead dialect text.now at (ty_of item.now) close values end) }
+    ensures read { IfOk result (SomeItemsRead dialect text.now at (ty_of item.now) close) }
     ensures stops { IfErr result (IsStop dialect (items (ty_of item.now) close ∷ []) text.now at) }
 {
     if let Some(end) = after_sign(text, at, close) {

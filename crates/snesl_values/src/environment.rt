@@ -2,10 +2,10 @@
 
 ghost use Rattle.std.specs.Arc.{arc_value};
 ghost use Rattle.snesl_values.specs.Declarations.{declared, FitDeclarations};
-ghost use Rattle.snesl_values.specs.Entries.{environment_at, ArePlaced};
+ghost use Rattle.snesl_values.specs.Entries.{environment_at, AreSpelledAt};
 
 use crate::builder::datum_at;
-use crate::places::Placed;
+use crate::places::InputPlace;
 use snesl_data::{Datum, Dialect, Ty};
 use std::alloc::{AllocError, Global};
 use std::sync::Arc;
@@ -19,18 +19,17 @@ pub struct Inputs {
     pub(crate) dialect: Dialect,
     pub(crate) decls: Vec<(Vec<u8>, Ty)>,
     pub(crate) text: Arc<Vec<u8>>,
-    pub(crate) all: Vec<Placed>,
-    pub(crate) ghost placed: { ∥ ArePlaced dialect (arc_value text).items
+    pub(crate) all: Vec<InputPlace>,
+    pub(crate) ghost placed: { ∥ AreSpelledAt dialect (arc_value text).items
         (declared decls.items) all.items ∥₁ },
     pub(crate) ghost fit: { ∥ FitDeclarations dialect (declared decls.items)
         (environment_at (arc_value text).items all.items) ∥₁ },
 }
 
 impl Inputs {
-    ghost use Rattle.std.specs.Prelude.{◌≡◌, ◌<◌, ◌↔◌, [], length, IsTrue, IfOk, Some, option_map};
+    ghost use Rattle.std.specs.Prelude.{◌≡◌, ◌<◌, ◌↔◌, [], length, IsTrue, IfOk, option_map};
     ghost use Rattle.std.specs.List.{slice_get};
-    ghost use Rattle.snesl_data.specs.Values.{value_of};
-    ghost use Rattle.snesl_values.specs.Inputs.{dialect_of, declarations_of, environment_of, text_in, placed_in};
+    ghost use Rattle.snesl_values.specs.Inputs.{dialect_of, declarations_of, environment_of, text_in, placed_in, entry_name_at, IsEntryValue};
 
     /// The dialect in which the inputs were read.
     #[tactic(auto, unfolding(crate::specs::Inputs::dialect_of))]
@@ -69,7 +68,7 @@ impl Inputs {
     #[tactic(auto, unfolding(crate::specs::Inputs::environment_of))]
     pub fn name(&self, number: usize) -> Option<&[u8]>
         ensures { option_map (λ name. name.now) result ≡
-            option_map (λ entry. entry.0) (slice_get (environment_of self.now) number) }
+            entry_name_at (environment_of self.now) number }
     {
         let input = self.all.get(number)?;
         Some(&input.name)
@@ -84,9 +83,7 @@ impl Inputs {
     #[tactic(auto, unfolding(crate::specs::Inputs::environment_of))]
     pub fn datum(&self, alloc: Global, number: usize) -> Result<Datum, AllocError>
         requires { number < length (environment_of self.now) }
-        ensures { IfOk result (λ datum.
-            option_map (λ entry. entry.1) (slice_get (environment_of self.now) number) ≡
-            Some (value_of datum)) }
+        ensures { IfOk result (IsEntryValue (environment_of self.now) number) }
     {
         datum_at(alloc, &self.text, self.all[number].place)
     }

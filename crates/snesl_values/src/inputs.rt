@@ -1,10 +1,9 @@
 // Input texts.
 
-ghost use Rattle.std.specs.Prelude.{◌≡◌, ℕ, ◌⊎◌, IfOk, IfErr, IsOk, Err};
-ghost use Rattle.snesl_values.specs.Declarations.{Environment, declared, FitDeclarations};
-ghost use Rattle.snesl_values.specs.Entries.{environment_at, ArePlaced};
-ghost use Rattle.snesl_values.specs.Inputs.{dialect_of, declarations_of, environment_of, text_in, placed_in, spells, refused_at, InputMeans, OneInputMeaning, SomeInputMeaning};
-ghost use Rattle.snesl_values.specs.declared.inputs.InputError.TheVariants.{Bad, NoMemory};
+ghost use Rattle.std.specs.Prelude.{◌≡◌, IfOk, IfErr};
+ghost use Rattle.snesl_values.specs.Declarations.{declared};
+ghost use Rattle.snesl_values.specs.Inputs.{dialect_of, declarations_of, environment_of, text_in, spelled_environment, InputMeans, AreMeant, IsMeantStop, ReadsLawful, RefusesUnlawful, InputsFit, InputsPlaced, OneInputMeaning, SomeInputMeaning};
+ghost use Rattle.snesl_values.specs.declared.inputs.InputError.TheVariants.{NoMemory};
 
 use crate::environment::Inputs;
 use crate::places::read_places;
@@ -82,19 +81,13 @@ pub fn read_inputs(
     bytes: &[u8],
 ) -> Result<Inputs, InputError>
     // What is answered is what the text means.
-    ensures spelled { IfOk result (λ inputs.
-        InputMeans dialect (declared decls.now) bytes.now (spells (environment_of inputs))) }
-    ensures refused { IfErr result (λ error. (error ≡ NoMemory) ⊎
-        ((at : ℕ) × (error ≡ Bad at) ×
-        InputMeans dialect (declared decls.now) bytes.now (refused_at at))) }
+    ensures spelled { IfOk result (AreMeant (InputMeans dialect (declared decls.now) bytes.now)) }
+    ensures refused { IfErr result
+        (IsMeantStop (InputMeans dialect (declared decls.now) bytes.now)) }
 
     // And what the text means is answered, unless memory was refused.
-    ensures lawful { (environment : Environment) →
-        InputMeans dialect (declared decls.now) bytes.now (spells environment) →
-        IsOk result ⊎ (result ≡ Err NoMemory) }
-    ensures unlawful { (at : ℕ) →
-        InputMeans dialect (declared decls.now) bytes.now (refused_at at) →
-        (result ≡ Err (Bad at)) ⊎ (result ≡ Err NoMemory) }
+    ensures lawful { ReadsLawful (InputMeans dialect (declared decls.now) bytes.now) result }
+    ensures unlawful { RefusesUnlawful (InputMeans dialect (declared decls.now) bytes.now) result }
 
     // The inputs are of the dialect and the declarations for which they were read.
     ensures in_dialect { IfOk result (λ inputs. dialect_of inputs ≡ dialect) }
@@ -104,8 +97,7 @@ pub fn read_inputs(
     ensures kept { IfOk result (λ inputs. text_in inputs ≡ bytes.now) }
 
     // The names are the declared ones, and the values have their types.
-    ensures fits { IfOk result (λ inputs.
-        FitDeclarations dialect (declared decls.now) (environment_of inputs)) }
+    ensures fits { IfOk result (InputsFit dialect (declared decls.now)) }
 {
     if bytes.len() > GREATEST_INPUT_LENGTH {
         return Err(InputError::Bad(GREATEST_INPUT_LENGTH));
@@ -142,17 +134,14 @@ fn copy_decls(alloc: Global, decls: &[(Vec<u8>, Ty)]) -> Result<Vec<(Vec<u8>, Ty
 /// A law and no code to run: the values have the names and types of the declarations for which they
 /// were read, in order.
 pub fn inputs_fit(inputs: &Inputs)
-    ensures { FitDeclarations (dialect_of inputs.now) (declarations_of inputs.now)
-        (environment_of inputs.now) }
+    ensures { InputsFit (dialect_of inputs.now) (declarations_of inputs.now) inputs.now }
 {}
 
 /// A law and no code to run: from each place on, the text spells a value of the declared type.
 /// These values, each beside its name, are the inputs.
 pub fn inputs_are_placed(inputs: &Inputs)
-    ensures placed { ArePlaced (dialect_of inputs.now) (text_in inputs.now)
-        (declarations_of inputs.now) (placed_in inputs.now) }
-    ensures environment { environment_of inputs.now ≡
-        environment_at (text_in inputs.now) (placed_in inputs.now) }
+    ensures placed { InputsPlaced inputs.now }
+    ensures environment { environment_of inputs.now ≡ spelled_environment inputs.now }
 {}
 
 /// A law and no code to run: each text has an answer for the declarations, and only one.

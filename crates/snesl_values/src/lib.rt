@@ -20,7 +20,7 @@ pub use builder::datum_at;
 pub use environment::Inputs;
 pub use inputs::{InputError, inputs_are_placed, inputs_fit, one_input_meaning, read_inputs};
 pub use marks::{Bracket, Found, Mark, mark_at, sign_mark};
-pub use places::Placed;
+pub use places::InputPlace;
 pub use snesl_data::{
     Builder, Counted, Datum, Dialect, Elements, Fault, FaultKind, Refusal, Ty, copy_datum, copy_ty,
     digits_len, is_blank, text_of, word_len,

@@ -3,8 +3,8 @@
 ghost use Rattle.std.specs.Prelude.{◌≡◌, ◌+◌, ◌<◌, ◌≤◌, ◌^◌, length, IsTrue, IfSome, Some, option_map};
 ghost use Rattle.std.specs.List.{AllByRecursion, take_while};
 ghost use Rattle.std.specs.Char.{is_ascii_digit};
-ghost use Rattle.snesl_values.specs.InputTokens.{integer, number_of, minus_lexeme, first, next, next_at};
-ghost use Rattle.snesl_values.specs.Marks.{mark_of, sign_mark, word_mark, found_from};
+ghost use Rattle.snesl_values.specs.InputTokens.{integer, number_of, minus_lexeme, first, next_lexeme, next_at};
+ghost use Rattle.snesl_values.specs.Marks.{mark_of, sized_mark, sign_mark, word_mark, found_from};
 
 use crate::scan::{signed_number, skip_blanks};
 use snesl_data::{Dialect, digits_len, word_len};
@@ -44,7 +44,7 @@ pub struct Found {
 #[inline(always)]
 pub fn mark_at(text: &[u8], at: usize) -> Option<Found>
     requires { at ≤ length text.now }
-    ensures next { result ≡ found_from (next_at text.now at) (next text.now at) }
+    ensures next { result ≡ found_from (next_at text.now at) (next_lexeme text.now at) }
     ensures moves { IfSome result (λ found. at < found.end) }
     ensures within { IfSome result (λ found. found.end ≤ length text.now) }
 {
@@ -63,8 +63,7 @@ pub fn mark_at(text: &[u8], at: usize) -> Option<Found>
 #[inline(always)]
 fn first_mark(bytes: &[u8]) -> (Mark, usize)
     requires { 0 < length bytes.now }
-    ensures first { Some result ≡
-        option_map (λ lexeme. (mark_of lexeme.0, lexeme.1)) (first bytes.now) }
+    ensures first { Some result ≡ option_map sized_mark (first bytes.now) }
     ensures moves { 0 < result.1 }
     ensures within { result.1 ≤ length bytes.now }
 {
@@ -87,9 +86,7 @@ fn first_mark(bytes: &[u8]) -> (Mark, usize)
 #[inline(always)]
 fn minus_mark(rest: &[u8]) -> (Mark, usize)
     requires { length rest.now < 2 ^ 63 }
-    ensures first { result ≡
-        (let lexeme = minus_lexeme (take_while is_ascii_digit rest.now) in
-        (mark_of lexeme.0, lexeme.1)) }
+    ensures first { result ≡ sized_mark (minus_lexeme (take_while is_ascii_digit rest.now)) }
     ensures moves { 0 < result.1 }
     ensures within { result.1 ≤ length rest.now + 1 }
 {

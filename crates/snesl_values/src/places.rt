@@ -1,10 +1,9 @@
 // Declared inputs, each a name and the place of its value.
 
-ghost use Rattle.std.specs.Prelude.{◌≤◌, [], length, IfOk, IfErr};
+ghost use Rattle.std.specs.Prelude.{◌≤◌, length, IfOk, IfErr};
 ghost use Rattle.snesl_values.specs.Declarations.{declared, declaration_of};
-ghost use Rattle.snesl_data.specs.Types.{ty_of};
-ghost use Rattle.snesl_values.specs.Wants.{entry_wants, IsStop, IsStopOf, IsEntry, AllRead};
-ghost use Rattle.snesl_values.specs.Entries.{entry_from, environment_at, IsPlaced, ArePlaced};
+ghost use Rattle.snesl_values.specs.Wants.{IsEntryStop, IsStopOf, EntryRead, EntriesRead};
+ghost use Rattle.snesl_values.specs.Entries.{IsEntryPlaced, AreEntriesPlaced};
 
 use crate::checker::{check_value, expect_sign, expect_word};
 use crate::inputs::InputError;
@@ -15,7 +14,7 @@ use std::alloc::Global;
 /// A declared name, and the place from which its value is read: an offset in bytes from the start
 /// of the text.
 #[derive(Debug, Drop)]
-pub struct Placed {
+pub struct InputPlace {
     pub name: Vec<u8>,
     pub place: usize,
 }
@@ -33,11 +32,9 @@ pub fn read_places(
     alloc: Global,
     decls: &[(Vec<u8>, Ty)],
     text: &[u8],
-) -> Result<(Vec<Placed>, usize), InputError>
-    ensures read { IfOk result (λ found. AllRead dialect text.now (declared decls.now)
-        (environment_at text.now found.0.items) found.1) }
-    ensures placed { IfOk result (λ found.
-        ArePlaced dialect text.now (declared decls.now) found.0.items) }
+) -> Result<(Vec<InputPlace>, usize), InputError>
+    ensures read { IfOk result (EntriesRead dialect text.now (declared decls.now)) }
+    ensures placed { IfOk result (AreEntriesPlaced dialect text.now (declared decls.now)) }
     ensures stops { IfErr result (IsStopOf dialect (declared decls.now) text.now) }
 {
     let mut all = Vec::new(alloc);
@@ -65,18 +62,16 @@ fn read_entry(
     text: &[u8],
     at: usize,
     declaration: &(Vec<u8>, Ty),
-) -> Result<(Placed, usize), InputError>
+) -> Result<(InputPlace, usize), InputError>
     requires { at ≤ length text.now }
-    ensures read { IfOk result (λ found. IsEntry dialect text.now at
-        (declaration_of declaration.now) (entry_from text.now found.0) found.1) }
-    ensures placed { IfOk result (λ found.
-        IsPlaced dialect text.now (ty_of declaration.now.1) found.0.place) }
+    ensures read { IfOk result (EntryRead dialect text.now at (declaration_of declaration.now)) }
+    ensures placed { IfOk result (IsEntryPlaced dialect text.now (declaration_of declaration.now)) }
     ensures stops { IfErr result
-        (IsStop dialect (entry_wants (declaration_of declaration.now) []) text.now at) }
+        (IsEntryStop dialect (declaration_of declaration.now) text.now at) }
 {
     let after_name = expect_word(dialect, text, at, &declaration.0)?;
     let start = expect_sign(dialect, text, after_name, b'=')?;
     let end = check_value(dialect, text, start, &declaration.1)?;
     let name = Vec::from_slice(alloc, &declaration.0)?;
-    Ok((Placed { name, place: start }, end))
+    Ok((InputPlace { name, place: start }, end))
 }

@@ -1,13 +1,13 @@
 // Single tokens of an input text.
 
-ghost use Rattle.std.specs.Prelude.{◌≡◌, ◌<◌, suc, ◌≤◌, ℤ, length, IsTrue, IfSome, IfNone, Some, None, if◌then◌else◌, nat_le, true, false};
+ghost use Rattle.std.specs.Prelude.{◌≡◌, ◌<◌, suc, ◌≤◌, length, IsTrue, IfSome, IfNone, Some, true, false};
 ghost use Rattle.std.specs.List.{AllByRecursion, prefix_len};
 ghost use Rattle.std.specs.Char.{is_ascii_digit};
 ghost use Rattle.snesl_data.specs.Blanks.{is_blank};
 ghost use Rattle.snesl_data.specs.Characters.{value_from};
 ghost use Rattle.snesl_data.specs.declared.dialect.Dialect.TheVariants.{Two};
-ghost use Rattle.snesl_data.specs.Integers.{is_integer, IsInteger, greatest_integer};
-ghost use Rattle.snesl_values.specs.InputTokens.{digits_at, number_of, IsNumber, word, integer, sign, is_sign, next_at, next_token, signed, IsNextToken};
+ghost use Rattle.snesl_data.specs.Integers.{greatest_integer};
+ghost use Rattle.snesl_values.specs.InputTokens.{digits_at, number_of, integer_in, magnitude_of, IsNumber, WritesInteger, word, sign, is_sign, next_at, next_token, signed, IsNextToken, IsNextInteger, IsNoInteger};
 
 use snesl_data::{Dialect, digits_len, is_blank, word_len};
 
@@ -72,10 +72,8 @@ pub fn after_word(text: &[u8], at: usize, expected: &[u8]) -> Option<usize>
 #[inline(always)]
 pub fn integer_at(dialect: Dialect, text: &[u8], at: usize) -> Option<(i128, usize)>
     requires { at ≤ length text.now }
-    ensures taken { IfSome result (λ found.
-        IsNextToken text.now at (integer found.0) found.1 × IsInteger dialect found.0) }
-    ensures another { IfNone result ((n : ℤ) →
-        IsInteger dialect n → ¬ (next_token text.now at ≡ Some (integer n))) }
+    ensures taken { IfSome result (IsNextInteger dialect text.now at) }
+    ensures another { IfNone result (IsNoInteger dialect text.now at) }
 {
     let start = skip_blanks(text, at);
     if start < text.len() && text[start] == b'-' {
@@ -90,8 +88,8 @@ pub fn integer_at(dialect: Dialect, text: &[u8], at: usize) -> Option<(i128, usi
 fn number_at(dialect: Dialect, text: &[u8], from: usize, is_negative: bool) -> Option<(i128, usize)>
     requires { from ≤ length text.now }
     ensures taken { IfSome result (IsNumber dialect text.now from is_negative) }
-    ensures another { IfNone result (¬ ((0 < length (digits_at text.now from)) ×
-        IsInteger dialect (number_of is_negative (digits_at text.now from)))) }
+    ensures another { IfNone result
+        (¬ WritesInteger dialect is_negative (digits_at text.now from)) }
 {
     let len = digits_len(&text[from..]);
     if len == 0 {
@@ -108,8 +106,7 @@ fn number_at(dialect: Dialect, text: &[u8], from: usize, is_negative: bool) -> O
 #[inline(always)]
 pub fn signed_number(dialect: Dialect, is_negative: bool, digits: &[u8]) -> Option<i128>
     requires { AllByRecursion (λ c. IsTrue (is_ascii_digit c)) digits.now }
-    ensures { result ≡ (let n = number_of is_negative digits.now in
-        if is_integer dialect n then Some n else None) }
+    ensures { result ≡ integer_in dialect (number_of is_negative digits.now) }
 {
     let number = signed(is_negative, magnitude(digits)?)?;
     if dialect.has(number) {
@@ -123,8 +120,7 @@ pub fn signed_number(dialect: Dialect, is_negative: bool, digits: &[u8]) -> Opti
 #[inline(always)]
 fn magnitude(digits: &[u8]) -> Option<u128>
     requires { AllByRecursion (λ c. IsTrue (is_ascii_digit c)) digits.now }
-    ensures { result ≡ (let number = value_from 0 digits.now in
-        if nat_le number (suc (greatest_integer Two)) then Some number else None) }
+    ensures { result ≡ magnitude_of (value_from 0 digits.now) }
 {
     let mut value = 0u64;
     for (at, c) in digits.iter().enumerate() {
@@ -142,8 +138,7 @@ fn magnitude(digits: &[u8]) -> Option<u128>
 fn wide_magnitude(number: u128, digits: &[u8]) -> Option<u128>
     requires within { number ≤ suc (greatest_integer Two) }
     requires digits { AllByRecursion (λ c. IsTrue (is_ascii_digit c)) digits.now }
-    ensures { result ≡ (let number = value_from number digits.now in
-        if nat_le number (suc (greatest_integer Two)) then Some number else None) }
+    ensures { result ≡ magnitude_of (value_from number digits.now) }
 {
     let mut value = number;
     for c in digits {
@@ -164,8 +159,7 @@ fn wide_magnitude(number: u128, digits: &[u8]) -> Option<u128>
 #[inline(always)]
 fn signed(is_negative: bool, number: u128) -> Option<i128>
     requires { number ≤ suc (greatest_integer Two) }
-    ensures { result ≡ (let n = signed is_negative number in
-        if is_integer Two n then Some n else None) }
+    ensures { result ≡ integer_in Two (signed is_negative number) }
 {
     if !is_negative {
         return if number <= i128::MAX as u128 {

@@ -4,7 +4,7 @@ use Rattle.std.proofs.Common.{sym, ap, subst, append-nil, append_assoc}
 use Rattle.std.proofs.lemmas.Slice.Eq.{bytes_eq-Decides}
 use Rattle.snesl_data.specs.declared.dialect.Dialect.{Dialect}
 use Rattle.snesl_data.specs.Types.{Ty, int, bool, pair, seq}
-use Rattle.snesl_values.specs.Inputs.{Declaration}
+use Rattle.snesl_values.specs.Inputs.{InputDeclaration}
 use Rattle.snesl_tree.specs.declared.span.Span.{Span}
 use Rattle.snesl_tree.specs.Spelling.{spelling}
 use Rattle.snesl_tree.specs.Tree.{Tree, Trees, both, Binders, binder}
@@ -37,7 +37,7 @@ among_one : (bytes : List ℕ) → is_among bytes (bytes ∷ []) ≡ true
 among_one bytes = ap (λ b. b || false) ((bytes_eq-Decides bytes bytes).1 refl)
 
 -- where there is a binder, the first source has flags
-first_flagged : {dialect : Dialect} {text : List ℕ} {functions : Signatures} {context : Context} {earlier all : List Declaration} {place : Span} {source : Tree} {others : Binders} {kinds : List Kind} {us : Sources}
+first_flagged : {dialect : Dialect} {text : List ℕ} {functions : Signatures} {context : Context} {earlier all : List InputDeclaration} {place : Span} {source : Tree} {others : Binders} {kinds : List Kind} {us : Sources}
     (h : BindersType dialect text functions context earlier (binder place source others) all) → SourcesFit kinds us (binder_items h).0 → Stream kinds (first_flags us) BoolKind
 first_flagged (more_binders h new rest) (more_sources fit fits) = flags_fit fit
 
@@ -121,7 +121,7 @@ module _ (dialect : Dialect) (text : List ℕ) (functions : Signatures) (bodies 
         subst (λ names'. AlwaysMakes (tr_further dialect text bodies at sequence (both item others)) names' context (seq t)) (append_assoc names (free text item) (free_of_all text others))
         (further_made at t behind (names ++ free text item) made_after rest same)
 
-    sources_made : {context : Context} {earlier all : List Declaration} {binders : Binders} (h : BindersType dialect text functions context earlier binders all)
+    sources_made : {context : Context} {earlier all : List InputDeclaration} {binders : Binders} (h : BindersType dialect text functions context earlier binders all)
         → SourcesMake (tr_binders dialect text bodies binders) (free_of_sources text binders) context (binder_items h).0
     sources_made no_binders kinds bound control bears units = done_made no_sources
     sources_made (more_binders {source = source} {others = others} h new rest) kinds bound control bears units =

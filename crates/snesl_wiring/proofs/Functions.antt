@@ -5,10 +5,10 @@ use Rattle.std.proofs.Common.{sym, ap, ◌∙◌, subst, append_assoc, append-ni
 use Rattle.std.proofs.lemmas.Slice.Eq.{bytes_eq-Decides}
 use Rattle.snesl_data.specs.declared.dialect.Dialect.{Dialect}
 use Rattle.snesl_data.specs.Types.{Ty}
-use Rattle.snesl_values.specs.Inputs.{Declaration}
+use Rattle.snesl_values.specs.Inputs.{InputDeclaration}
 use Rattle.snesl_tree.specs.declared.span.Span.{Span}
 use Rattle.snesl_tree.specs.Spelling.{spelling}
-use Rattle.snesl_tree.specs.Tree.{Tree, Typed, TypeTree, DeclarationTree, declares_input, declares_function}
+use Rattle.snesl_tree.specs.Tree.{Tree, TypedName, TypeTree, DeclarationTree, declares_input, declares_function}
 use Rattle.snesl_types.specs.Contexts.{names_context, Signature, Signatures, function_named}
 use Rattle.snesl_types.specs.Programs.{Declared, with_inputs, with_function, typed_name, signature_of, NamesType, no_names, more_names, FunctionTypes, function_type, DeclarationsType, no_declarations, input_declared, function_declared}
 use Rattle.flow_messages.specs.declared.message.Kind.{Kind}
@@ -24,21 +24,21 @@ use Rattle.snesl_wiring.proofs.Expressions.{CallsMake, typed_made}
 -- parameters
 
 -- streams of arguments that fit the types of these parameters are borne by their names
-abbrev ParametersBear : List Kind → List ℕ → List Typed → List Declaration → Type 0
+abbrev ParametersBear : List Kind → List ℕ → List TypedName → List InputDeclaration → Type 0
 ParametersBear kinds text written given =
     (us : List Wires) → AllFit kinds (map (λ declaration. declaration.1) given) us → (names : Names) → Bears kinds (parameters_bound text written us) names (names_context given)
 
 none_bear : (kinds : List Kind) (text : List ℕ) → ParametersBear kinds text [] []
 none_bear kinds text us fits names = record { fits = λ bytes t among is. absurd (cc) }
 
-more_bear : (kinds : List Kind) (text : List ℕ) (first : Typed) (others : List Typed) (t : Ty) (given : List Declaration) → ParametersBear kinds text others given
+more_bear : (kinds : List Kind) (text : List ℕ) (first : TypedName) (others : List TypedName) (t : Ty) (given : List InputDeclaration) → ParametersBear kinds text others given
     → ParametersBear kinds text (first ∷ others) (typed_name text first t ∷ given)
 more_bear kinds text first others t given rest [] fits names = elim fits [ ]
 more_bear kinds text first others t given rest (u ∷ us) (more_fit fit fits) names =
     bears_with names (spelling text first.place) u t fit (rest us fits (without (spelling text first.place) names))
 
-parameters_bear : (kinds : List Kind) (text : List ℕ) {earlier all : List Declaration} {written : List Typed} → NamesType text earlier written all
-    → (given : List Declaration) × (all ≡ earlier ++ given) × ParametersBear kinds text written given
+parameters_bear : (kinds : List Kind) (text : List ℕ) {earlier all : List InputDeclaration} {written : List TypedName} → NamesType text earlier written all
+    → (given : List InputDeclaration) × (all ≡ earlier ++ given) × ParametersBear kinds text written given
 parameters_bear kinds text (no_names {earlier = earlier}) = ([], sym (append-nil earlier), none_bear kinds text)
 parameters_bear kinds text (more_names {earlier = earlier} {first = first} {others = others} {t = t} new is h) =
     let rest = parameters_bear kinds text h in (
@@ -65,7 +65,7 @@ earlier_named bytes (first ∷ functions) signature other = ap (λ o. if bytes_e
 
 module _ (dialect : Dialect) (text : List ℕ) where
   -- one function more
-  one_more : (functions : Signatures) (bodies : Bodies) (place : Span) (written : List Typed) (result : TypeTree) (body : Tree) (signature : Signature) → CallsMake functions bodies
+  one_more : (functions : Signatures) (bodies : Bodies) (place : Span) (written : List TypedName) (result : TypeTree) (body : Tree) (signature : Signature) → CallsMake functions bodies
       → FunctionTypes dialect text functions place written result body signature
       → CallsMake (functions ++ (signature ∷ [])) (with_body dialect text bodies (declares_function place written result body))
   one_more functions bodies place written result body signature calls (function_type {parameters = parameters} {t = t} new names typed_result typed) kinds at bytes called us control is fits units =

@@ -2,7 +2,7 @@
 use Rattle.std.specs.Prelude.{◌≡◌, ℕ, zero, suc, List, [], ◌∷◌, ◌++◌, length, refl}
 use Rattle.std.proofs.Common.{sym, ap, ◌∙◌, subst, length-append, append_assoc, append-nil}
 use Rattle.snesl_data.specs.Types.{Ty}
-use Rattle.snesl_values.specs.Inputs.{Declaration}
+use Rattle.snesl_values.specs.Inputs.{InputDeclaration}
 use Rattle.snesl_tree.specs.Tree.{ProgramTree}
 use Rattle.snesl_types.specs.Contexts.{names_context}
 use Rattle.snesl_types.specs.Programs.{Declared, ProgramTypes, nothing_declared}
@@ -40,7 +40,7 @@ sourced_made at cells t kinds =
       holds = subst (λ l. Fits l t (wires_from t (length kinds))) (sym s.1) (new_fit kinds t);
     }
 
-inputs_made : (at : ℕ) (cells : ℕ → List Cell) (declarations : List Declaration) (kinds : List Kind)
+inputs_made : (at : ℕ) (cells : ℕ → List Cell) (declarations : List InputDeclaration) (kinds : List Kind)
     → IsMade kinds (inputs_sourced at cells declarations (length kinds)) (λ on bound. (names : Names) → Bears on bound names (names_context declarations))
 inputs_made at cells [] kinds = done_made (λ names. record { fits = λ bytes t among is. absurd (cc) })
 inputs_made at cells (declaration ∷ declarations) kinds =

@@ -5,16 +5,16 @@ use Rattle.snesl_data.specs.declared.dialect.Dialect.{Dialect}
 use Rattle.snesl_data.specs.declared.refusal.Refusal.{Refusal}
 use Rattle.snesl_data.specs.declared.refusal.Refusal.TheVariants as refusals
 use Rattle.snesl_data.specs.Types.{Ty}
-use Rattle.snesl_values.specs.Inputs.{Declaration, InputAnswer, InputMeans, spells, refused_at, lawful}
-use Rattle.snesl_values.specs.InputTokens.{none, next, next_at, next_token, first as first_token}
-use Rattle.snesl_lexer.specs.declared.token.Kind.{Kind}
+use Rattle.snesl_values.specs.Inputs.{InputDeclaration, InputAnswer, InputMeans, spells, refused_at, lawful}
+use Rattle.snesl_values.specs.InputTokens.{none, next_lexeme, next_at, next_token, first as first_token}
+use Rattle.snesl_lexer.specs.declared.token.TokenKind.{TokenKind}
 use Rattle.snesl_lexer.specs.declared.token.Token.{Token}
-use Rattle.snesl_lexer.specs.declared.lexer.First.{First}
-use Rattle.snesl_lexer.specs.declared.lexer.First.TheVariants.{Blank, Found, Bad}
+use Rattle.snesl_lexer.specs.declared.lexer.Foremost.{Foremost}
+use Rattle.snesl_lexer.specs.declared.lexer.Foremost.TheVariants.{Blank, Found, Bad}
 use Rattle.snesl_lexer.specs.Lexical.{first, dialect_of, Tokens, none_left, skips, takes, BadAt, bad_here, bad_later, bad_after}
 use Rattle.snesl_tree.specs.Tree.{ProgramTree}
 use Rattle.snesl_grammar.specs.Limits.{greatest_depth, greatest_length}
-use Rattle.snesl_syntax.specs.Answer.{answer}
+use Rattle.snesl_syntax.specs.Answer.{parse_rest}
 use Rattle.snesl_syntax.specs.DialectMachine.{reader}
 use Rattle.snesl_syntax.specs.Parse.{Parses, read, bad_byte}
 use Rattle.snesl_syntax.proofs.Verdicts.{programs_answer}
@@ -32,7 +32,7 @@ with_token token (Some (Ok tokens)) = Some (Ok (token ∷ tokens))
 with_token token other = other
 
 -- the reading of bytes by what stands first
-abbrev pub by_first : First → ℕ → (ℕ → Option (Result (List Token) ℕ)) → Option (Result (List Token) ℕ)
+abbrev pub by_first : Foremost → ℕ → (ℕ → Option (Result (List Token) ℕ)) → Option (Result (List Token) ℕ)
 by_first Blank at rest = rest 1
 by_first (Found kind len) at rest = with_token (record { kind = kind; at = at }) (rest len)
 by_first Bad at rest = Some (Err at)
@@ -61,13 +61,13 @@ reads zero dialect at (b ∷ bs) = tt
 reads (suc n) dialect at (b ∷ bs) =
     of_first (first dialect (b ∷ bs)) refl (λ len. reads n dialect (at + len) (drop len (b ∷ bs)))
   where
-    of_token : (kind : Kind) (len : ℕ) → first dialect (b ∷ bs) ≡ Found kind len → (it : Option (Result (List Token) ℕ))
+    of_token : (kind : TokenKind) (len : ℕ) → first dialect (b ∷ bs) ≡ Found kind len → (it : Option (Result (List Token) ℕ))
         → ReadsFrom dialect (at + len) (drop len (b ∷ bs)) it → ReadsFrom dialect at (b ∷ bs) (with_token (record { kind = kind; at = at }) it)
     of_token kind len e (Some (Ok tokens)) h = takes kind len e h
     of_token kind len e (Some (Err bad)) h = bad_after kind len e h
     of_token kind len e None h = tt
 
-    of_first : (it : First) → first dialect (b ∷ bs) ≡ it
+    of_first : (it : Foremost) → first dialect (b ∷ bs) ≡ it
         → ((len : ℕ) → ReadsFrom dialect (at + len) (drop len (b ∷ bs)) (reading n dialect (at + len) (drop len (b ∷ bs))))
         → ReadsFrom dialect at (b ∷ bs) (by_first it at (λ len. reading n dialect (at + len) (drop len (b ∷ bs))))
     of_first Blank e rest = after_blank dialect at (b ∷ bs) e (reading n dialect (at + 1) (drop 1 (b ∷ bs))) (rest 1)
@@ -77,7 +77,7 @@ reads (suc n) dialect at (b ∷ bs) =
 -- Meanings.
 
 -- a program that declares no inputs
-abbrev pub by_inputs : List ℕ → ProgramTree → List Declaration → Option Meaning
+abbrev pub by_inputs : List ℕ → ProgramTree → List InputDeclaration → Option Meaning
 by_inputs text program [] = Some (meaning_of (program_value text program []))
 by_inputs text program (declaration ∷ declarations) = None
 
@@ -94,7 +94,7 @@ by_answer text (Ok program) = by_verdict text program (program_verdict text prog
 by_answer text (Err refusal) = Some (is_refused refusal)
 
 abbrev pub by_reading : List ℕ → Option (Result (List Token) ℕ) → Option Meaning
-by_reading text (Some (Ok tokens)) = by_answer text (answer reader greatest_depth (length text) reader.start tokens)
+by_reading text (Some (Ok tokens)) = by_answer text (parse_rest reader greatest_depth (length text) reader.start tokens)
 by_reading text (Some (Err at)) = Some (is_refused (refusals.Lex at))
 by_reading text None = None
 
@@ -109,11 +109,11 @@ IsMeaning text None = Unit {0}
 
 -- no input text spells no inputs
 no_input : (dialect : Dialect) → InputMeans dialect [] [] (spells [])
-unfolding next next_at first_token
+unfolding next_lexeme next_at first_token
 no_input dialect = lawful (omega arith) none refl (record { fits = tt; entries = refl })
 
 of_inputs : (text : List ℕ) (program : ProgramTree) (declared : Declared) (t : Ty) → Parses text (Ok program) → program_verdict text program ≡ Ok (declared, t)
-    → (inputs : List Declaration) → declared.inputs ≡ inputs → IsMeaning text (by_inputs text program inputs)
+    → (inputs : List InputDeclaration) → declared.inputs ≡ inputs → IsMeaning text (by_inputs text program inputs)
 of_inputs text program declared t p h [] same =
     evaluated p h (subst (λ inputs. InputMeans program.dialect inputs [] (spells [])) (sym same) (no_input program.dialect))
 of_inputs text program declared t p h (declaration ∷ declarations) same = tt
@@ -133,7 +133,7 @@ of_answer text (Err refusal) p = no_program p
 
 of_reading : (text : List ℕ) → length text ≤ greatest_length → (it : Option (Result (List Token) ℕ)) → ReadsFrom (dialect_of text) 0 text it → IsMeaning text (by_reading text it)
 of_reading text fits (Some (Ok tokens)) h =
-    of_answer text (answer reader greatest_depth (length text) reader.start tokens) (read fits h (programs_answer greatest_depth (length text) tokens (omega arith)))
+    of_answer text (parse_rest reader greatest_depth (length text) reader.start tokens) (read fits h (programs_answer greatest_depth (length text) tokens (omega arith)))
 of_reading text fits (Some (Err at)) h = no_program (bad_byte fits h)
 of_reading text fits None h = tt
 
@@ -155,7 +155,7 @@ by_parsing text (Ok program) = by_typing program (program_verdict text program)
 by_parsing text (Err refusal) = None
 
 abbrev by_tokens : List ℕ → Option (Result (List Token) ℕ) → Option TypedTree
-by_tokens text (Some (Ok tokens)) = by_parsing text (answer reader greatest_depth (length text) reader.start tokens)
+by_tokens text (Some (Ok tokens)) = by_parsing text (parse_rest reader greatest_depth (length text) reader.start tokens)
 by_tokens text other = None
 
 -- the typed program of a text of at most the greatest length
@@ -181,7 +181,7 @@ is_typed text fits = of_reads (reading (length text) (dialect_of text) 0 text) (
 
     of_reads : (it : Option (Result (List Token) ℕ)) → ReadsFrom (dialect_of text) 0 text it → IsTyped text (by_tokens text it)
     of_reads (Some (Ok tokens)) h =
-        of_parsing (answer reader greatest_depth (length text) reader.start tokens) (read fits h (programs_answer greatest_depth (length text) tokens (omega arith)))
+        of_parsing (parse_rest reader greatest_depth (length text) reader.start tokens) (read fits h (programs_answer greatest_depth (length text) tokens (omega arith)))
     of_reads (Some (Err at)) h = tt
     of_reads None h = tt
 

@@ -6,9 +6,9 @@ use Rattle.snesl_data.specs.declared.dialect.Dialect.TheVariants.{One}
 use Rattle.snesl_data.specs.Integers.{IsInteger}
 use Rattle.snesl_data.specs.Types.{Ty, int, seq}
 use Rattle.snesl_data.specs.Values.{Value, a_seq, no_values}
-use Rattle.snesl_values.specs.Inputs.{greatest_input_length, Declaration, Environment, FitDeclarations, AreEntries, equals, comma, left_brace, right_brace, StopsAt, SpellsEnvironment, InputMeans, spells, refused_at, lawful, unlawful}
-use Rattle.snesl_values.specs.InputTokens.{Token, SizedToken, word, integer, first, next, next_at, next_token, HasTokens, none, more}
-use Rattle.snesl_values.specs.Wants.{Want, one, perhaps, a_value, items, further_items, further_wants}
+use Rattle.snesl_values.specs.Inputs.{greatest_input_length, InputDeclaration, Environment, FitDeclarations, AreEntries, equals, comma, left_brace, right_brace, StopsAt, SpellsEnvironment, InputMeans, spells, refused_at, lawful, unlawful}
+use Rattle.snesl_values.specs.InputTokens.{Token, SizedToken, word, integer, first, next_lexeme, next_at, next_token, HasTokens, none, more}
+use Rattle.snesl_values.specs.Wants.{ToCome, one, perhaps, a_value, items, further_items, further_wants}
 use Rattle.snesl_values.proofs.InputWants.{after_one, after_value, another_one, no_integer, seq_stops, first_item, later_item}
 use Rattle.snesl_values.proofs.InputEntries.{stops_lawful}
 
@@ -27,7 +27,7 @@ by_next (Some lexeme) at rest = with_token lexeme.0 (rest lexeme.1)
 -- all tokens from an offset on and where the last ends, if there are no more than so many
 abbrev pub tokens_from : ℕ → List ℕ → ℕ → Option (List Token × ℕ)
 tokens_from zero text at = None
-tokens_from (suc n) text at = by_next (next text at) at (λ len. tokens_from n text (next_at text at + len))
+tokens_from (suc n) text at = by_next (next_lexeme text at) at (λ len. tokens_from n text (next_at text at + len))
 
 -- these are all tokens from an offset on
 abbrev AreTokens : List ℕ → ℕ → Option (List Token × ℕ) → Type 0
@@ -36,21 +36,21 @@ AreTokens text at None = Unit {0}
 
 are_tokens : (n : ℕ) (text : List ℕ) (at : ℕ) → AreTokens text at (tokens_from n text at)
 are_tokens zero text at = tt
-are_tokens (suc n) text at = of_next (next text at) refl (λ len. are_tokens n text (next_at text at + len))
+are_tokens (suc n) text at = of_next (next_lexeme text at) refl (λ len. are_tokens n text (next_at text at + len))
   where
-    of_rest : (lexeme : SizedToken) → next text at ≡ Some lexeme → (rest : Option (List Token × ℕ))
+    of_rest : (lexeme : SizedToken) → next_lexeme text at ≡ Some lexeme → (rest : Option (List Token × ℕ))
         → AreTokens text (next_at text at + lexeme.1) rest → AreTokens text at (with_token lexeme.0 rest)
     of_rest lexeme e (Some found) h = (more lexeme.0 lexeme.1 e h.0, h.1)
     of_rest lexeme e None h = tt
 
-    of_next : (it : Option SizedToken) → next text at ≡ it
+    of_next : (it : Option SizedToken) → next_lexeme text at ≡ it
         → ((len : ℕ) → AreTokens text (next_at text at + len) (tokens_from n text (next_at text at + len)))
         → AreTokens text at (by_next it at (λ len. tokens_from n text (next_at text at + len)))
     of_next None e later = (none, ap (option_map (λ (lexeme : SizedToken). lexeme.0)) e)
     of_next (Some lexeme) e later = of_rest lexeme e (tokens_from n text (next_at text at + lexeme.1)) (later lexeme.1)
 
 -- a text whose tokens spell an environment
-pub spelled : (dialect : Dialect) (declarations : List Declaration) (text : List ℕ) (environment : Environment) (tokens : List Token) (end : ℕ)
+pub spelled : (dialect : Dialect) (declarations : List InputDeclaration) (text : List ℕ) (environment : Environment) (tokens : List Token) (end : ℕ)
     → leb (length text) greatest_input_length ≡ true → tokens_from (suc (length text)) text 0 ≡ Some (tokens, end)
     → FitDeclarations dialect declarations environment → AreEntries environment tokens → InputMeans dialect declarations text (spells environment)
 spelled dialect declarations text environment tokens end short found fits entries =
@@ -60,7 +60,7 @@ spelled dialect declarations text environment tokens end short found fits entrie
 -- Texts that are refused.
 
 -- what may come after the last input
-abbrev further : List Want
+abbrev further : List ToCome
 further = further_wants []
 
 abbrev great_text : List ℕ
@@ -68,7 +68,7 @@ great_text = codes "n = 9223372036854775808"
 
 -- an integer above the greatest
 pub integer_refused : StopsAt (SpellsEnvironment One ((codes "n", int) ∷ [])) (codes "n = 9223372036854775808") 0 4
-unfolding next next_at first
+unfolding next_lexeme next_at first
 integer_refused =
     stops_lawful One great_text ((codes "n", int) ∷ []) 4
     (after_one One great_text (word (codes "n")) (one equals ∷ a_value int ∷ further) 0 1 4 (more (word (codes "n")) 1 refl none)
@@ -86,7 +86,7 @@ open_text = codes "xs = {{}"
 
 -- a sequence that is not closed
 pub sequence_refused : StopsAt (SpellsEnvironment One ((codes "xs", seq (seq int)) ∷ [])) (codes "xs = {{}") 0 8
-unfolding next next_at first
+unfolding next_lexeme next_at first
 sequence_refused =
     stops_lawful One open_text ((codes "xs", seq (seq int)) ∷ []) 8
     (after_one One open_text (word (codes "xs")) (one equals ∷ a_value (seq (seq int)) ∷ further) 0 2 8 (more (word (codes "xs")) 2 refl none)

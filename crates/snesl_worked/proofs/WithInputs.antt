@@ -4,7 +4,7 @@ use Rattle.snesl_data.specs.Types.{Ty}
 use Rattle.snesl_data.specs.Values.{Value, a_seq, a_vec, values_of}
 use Rattle.snesl_data.specs.declared.dialect.Dialect.TheVariants.{One}
 use Rattle.snesl_values.specs.Inputs.{Environment, environment_tokens, spells, refused_at, unlawful}
-use Rattle.snesl_values.specs.InputTokens.{next, next_at, first}
+use Rattle.snesl_values.specs.InputTokens.{next_lexeme, next_at, first}
 use Rattle.std.proofs.lemmas.Bool.{leb-true}
 use Rattle.snesl_worked.specs.Rows.{Row, ◌means◌, Hold, number, numbers, sequence}
 use Rattle.snesl_meaning.specs.Meaning.{has_value}
@@ -32,7 +32,7 @@ row zero (first ∷ rows) = first
 row (suc n) (first ∷ rows) = row n rows
 
 pub with_inputs_hold : Hold with_inputs
-unfolding next next_at first
+unfolding next_lexeme next_at first
 with_inputs_hold = (
   row_holds_on (row 0 with_inputs) (spells sequences) refl
       (spelled One _ _ sequences (environment_tokens sequences) 21 refl refl (refl, (tt, ((refl, (refl, (refl, tt))), ((refl, tt), tt))), tt) (inl refl), refl),

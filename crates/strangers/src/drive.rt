@@ -13,7 +13,7 @@ use flow_drive::{
 use flow_graph::StreamNode;
 use flow_networks::Graph;
 use snesl_flatten::flatten;
-use snesl_types::Typed;
+use snesl_types::TypedProgram;
 use snesl_values::{Inputs, Refusal};
 use std::alloc::{AllocError, Global};
 use std::sync::Arc;
@@ -49,7 +49,7 @@ impl Gate for Open {
 pub fn rested(
     rt: &impl Threads,
     alloc: Global,
-    typed: &Typed,
+    typed: &TypedProgram,
     inputs: Inputs,
     config: &Config,
 ) -> Result<Option<Rested>, Refused> {
@@ -66,7 +66,7 @@ pub fn rested(
 pub fn rested_with<S: Start>(
     rt: &impl Threads,
     alloc: Global,
-    typed: &Typed,
+    typed: &TypedProgram,
     inputs: Inputs,
     config: &Config,
     start: &mut S,
@@ -102,7 +102,7 @@ impl From<DriveError> for Refused {
 /// The shares of a program's network, over boxes, if the inputs are its own.
 pub fn shares(
     alloc: Global,
-    typed: &Typed,
+    typed: &TypedProgram,
     inputs: Inputs,
     config: &Config,
 ) -> Result<Option<Vec<Share<Boxes>>>, Refused> {
@@ -117,7 +117,7 @@ pub fn shares(
 /// The shares of a program's network, over rings, if the inputs are its own.
 pub fn ring_shares(
     alloc: Global,
-    typed: &Typed,
+    typed: &TypedProgram,
     inputs: Inputs,
     config: &Config,
 ) -> Result<Option<Vec<Share<Rings>>>, Refused> {
@@ -143,7 +143,7 @@ pub fn pumped<E: Ends + Drop>(share: Share<E>, config: &Config) -> Option<(bool,
 pub fn shares_after_epochs<S: Start>(
     rt: &impl Threads,
     alloc: Global,
-    typed: &Typed,
+    typed: &TypedProgram,
     inputs: Inputs,
     config: &Config,
     start: &mut S,

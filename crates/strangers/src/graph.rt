@@ -1,7 +1,8 @@
 // Graphs, and their steps.
 use flow_edges::{Ends, Kind, Table};
 use flow_graph::{
-    Edge, Graph, GraphBuilder, Moved, NoMemory, Settled, StreamNode, settle, step_block, step_once,
+    Edge, Graph, GraphBuilder, NoMemory, Settled, Stepped, StreamNode, settle, step_block,
+    step_once,
 };
 use flow_scalar::workers::Sink;
 use flow_scalar::{Node, Source, Stream};
@@ -35,8 +36,8 @@ pub fn steps(graph: &mut Graph, ends: &mut Table) -> Result<usize, NoMemory> {
     for node in 0..graph.nodes() {
         if node < graph.nodes() && graph.has_ends(ends, node) {
             match step_once(graph, ends, node)? {
-                Moved::One => moved = moved.saturating_add(1),
-                Moved::Nothing => {}
+                Stepped::One => moved = moved.saturating_add(1),
+                Stepped::Nothing => {}
             }
         }
     }

@@ -1,18 +1,18 @@
 // Types of programs, and the slow evaluator.
 use snesl_syntax::Program;
-use snesl_types::{Typed, check, plain};
+use snesl_types::{TypedProgram, check, plain};
 use snesl_values::{Datum, Dialect, Fault, Inputs, Refusal, Ty};
 use std::alloc::{AllocError, Global};
 
 /// A program with its types.
-pub fn typed_of(alloc: Global, program: &Program) -> Result<Typed, Refusal> {
+pub fn typed_of(alloc: Global, program: &Program) -> Result<TypedProgram, Refusal> {
     check(alloc, program)
 }
 
 /// What a program gives for inputs, if they are its own.
 pub fn answer_of(
     alloc: Global,
-    typed: &Typed,
+    typed: &TypedProgram,
     inputs: &Inputs,
 ) -> Result<Option<Result<Datum, Fault>>, AllocError> {
     if !typed.fits(inputs) {
@@ -22,7 +22,7 @@ pub fn answer_of(
 }
 
 /// The dialect and the declared inputs of a program.
-pub fn declared<'a>(typed: &'a Typed) -> (Dialect, &'a [(Vec<u8>, Ty)]) {
+pub fn declared<'a>(typed: &'a TypedProgram) -> (Dialect, &'a [(Vec<u8>, Ty)]) {
     (typed.dialect(), typed.decls())
 }
 

@@ -17,10 +17,7 @@ use Rattle.flow_folds.specs.OwnDialect.{own_read, own_write}
 use Rattle.flow_folds.specs.Rows.{LengthRow}
 use Rattle.flow_folds.specs.declared.length.Count.{Count}
 use Rattle.flow_folds.specs.declared.length.Count.TheVariants.{Counting, Due}
-use Rattle.flow_folds.specs.declared.length.Length.{Length}
-use Rattle.flow_folds.specs.LengthMachine.{one_element_more, length_at_end, length_counts, length_move, length_in_range, length_machine, length_view}
-use Rattle.flow_base.specs.Members.{NodeOf, node_of}
-use Rattle.flow_base.specs.declared.node.Node.{Node}
+use Rattle.flow_folds.specs.LengthMachine.{one_element_more, length_at_end, length_counts, length_move, length_in_range, length_machine}
 
 -- the number of a segment that ended is due in the range
 ended_fits : (dialect : Dialect) (n : ℕ) → OfNext (length_at_end dialect n) (length_in_range dialect)
@@ -132,7 +129,3 @@ length_laws = record {
     λ r. row_of (run_is length_machine dialect (Owes dialect) (sound dialect) (start [] (All-nil (λ n. IsInteger dialect (pos n)))) (earlier dialect) (Counting zero) (columns 1 i) (columns 1 o) r),
   );
 }
-
--- the transducer that a node makes of it
-abbrev pub length_node : NodeOf (Node Length)
-length_node = node_of length_view length_machine length_laws

@@ -19,11 +19,9 @@ use Rattle.flow_folds.specs.OwnDialect.{own_read, own_write}
 use Rattle.flow_folds.specs.Scalars.{cell_of_scalar, scalar_in}
 use Rattle.flow_folds.specs.ScalarCells.{scalar_in-cell, scalar_in-some, is_of-cell, cell_in_range, scalar_in_range}
 use Rattle.flow_folds.specs.Rows.{Reduced, ReduceRow, reduce_reads, reduce_writes}
-use Rattle.flow_folds.specs.ReduceMachine.{at_flag, at_element, reduced_kind, reduce_move, OfStage, reduce_in_range, reduce_machine, reduce_view}
+use Rattle.flow_folds.specs.ReduceMachine.{at_flag, at_element, reduced_kind, reduce_move, OfStage, reduce_in_range, reduce_machine}
 use Rattle.flow_folds.specs.declared.reduce.Stage.{Stage}
 use Rattle.flow_folds.specs.declared.reduce.Stage.TheVariants.{Start, Flag, Element, Value}
-use Rattle.flow_base.specs.Members.{NodeOf, node_of}
-use Rattle.flow_base.specs.declared.node.Node.{Node}
 use Rattle.flow_folds.specs.declared.reduce.Reduce.{Reduce}
 
 -- an element of another kind is of another type, and so Shape already
@@ -190,7 +188,3 @@ reduce_laws = record {
   starts_of_kind = λ _. tt;
   rows = λ p. rows p.0 p.1;
 }
-
--- the transducer that a node makes of it
-abbrev pub reduce_node : NodeOf (Node Reduce)
-reduce_node = node_of reduce_view reduce_machine reduce_laws

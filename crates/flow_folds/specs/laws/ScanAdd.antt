@@ -15,12 +15,10 @@ use Rattle.flow_base.specs.Machines.{on_flag, on_int, MachineLaws, SoundAt, OnNe
 use Rattle.flow_base.specs.MachineRuns.{Then, reading, writing, run_is}
 use Rattle.flow_folds.specs.OwnDialect.{own_read, own_write}
 use Rattle.flow_folds.specs.Rows.{Scanned, scan_add_reads, scan_add_writes}
-use Rattle.flow_folds.specs.ScanAddMachine.{after_sum, scan_add_move, scan_add_in_range, scan_add_machine, scan_add_view}
+use Rattle.flow_folds.specs.ScanAddMachine.{after_sum, scan_add_move, scan_add_in_range, scan_add_machine}
 use Rattle.flow_folds.specs.declared.scan_add.Stage.{Stage}
 use Rattle.flow_folds.specs.declared.scan_add.Stage.TheVariants.{Start, Flag, Element, Write}
 use Rattle.flow_folds.specs.declared.scan_add.ScanAdd.{ScanAdd}
-use Rattle.flow_base.specs.Members.{NodeOf, node_of}
-use Rattle.flow_base.specs.declared.node.Node.{Node}
 
 -- a sum in front of those that come after it
 abbrev and_sums : ℤ → Result (List ℤ) FaultKind → Result (List ℤ) FaultKind
@@ -167,7 +165,3 @@ scan_add_laws = record {
   starts_of_kind = λ _. tt;
   rows = λ dialect. rows_from (scan_add_reads dialect) (scan_add_writes dialect) (Runs scan_add_machine dialect Start) (runs dialect) (λ i o r. whole (run_is scan_add_machine dialect (Owes dialect) (sound dialect) (start []) (earlier dialect) Start i o r)) 2 1;
 }
-
--- the transducer that a node makes of it
-abbrev pub scan_add_node : NodeOf (Node ScanAdd)
-scan_add_node = node_of scan_add_view scan_add_machine scan_add_laws

@@ -19,10 +19,7 @@ use Rattle.flow_folds.specs.Scalars.{cell_of_scalar}
 use Rattle.flow_folds.specs.ScalarCells.{is_of-cell, cell_in_range}
 use Rattle.flow_scalar.specs.declared.binary.Progress.{Progress}
 use Rattle.flow_scalar.specs.declared.binary.Progress.TheVariants.{Start, Left, Value}
-use Rattle.flow_scalar.specs.BinaryMachine.{binary_next, binary_move, binary_of_kind, binary_in_range, binary_machine, binary_view}
-use Rattle.flow_base.specs.Members.{NodeOf, node_of}
-use Rattle.flow_base.specs.declared.node.Node.{Node}
-use Rattle.flow_scalar.specs.declared.binary.Binary.{Binary}
+use Rattle.flow_scalar.specs.BinaryMachine.{binary_next, binary_move, binary_of_kind, binary_in_range, binary_machine}
 
 sound : (dialect : Dialect) (op : BinaryOperator) (s : Progress) → SoundAt binary_machine (dialect, op) s (binary_move dialect op s)
 sound dialect op Start = (
@@ -87,7 +84,3 @@ binary_laws = record {
   starts_of_kind = λ _. tt;
   rows = λ p i o. rows p.0 p.1 i o;
 }
-
--- the transducer that a node makes of it
-abbrev pub binary_node : NodeOf (Node Binary)
-binary_node = node_of binary_view binary_machine binary_laws

@@ -10,10 +10,7 @@ use Rattle.flow_base.specs.MachineRuns.{Then, reading, writing, run_is}
 use Rattle.flow_scalar.specs.Rows.{const_reads, const_writes}
 use Rattle.flow_folds.specs.Scalars.{cell_of_scalar}
 use Rattle.flow_folds.specs.ScalarCells.{is_of-cell, cell_in_range}
-use Rattle.flow_scalar.specs.ConstMachine.{const_move, const_machine, const_view}
-use Rattle.flow_base.specs.Members.{NodeOf, node_of}
-use Rattle.flow_base.specs.declared.node.Node.{Node}
-use Rattle.flow_scalar.specs.declared.constant.Const.{Const}
+use Rattle.flow_scalar.specs.ConstMachine.{const_move, const_machine}
 
 sound : (k : Scalar) (due : Bool) → SoundAt const_machine k due (const_move k due)
 sound k false = (refl, (omega arith, refl, λ _ _ _. tt, λ _ _ h _ _ _. h))
@@ -43,7 +40,3 @@ const_laws = record {
   starts_of_kind = λ _. tt;
   rows = λ k i o. rows_from const_reads (const_writes k) (Runs const_machine k false) (runs k) (λ i o r. whole (run_is const_machine k (Owes k) (sound k) (start zero) (earlier k) false i o r)) 1 1 i o;
 }
-
--- the transducer that a node makes of it
-abbrev pub const_node : NodeOf (Node Const)
-const_node = node_of const_view const_machine const_laws

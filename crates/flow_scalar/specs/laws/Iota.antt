@@ -12,11 +12,9 @@ use Rattle.flow_base.specs.Columns.{Columns, push_column, rows_from}
 use Rattle.flow_base.specs.Machines.{MachineLaws, SoundAt, OfKind, OfRange, on_int, RunOf, Runs}
 use Rattle.flow_base.specs.MachineRuns.{Then, reading, writing, run_is}
 use Rattle.flow_scalar.specs.Rows.{numbers_from, numbers_below, iota_reads, iota_writes}
-use Rattle.flow_scalar.specs.IotaMachine.{number_after, natural_of, count_left, first_flag, flag_move, iota_move, iota_in_range, iota_machine, iota_view}
+use Rattle.flow_scalar.specs.IotaMachine.{number_after, natural_of, count_left, first_flag, flag_move, iota_move, iota_in_range, iota_machine}
 use Rattle.flow_scalar.specs.declared.iota.Iota.{Iota}
 use Rattle.flow_scalar.specs.declared.iota.Iota.TheVariants.{Between, Flag, Number}
-use Rattle.flow_base.specs.Members.{NodeOf, node_of}
-use Rattle.flow_base.specs.declared.node.Node.{Node}
 
 -- an integer that is not negative is a natural number
 natural_is : (z : ℤ) → pos 0 ≤ℤ z → z ≡ pos (natural_of z)
@@ -143,7 +141,3 @@ iota_laws = record {
   starts_of_kind = λ _. tt;
   rows = λ _. rows_from iota_reads iota_writes (Runs iota_machine tt Between) runs (λ i o r. whole (run_is iota_machine tt Owes sound (start []) earlier Between i o r)) 1 2;
 }
-
--- the transducer that a node makes of it
-abbrev pub iota_node : NodeOf (Node Iota)
-iota_node = node_of iota_view iota_machine iota_laws

@@ -7,10 +7,7 @@ use Rattle.flow_base.specs.Ranges.{AllOf}
 use Rattle.flow_base.specs.Columns.{Columns, columns, push_column}
 use Rattle.flow_base.specs.Machines.{MachineLaws, SoundAt, Run, Runs}
 use Rattle.flow_base.specs.MachineRuns.{Then, reading, writing, run_is, leads_on, led_on}
-use Rattle.flow_scalar.specs.SinkMachine.{sink_move, sink_machine, sink_view}
-use Rattle.flow_base.specs.Members.{NodeOf, node_of}
-use Rattle.flow_base.specs.declared.node.Node.{Node}
-use Rattle.flow_scalar.specs.declared.sink.Sink.{Sink}
+use Rattle.flow_scalar.specs.SinkMachine.{sink_move, sink_machine}
 
 sound : (kind : Kind) (s : Unit {0}) → SoundAt sink_machine kind s (sink_move kind s)
 sound kind s = (refl, (omega arith, refl, λ _ _ _. tt, λ _ _ _ _ _ _. tt))
@@ -42,7 +39,3 @@ sink_laws = record {
     λ r. row_of (run_is sink_machine kind (Owes kind) (sound kind) (start [] tt) (earlier kind) tt (columns 1 i) (columns 0 o) r),
   );
 }
-
--- the transducer that a node makes of it
-abbrev pub sink_node : NodeOf (Node Sink)
-sink_node = node_of sink_view sink_machine sink_laws

@@ -15,9 +15,7 @@ use Rattle.flow_base.specs.Transducers.{BehaviourLaws, IsLawfulTraffic, closed}
 use Rattle.flow_base.specs.Promises.{Promise, KeepsWrite, Keeps, PromiseLaws}
 use Rattle.flow_base.specs.Promised.{promised_laws}
 use Rattle.flow_scalar.specs.Streams.{Items}
-use Rattle.flow_scalar.specs.SourceBehaviour.{SourceState, sending, finished, source_want, source_opening, source_items, source_behaviour, source_state}
-use Rattle.flow_base.specs.Members.{NodeOf}
-use Rattle.flow_scalar.specs.declared.source.Source.{Source}
+use Rattle.flow_scalar.specs.SourceBehaviour.{SourceState, sending, finished, source_want, source_opening, source_items, source_behaviour}
 
 -- what is still to be written: the items that are left and then the end, or nothing
 abbrev owes : SourceState → Lists Signal → Type 0
@@ -135,7 +133,3 @@ promise_laws = record {
 
 pub source_laws : BehaviourLaws source_behaviour
 source_laws = promised_laws source_behaviour promise promise_laws
-
--- the transducer, with its states and its laws
-abbrev pub source_node : NodeOf Source
-source_node = record { State = SourceState; state = λ n. source_state n.stream n.written n.ended; behaviour = source_behaviour; laws = source_laws }

@@ -17,10 +17,7 @@ use Rattle.flow_scalar.specs.Operands.{on_operand}
 use Rattle.flow_folds.specs.OwnDialect.{own_read, own_write}
 use Rattle.flow_folds.specs.Scalars.{cell_of_scalar}
 use Rattle.flow_folds.specs.ScalarCells.{is_of-cell, cell_in_range}
-use Rattle.flow_scalar.specs.UnaryMachine.{unary_next, unary_move, unary_in_range, unary_machine, unary_view}
-use Rattle.flow_base.specs.Members.{NodeOf, node_of}
-use Rattle.flow_base.specs.declared.node.Node.{Node}
-use Rattle.flow_scalar.specs.declared.unary.Unary.{Unary}
+use Rattle.flow_scalar.specs.UnaryMachine.{unary_next, unary_move, unary_in_range, unary_machine}
 
 sound : (dialect : Dialect) (op : UnaryOperator) (value : Option Scalar) → SoundAt unary_machine (dialect, op) value (unary_move dialect op value)
 sound dialect op None = (
@@ -70,7 +67,3 @@ unary_laws = record {
   starts_of_kind = λ _. tt;
   rows = λ p i o. rows p.0 p.1 i o;
 }
-
--- the transducer that a node makes of it
-abbrev pub unary_node : NodeOf (Node Unary)
-unary_node = node_of unary_view unary_machine unary_laws

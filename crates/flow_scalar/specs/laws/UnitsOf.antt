@@ -6,10 +6,7 @@ use Rattle.flow_base.specs.Columns.{Columns, push_column, rows_from}
 use Rattle.flow_base.specs.Machines.{MachineLaws, SoundAt, Runs}
 use Rattle.flow_base.specs.MachineRuns.{Then, reading, writing, run_is}
 use Rattle.flow_scalar.specs.Rows.{units_of_reads, units_of_writes}
-use Rattle.flow_scalar.specs.UnitsOfMachine.{units_of_move, units_of_machine, units_of_view}
-use Rattle.flow_base.specs.Members.{NodeOf, node_of}
-use Rattle.flow_base.specs.declared.node.Node.{Node}
-use Rattle.flow_scalar.specs.declared.units_of.UnitsOf.{UnitsOf}
+use Rattle.flow_scalar.specs.UnitsOfMachine.{units_of_move, units_of_machine}
 
 sound : (s : Bool) → SoundAt units_of_machine tt s (units_of_move s)
 sound false = (refl, (omega arith, refl, λ _. (tt, tt), λ _ _ _. (tt, tt)))
@@ -41,7 +38,3 @@ units_of_laws = record {
   starts_of_kind = λ _. tt;
   rows = λ _ i o. rows_from units_of_reads units_of_writes (Runs units_of_machine tt false) runs (λ i o r. whole (run_is units_of_machine tt Owes sound (start []) earlier false i o r)) 1 1 i o;
 }
-
--- the transducer that a node makes of it
-abbrev pub units_of_node : NodeOf (Node UnitsOf)
-units_of_node = node_of units_of_view units_of_machine units_of_laws

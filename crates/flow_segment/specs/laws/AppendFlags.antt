@@ -8,7 +8,7 @@ use Rattle.flow_base.specs.Columns.{Columns, push_column, rows_from}
 use Rattle.flow_base.specs.Machines.{on_flag, MachineLaws, SoundAt, Runs}
 use Rattle.flow_base.specs.MachineRuns.{Then, reading, writing, run_is}
 use Rattle.flow_segment.specs.Rows.{append_flags_reads, append_flags_writes}
-use Rattle.flow_segment.specs.laws.FlagLaws.{from_start, flag_laws, FlagNode, flag_node}
+use Rattle.flow_segment.specs.laws.FlagLaws.{from_start, flag_laws}
 use Rattle.flow_segment.specs.AppendFlagsMachine.{append_flags_move, append_flags_table, append_flags_machine}
 use Rattle.flow_segment.specs.declared.append_flags.AppendFlagsStage.{AppendFlagsStage}
 use Rattle.flow_segment.specs.declared.append_flags.AppendFlagsStage.TheVariants.{Start, First, Second, FirstElement, SecondElement, End}
@@ -82,7 +82,3 @@ append_flags_laws = flag_laws append_flags_table sound refl (
     rows_from append_flags_reads append_flags_writes (Runs append_flags_machine tt Start)
     (λ xs. subst (Does Start (firsts xs) (seconds xs)) (sym (written_is xs)) (runs xs))
     (λ i o r. whole (run_is append_flags_machine tt Owes sound (start []) earlier Start i o r)) 2 1)
-
--- the transducer that a node makes of it
-abbrev pub append_flags_node : FlagNode AppendFlagsStage
-append_flags_node = flag_node append_flags_table append_flags_laws

@@ -7,7 +7,7 @@ use Rattle.flow_base.specs.Columns.{Columns, push_column, rows_from}
 use Rattle.flow_base.specs.Machines.{on_flag, MachineLaws, SoundAt, Runs}
 use Rattle.flow_base.specs.MachineRuns.{Then, reading, writing, run_is}
 use Rattle.flow_segment.specs.Rows.{concat_flags_reads, concat_flags_writes}
-use Rattle.flow_segment.specs.laws.FlagLaws.{from_start, flag_laws, FlagNode, flag_node, all_elements, sum_flags, sums_are}
+use Rattle.flow_segment.specs.laws.FlagLaws.{from_start, flag_laws, all_elements, sum_flags, sums_are}
 use Rattle.flow_segment.specs.ConcatFlagsMachine.{concat_flags_move, concat_flags_table, concat_flags_machine}
 use Rattle.flow_segment.specs.declared.concat_flags.ConcatFlagsStage.{ConcatFlagsStage}
 use Rattle.flow_segment.specs.declared.concat_flags.ConcatFlagsStage.TheVariants.{Start, Outer, Inner, Element, End}
@@ -62,7 +62,3 @@ concat_flags_laws = flag_laws concat_flags_table sound refl (
     rows_from concat_flags_reads concat_flags_writes (Runs concat_flags_machine tt Start)
     (λ groups. subst (Does Start (flags (lengths groups)) (flags (concatenation groups))) (sym (sums_are (λ m. m) groups)) (runs groups))
     (λ i o r. whole (run_is concat_flags_machine tt Owes sound (start []) earlier Start i o r)) 2 1)
-
--- the transducer that a node makes of it
-abbrev pub concat_flags_node : FlagNode ConcatFlagsStage
-concat_flags_node = flag_node concat_flags_table concat_flags_laws

@@ -9,10 +9,7 @@ use Rattle.flow_base.specs.Columns.{Columns, columns, push_column}
 use Rattle.flow_base.specs.Machines.{MachineLaws, SoundAt, Run, Runs}
 use Rattle.flow_base.specs.MachineRuns.{Then, reading, writing, run_is, leads_on, led_on}
 use Rattle.flow_segment.specs.Rows.{repeated, DistRow}
-use Rattle.flow_segment.specs.DistMachine.{DistState, at_start, at_flag, at_copy, dist_move, dist_machine, dist_view}
-use Rattle.flow_base.specs.Members.{NodeOf, node_of}
-use Rattle.flow_base.specs.declared.node.Node.{Node}
-use Rattle.flow_segment.specs.declared.dist.Dist.{Dist}
+use Rattle.flow_segment.specs.DistMachine.{DistState, at_start, at_flag, at_copy, dist_move, dist_machine}
 
 sound : (k : Kind) (s : DistState) → SoundAt dist_machine k s (dist_move k s)
 sound k at_start = (refl, (omega arith, refl, λ _ x e. e, λ _ _ _ x e h. h))
@@ -64,7 +61,3 @@ dist_laws = record {
     λ r. row_of (run_is dist_machine k (Owes k) (sound k) (start [] [] refl tt) (earlier k) at_start (columns 2 i) (columns 1 o) r),
   );
 }
-
--- the transducer that a node makes of it
-abbrev pub dist_node : NodeOf (Node Dist)
-dist_node = node_of dist_view dist_machine dist_laws

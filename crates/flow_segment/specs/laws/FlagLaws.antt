@@ -9,10 +9,7 @@ use Rattle.flow_base.specs.Segments.{elements-add}
 use Rattle.flow_base.specs.Columns.{Columns, columns}
 use Rattle.flow_base.specs.Machines.{Taking, begins, takes, Machine, ask_of, RunOf, Runs, SoundAt, MachineLaws}
 use Rattle.flow_base.specs.declared.worker.Ask.TheVariants.{Begin}
-use Rattle.flow_base.specs.Members.{NodeOf, node_of}
-use Rattle.flow_base.specs.declared.node.Node.{Node}
-use Rattle.flow_segment.specs.FlagTables.{FlagTable, over_flags, stage_view}
-use Rattle.flow_segment.specs.declared.over_flags.OverFlags.{OverFlags}
+use Rattle.flow_segment.specs.FlagTables.{FlagTable, over_flags}
 
 -- what runs from a state that reads from port 0 runs from one that begins an instance with the same
 pub from_start : {P S : Type 0} (m : Machine P S) (p : P) (t : Taking S) {i o : Columns} → ((n : ℕ) × RunOf m p n (takes 0 t) i o) → (n : ℕ) × RunOf m p n (begins t) i o
@@ -23,13 +20,6 @@ from_start m p t (zero, r) = absurd r
 pub flag_laws : {S : Type 0} (t : FlagTable S) → ((s : S) → SoundAt (over_flags t) tt s (t.move s)) → ask_of (t.move t.start) ≡ Begin →
     ((i o : Lists Cell) → t.row i o ↔ Runs (over_flags t) tt t.start (columns t.inputs i) (columns t.outputs o)) → MachineLaws (over_flags t)
 flag_laws t sound starts rows = record { sound = λ _. sound; begins_at_start = λ _. starts; starts_of_kind = λ _. tt; rows = λ _. rows }
-
--- the transducer that a node makes of a worker over flags
-abbrev pub FlagNode : Type 0 → Type 1
-FlagNode S = NodeOf (Node (OverFlags S))
-
-abbrev pub flag_node : {S : Type 0} (t : FlagTable S) → MachineLaws (over_flags t) → FlagNode S
-flag_node t laws = node_of stage_view (over_flags t) laws
 
 -- for each number as many elements as f says, then the list
 abbrev pub all_elements : (ℕ → ℕ) → List ℕ → List Cell → List Cell

@@ -7,7 +7,7 @@ use Rattle.flow_base.specs.Columns.{Columns, push_column, rows_from}
 use Rattle.flow_base.specs.Machines.{MachineLaws, SoundAt, Runs}
 use Rattle.flow_base.specs.MachineRuns.{Then, reading, writing, run_is}
 use Rattle.flow_segment.specs.Rows.{flag_of_bool_reads, flag_of_bool_writes}
-use Rattle.flow_segment.specs.laws.FlagLaws.{flag_laws, FlagNode, flag_node}
+use Rattle.flow_segment.specs.laws.FlagLaws.{flag_laws}
 use Rattle.flow_segment.specs.FlagOfBoolMachine.{flag_of_bool_move, flag_of_bool_table, flag_of_bool_machine}
 use Rattle.flow_segment.specs.declared.flag_of_bool.FlagOfBoolStage.{FlagOfBoolStage}
 use Rattle.flow_segment.specs.declared.flag_of_bool.FlagOfBoolStage.TheVariants.{Start, Element, End}
@@ -41,7 +41,3 @@ whole (start truths) = (truths, refl, refl)
 pub flag_of_bool_laws : MachineLaws flag_of_bool_machine
 flag_of_bool_laws = flag_laws flag_of_bool_table sound refl (
     rows_from flag_of_bool_reads flag_of_bool_writes (Runs flag_of_bool_machine tt Start) runs (λ i o r. whole (run_is flag_of_bool_machine tt Owes sound (start []) earlier Start i o r)) 1 1)
-
--- the transducer that a node makes of it
-abbrev pub flag_of_bool_node : FlagNode FlagOfBoolStage
-flag_of_bool_node = flag_node flag_of_bool_table flag_of_bool_laws

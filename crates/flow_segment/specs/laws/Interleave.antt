@@ -10,11 +10,9 @@ use Rattle.flow_base.specs.Machines.{Run, Runs, SoundAt, MachineLaws}
 use Rattle.flow_base.specs.MachineRuns.{leads_on, led_on, reading, writing, Then, run_is}
 use Rattle.flow_segment.specs.Rows.{Sides, lefts, rights, alternated, AllOfSides, interleave_reads}
 use Rattle.flow_segment.specs.laws.FlagLaws.{from_start}
-use Rattle.flow_segment.specs.InterleaveMachine.{InterleaveState, at_start, at_flag, at_item, at_copy, flag_of, interleave_move, interleave_machine, interleave_view}
+use Rattle.flow_segment.specs.InterleaveMachine.{InterleaveState, at_start, at_flag, at_item, at_copy, flag_of, interleave_move, interleave_machine}
 use Rattle.flow_segment.specs.declared.interleave.Side.{Side}
 use Rattle.flow_segment.specs.declared.interleave.Side.TheVariants.{Left, Right}
-use Rattle.flow_base.specs.Members.{NodeOf, node_of}
-use Rattle.flow_base.specs.declared.node.Node.{Node}
 use Rattle.flow_segment.specs.declared.interleave.Interleave.{Interleave}
 
 sound : (k : Kind) (s : InterleaveState) → SoundAt interleave_machine k s (interleave_move k s)
@@ -88,7 +86,3 @@ interleave_laws = record {
   rows = λ k i o. rows_from {X = (xs : Sides Cell) × AllOfSides k xs} (λ x. interleave_reads x.0) (λ x. alternated x.0 ∷ []) (Runs interleave_machine k at_start) (λ x. runs k x.0 x.1) (
       λ i o r. whole k (run_is interleave_machine k (Owes k) (sound k) (start [] tt) (earlier k) at_start i o r)) 4 1 i o;
 }
-
--- the transducer that a node makes of it
-abbrev pub interleave_node : NodeOf (Node Interleave)
-interleave_node = node_of interleave_view interleave_machine interleave_laws

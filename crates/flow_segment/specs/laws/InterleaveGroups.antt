@@ -7,7 +7,7 @@ use Rattle.flow_base.specs.Columns.{Columns, push_column, rows_from}
 use Rattle.flow_base.specs.Machines.{on_flag, Runs, SoundAt, MachineLaws}
 use Rattle.flow_base.specs.MachineRuns.{reading, writing, Then, run_is}
 use Rattle.flow_segment.specs.Rows.{Sides, lefts, rights, alternated, interleave_groups_reads}
-use Rattle.flow_segment.specs.laws.FlagLaws.{from_start, flag_laws, FlagNode, flag_node}
+use Rattle.flow_segment.specs.laws.FlagLaws.{from_start, flag_laws}
 use Rattle.flow_segment.specs.InterleaveGroupsMachine.{interleave_groups_move, interleave_groups_table, interleave_groups_machine}
 use Rattle.flow_segment.specs.declared.interleave_groups.InterleaveGroupsStage.{InterleaveGroupsStage}
 use Rattle.flow_segment.specs.declared.interleave_groups.InterleaveGroupsStage.TheVariants.{Start, Left, LeftGroup, LeftElement, LeftEnd, Right, RightGroup, RightElement, RightEnd}
@@ -86,7 +86,3 @@ whole (start xs) = (xs, refl, refl)
 pub interleave_groups_laws : MachineLaws interleave_groups_machine
 interleave_groups_laws = flag_laws interleave_groups_table sound refl (
     rows_from interleave_groups_reads (λ xs. flags (alternated xs) ∷ []) (Runs interleave_groups_machine tt Start) runs (λ i o r. whole (run_is interleave_groups_machine tt Owes sound (start []) earlier Start i o r)) 4 1)
-
--- the transducer that a node makes of it
-abbrev pub interleave_groups_node : FlagNode InterleaveGroupsStage
-interleave_groups_node = flag_node interleave_groups_table interleave_groups_laws

@@ -8,9 +8,7 @@ use Rattle.flow_base.specs.Columns.{Columns, push_column, rows_from}
 use Rattle.flow_base.specs.Machines.{Run, Runs, SoundAt, MachineLaws}
 use Rattle.flow_base.specs.MachineRuns.{leads_on, led_on, reading, writing, Then, run_is}
 use Rattle.flow_segment.specs.Rows.{Pairs, pair_items, pack_reads, items_kept}
-use Rattle.flow_segment.specs.PackMachine.{PackState, at_start, at_item, at_copy, pack_move, pack_machine, pack_view}
-use Rattle.flow_base.specs.Members.{NodeOf, node_of}
-use Rattle.flow_base.specs.declared.node.Node.{Node}
+use Rattle.flow_segment.specs.PackMachine.{PackState, at_start, at_item, at_copy, pack_move, pack_machine}
 use Rattle.flow_segment.specs.declared.pack.Pack.{Pack}
 
 sound : (k : Kind) (s : PackState) → SoundAt pack_machine k s (pack_move k s)
@@ -60,7 +58,3 @@ pack_laws = record {
   rows = λ k i o. rows_from {X = (xs : Pairs) × AllOf k (pair_items xs)} (λ x. pack_reads x.0) (λ x. items_kept x.0 ∷ []) (Runs pack_machine k at_start) (λ x. runs k x.0 x.1) (
       λ i o r. whole k (run_is pack_machine k (Owes k) (sound k) (start [] tt) (earlier k) at_start i o r)) 2 1 i o;
 }
-
--- the transducer that a node makes of it
-abbrev pub pack_node : NodeOf (Node Pack)
-pack_node = node_of pack_view pack_machine pack_laws

@@ -7,7 +7,7 @@ use Rattle.flow_base.specs.Columns.{Columns, push_column, rows_from}
 use Rattle.flow_base.specs.Machines.{MachineLaws, SoundAt, Runs}
 use Rattle.flow_base.specs.MachineRuns.{Then, reading, writing, run_is}
 use Rattle.flow_segment.specs.Rows.{pack_groups_reads, kept_flags, pack_groups_writes}
-use Rattle.flow_segment.specs.laws.FlagLaws.{flag_laws, FlagNode, flag_node}
+use Rattle.flow_segment.specs.laws.FlagLaws.{flag_laws}
 use Rattle.flow_segment.specs.PackGroupsMachine.{pack_groups_move, pack_groups_table, pack_groups_machine}
 use Rattle.flow_segment.specs.declared.pack_groups.PackGroupsStage.{PackGroupsStage}
 use Rattle.flow_segment.specs.declared.pack_groups.PackGroupsStage.TheVariants.{Start, Flag, Element, End}
@@ -63,7 +63,3 @@ whole (start xs) = (xs, refl, refl)
 pub pack_groups_laws : MachineLaws pack_groups_machine
 pack_groups_laws = flag_laws pack_groups_table sound refl (
     rows_from pack_groups_reads pack_groups_writes (Runs pack_groups_machine tt Start) runs (λ i o r. whole (run_is pack_groups_machine tt Owes sound (start []) earlier Start i o r)) 2 1)
-
--- the transducer that a node makes of it
-abbrev pub pack_groups_node : FlagNode PackGroupsStage
-pack_groups_node = flag_node pack_groups_table pack_groups_laws

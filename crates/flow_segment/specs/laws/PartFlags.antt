@@ -8,7 +8,7 @@ use Rattle.flow_base.specs.Columns.{Columns, push_column, rows_from}
 use Rattle.flow_base.specs.Machines.{on_flag, Runs, SoundAt, MachineLaws}
 use Rattle.flow_base.specs.MachineRuns.{reading, writing, Then, run_is}
 use Rattle.flow_segment.specs.Rows.{part_flags_reads, part_flags_writes}
-use Rattle.flow_segment.specs.laws.FlagLaws.{from_start, flag_laws, FlagNode, flag_node, all_elements, sum_flags, sums_are}
+use Rattle.flow_segment.specs.laws.FlagLaws.{from_start, flag_laws, all_elements, sum_flags, sums_are}
 use Rattle.flow_segment.specs.PartFlagsMachine.{part_flags_move, part_flags_table, part_flags_machine}
 use Rattle.flow_segment.specs.declared.part_flags.PartFlagsStage.{PartFlagsStage}
 use Rattle.flow_segment.specs.declared.part_flags.PartFlagsStage.TheVariants.{Start, Parted, Open, Test, Element, PartElement, Part, PartEnd, Last, End}
@@ -90,7 +90,3 @@ pub part_flags_laws : MachineLaws part_flags_machine
 part_flags_laws = flag_laws part_flags_table sound refl (
     rows_from part_flags_reads part_flags_writes (Runs part_flags_machine tt Start) (λ groups. subst (λ c. Runs part_flags_machine tt Start c (part_flags_writes groups)) (sym (reads_are groups)) (runs groups)) (
     λ i o r. whole (run_is part_flags_machine tt Owes sound (start []) earlier Start i o r)) 3 2)
-
--- the transducer that a node makes of it
-abbrev pub part_flags_node : FlagNode PartFlagsStage
-part_flags_node = flag_node part_flags_table part_flags_laws

@@ -6,7 +6,7 @@ use Rattle.flow_base.specs.Columns.{Columns, rows_from}
 use Rattle.flow_base.specs.Machines.{MachineLaws, SoundAt, Runs}
 use Rattle.flow_base.specs.MachineRuns.{Then, reading, writing, run_is}
 use Rattle.flow_segment.specs.Rows.{same_flags_reads}
-use Rattle.flow_segment.specs.laws.FlagLaws.{flag_laws, FlagNode, flag_node}
+use Rattle.flow_segment.specs.laws.FlagLaws.{flag_laws}
 use Rattle.flow_segment.specs.SameFlagsMachine.{same_flags_move, same_flags_table, same_flags_machine}
 use Rattle.flow_segment.specs.declared.same_flags.SameFlagsStage.{SameFlagsStage}
 use Rattle.flow_segment.specs.declared.same_flags.SameFlagsStage.TheVariants.{Start, Second}
@@ -41,7 +41,3 @@ whole (start bs) = (bs, refl, refl)
 pub same_flags_laws : MachineLaws same_flags_machine
 same_flags_laws = flag_laws same_flags_table sound refl (
     rows_from same_flags_reads (λ _. []) (Runs same_flags_machine tt Start) runs (λ i o r. whole (run_is same_flags_machine tt Owes sound (start []) earlier Start i o r)) 2 0)
-
--- the transducer that a node makes of it
-abbrev pub same_flags_node : FlagNode SameFlagsStage
-same_flags_node = flag_node same_flags_table same_flags_laws

@@ -7,7 +7,7 @@ use Rattle.flow_base.specs.Columns.{Columns, rows_from}
 use Rattle.flow_base.specs.Machines.{MachineLaws, SoundAt, Runs}
 use Rattle.flow_base.specs.MachineRuns.{Then, reading, writing, run_is}
 use Rattle.flow_segment.specs.Rows.{the_check_reads}
-use Rattle.flow_segment.specs.laws.FlagLaws.{flag_laws, FlagNode, flag_node}
+use Rattle.flow_segment.specs.laws.FlagLaws.{flag_laws}
 use Rattle.flow_segment.specs.TheCheckMachine.{the_check_move, the_check_table, the_check_machine}
 use Rattle.flow_segment.specs.declared.the_check.TheCheckStage.{TheCheckStage}
 use Rattle.flow_segment.specs.declared.the_check.TheCheckStage.TheVariants.{Start, Element}
@@ -37,7 +37,3 @@ whole (start n) = (n, refl, refl)
 pub the_check_laws : MachineLaws the_check_machine
 the_check_laws = flag_laws the_check_table sound refl (
     rows_from the_check_reads (λ _. []) (Runs the_check_machine tt Start) runs (λ i o r. whole (run_is the_check_machine tt Owes sound (start zero) earlier Start i o r)) 1 0)
-
--- the transducer that a node makes of it
-abbrev pub the_check_node : FlagNode TheCheckStage
-the_check_node = flag_node the_check_table the_check_laws

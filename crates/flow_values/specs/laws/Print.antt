@@ -23,8 +23,8 @@ use Rattle.flow_values.specs.Flats.{no_cells, ◌⊕◌, width, spread, flat}
 use Rattle.flow_values.specs.laws.Flats.{flat_one}
 use Rattle.flow_values.specs.laws.Sides.{spread_above, nothing_more}
 use Rattle.flow_values.specs.laws.Kinds.{spread_full, spread_kinds, full_append, flags_here}
-use Rattle.flow_values.specs.PrintMachine.{Pending, whole, further, port_of, PrintReading, next, PrintStage, within, closing, stuck, PrintState, print_state, print_opening, print_stage, want_at, moved, checked, read_at, print_behaviour}
-use Rattle.flow_values.specs.laws.PrintSteps.{segment, Ends, EndsAfter, next_law}
+use Rattle.flow_values.specs.PrintMachine.{Pending, whole, further, port_of, PrintReading, next, PrintStage, within, closing, stuck, PrintState, print_state, print_opening, print_stage, want_at, went_on, checked, read_at, print_behaviour}
+use Rattle.flow_values.specs.laws.PrintSteps.{segment, PrintsRest, PrintsRestAfter, next_law}
 
 -- What is still to come: the closed lists of bodies that are just what is to be read, each of the kind of its port, and
 -- the text that comes of them.
@@ -33,7 +33,7 @@ record Owed (ty : Ty) (pending : List Pending) (text : List ℕ) (i : Lists Sign
   are_closed : AreClosed (width ty) i bodies
   beyond : (p : ℕ) → width ty ≤ p → bodies p ≡ []
   kinds : (p : ℕ) → AllOf (kind_at (kinds_of ty) p) (bodies p)
-  ends : Ends pending text bodies t
+  ends : PrintsRest pending text bodies t
 
 abbrev OwesAt : PrintStage → Ty → List ℕ → Lists Signal → List ℕ → Type 0
 OwesAt (within first others) ty text i t = Owed ty (first ∷ others) text i t
@@ -57,11 +57,11 @@ module _ (ty : Ty) (i : Lists Signal) (t : List ℕ) where
   )
   owed_pending (first ∷ others) text = iff_refl
 
-  owed_moved : (s : PrintState) (r : Option PrintReading) → s.ty ≡ ty → OwesAfter ty r i t ↔ OwesText (moved s r) i t
+  owed_moved : (s : PrintState) (r : Option PrintReading) → s.ty ≡ ty → OwesAfter ty r i t ↔ OwesText (went_on s r) i t
   owed_moved s None e = iff_refl
   owed_moved s (Some r) e = subst (λ k. OwesAfter ty (Some r) i t ↔ OwesAt (print_stage r.pending) k r.text i t) (sym e) (owed_pending r.pending r.text)
 
-  pack : (r : Option PrintReading) (bodies : Lists Cell) → AreClosed (width ty) i bodies → ((p : ℕ) → width ty ≤ p → bodies p ≡ []) → ((p : ℕ) → AllOf (kind_at (kinds_of ty) p) (bodies p)) → EndsAfter r bodies t → OwesAfter ty r i t
+  pack : (r : Option PrintReading) (bodies : Lists Cell) → AreClosed (width ty) i bodies → ((p : ℕ) → width ty ≤ p → bodies p ≡ []) → ((p : ℕ) → AllOf (kind_at (kinds_of ty) p) (bodies p)) → PrintsRestAfter r bodies t → OwesAfter ty r i t
   pack None bodies c b k h = h
   pack (Some r) bodies c b k h = record { bodies = bodies; are_closed = c; beyond = b; kinds = k; ends = h }
 
@@ -81,7 +81,7 @@ module _ (ty : Ty) (i : Lists Signal) (t : List ℕ) where
         let same : push here x less ≡ h.bodies = put_back here x r h.bodies front.1 in
         let of_kind : AllOf (kind_at (kinds_of ty) here) (x ∷ r) = subst (λ l. AllOf (kind_at (kinds_of ty) here) l) front.1 (h.kinds here) in
         let yes : b ≡ true = sym is ∙ of_kind.0 in
-        let after : EndsAfter (next first x others text) less t = (next_law first others text t less x).0 (subst (λ l. Ends (first ∷ others) text l t) (sym same) h.ends) in
+        let after : PrintsRestAfter (next first x others text) less t = (next_law first others text t less x).0 (subst (λ l. PrintsRest (first ∷ others) text l t) (sym same) h.ends) in
         let beyond : (q : ℕ) → width ty ≤ q → less q ≡ [] = λ q le. let n : q ≢ here = omega arith in off_port here q r h.bodies n ∙ h.beyond q le in
         let kinds : (q : ℕ) → AllOf (kind_at (kinds_of ty) q) (less q) = by_port (λ q. AllOf (kind_at (kinds_of ty) q) (less q)) here
         (subst (λ l. AllOf (kind_at (kinds_of ty) here) l) (sym (at_port here r h.bodies)) of_kind.1)
@@ -89,7 +89,7 @@ module _ (ty : Ty) (i : Lists Signal) (t : List ℕ) where
         let packed = pack (next first x others text) less (closed_rest (width ty) here (carry x) i h.bodies r front.2 h.are_closed) beyond kinds after in
         subst (λ b. OwesAfter ty (checked b (next first x others text)) i t) (sym yes) packed
 
-    unpack : (r : Option PrintReading) → fits ≡ true → ((l : Lists Cell) → EndsAfter r l t → Ends (first ∷ others) text (push here x l) t) → OwesAfter ty r i t → Owed ty (first ∷ others) text (push here (carry x) i) t
+    unpack : (r : Option PrintReading) → fits ≡ true → ((l : Lists Cell) → PrintsRestAfter r l t → PrintsRest (first ∷ others) text (push here x l) t) → OwesAfter ty r i t → Owed ty (first ∷ others) text (push here (carry x) i) t
     unpack None is law h = absurd h
     unpack (Some r) is law h =
         let more = push here x h.bodies in
@@ -108,7 +108,7 @@ module _ (ty : Ty) (i : Lists Signal) (t : List ℕ) where
     back true is h = unpack (next first x others text) is (λ l. (next_law first others text t l x).1) h
 
 -- an item is there to be read
-pending_full : (first : Pending) (others : List Pending) (text : List ℕ) (bodies : Lists Cell) (t : List ℕ) → Ends (first ∷ others) text bodies t → HasFirst (bodies (port_of first))
+pending_full : (first : Pending) (others : List Pending) (text : List ℕ) (bodies : Lists Cell) (t : List ℕ) → PrintsRest (first ∷ others) text bodies t → HasFirst (bodies (port_of first))
 pending_full (whole behind ty p c) others text bodies t h = subst (λ l. HasFirst (l p)) (sym h.3) (full_append (spread ty p h.0 p) (h.1 p) (spread_full ty p h.0))
 pending_full (further item p c) others text bodies t h = subst (λ l. HasFirst (l p)) (sym h.3) (full_append (segment item p h.0 p) (h.1 p) (full_append _ _ (flags_here p _)))
 
@@ -163,7 +163,7 @@ module _ (ty : Ty) (text : List ℕ) (at : ℕ) where
   abbrev state : PrintStage → PrintState
   state step = print_state ty step text at
 
-  moved_opening : (s : PrintState) (r : Option PrintReading) → print_opening (moved s r).ty (moved s r).at ≡ print_opening s.ty s.at
+  moved_opening : (s : PrintState) (r : Option PrintReading) → print_opening (went_on s r).ty (went_on s r).at ≡ print_opening s.ty s.at
   moved_opening s None = refl
   moved_opening s (Some r) = refl
 
@@ -191,7 +191,7 @@ module _ (ty : Ty) (text : List ℕ) (at : ℕ) where
         ends = refl;
         still_in = λ m k h. absurd (cc);
         still_out = λ m k h. h;
-        kinds = λ x e. ap (λ b. want_at (moved s (checked b (next first x others text))).step (moved s (checked b (next first x others text)))) e;
+        kinds = λ x e. ap (λ b. want_at (went_on s (checked b (next first x others text))).step (went_on s (checked b (next first x others text)))) e;
         of_kind = λ m h. tt;
         in_range = λ dialect m h g r. tt;
       }

@@ -11,7 +11,7 @@ use Rattle.flow_values.specs.Shapes.{is_a, all_are, cell_for}
 use Rattle.flow_values.specs.Flats.{no_cells, only_at, ◌⊕◌, width, spread, spread_all}
 use Rattle.flow_values.specs.laws.Sides.{sides_assoc, nothing_more, push_is, push_same, first_only, only_moves, spread_below}
 use Rattle.flow_values.specs.laws.Kinds.{both_true, and_true}
-use Rattle.flow_values.specs.PrintMachine.{closing_brackets, comma_if, Pending, whole, further, port_of, PrintReading, reading, entered_value, continued, next}
+use Rattle.flow_values.specs.PrintMachine.{closing_brackets, comma_if, Pending, whole, further, port_of, PrintReading, print_reading, entered_value, continued, next}
 
 -- what further elements put on the edges, and their flags
 abbrev pub segment : Ty → ℕ → Values → Lists Cell
@@ -26,14 +26,14 @@ abbrev pub SegmentFirst : Ty → ℕ → (Values → Lists Cell → Type 0) → 
 SegmentFirst item p P i = (vs : Values) × (rest : Lists Cell) × (all_are item vs ≡ true) × (i ≡ segment item p vs ⊕ rest) × P vs rest
 
 -- what is to be read is just this, and the text comes to be that
-abbrev pub Ends : List Pending → List ℕ → Lists Cell → List ℕ → Type 0
-Ends [] before i t = (i ≡ no_cells) × (t ≡ before)
-Ends (whole behind ty p c ∷ after) before i t = ValueFirst ty p (λ said rest. Ends after ((before ++ comma_if behind) ++ (said ++ closing_brackets c)) rest t) i
-Ends (further item p c ∷ after) before i t = SegmentFirst item p (λ vs rest. Ends after (before ++ (further_text vs ++ (codes "}" ++ closing_brackets c))) rest t) i
+abbrev pub PrintsRest : List Pending → List ℕ → Lists Cell → List ℕ → Type 0
+PrintsRest [] before i t = (i ≡ no_cells) × (t ≡ before)
+PrintsRest (whole behind ty p c ∷ after) before i t = ValueFirst ty p (λ said rest. PrintsRest after ((before ++ comma_if behind) ++ (said ++ closing_brackets c)) rest t) i
+PrintsRest (further item p c ∷ after) before i t = SegmentFirst item p (λ vs rest. PrintsRest after (before ++ (further_text vs ++ (codes "}" ++ closing_brackets c))) rest t) i
 
-abbrev pub EndsAfter : Option PrintReading → Lists Cell → List ℕ → Type 0
-EndsAfter None i t = ⊥
-EndsAfter (Some r) i t = Ends r.pending r.text i t
+abbrev pub PrintsRestAfter : Option PrintReading → Lists Cell → List ℕ → Type 0
+PrintsRestAfter None i t = ⊥
+PrintsRestAfter (Some r) i t = PrintsRest r.pending r.text i t
 
 -- the item that is in front is that of the value
 one_forth : (p : ℕ) (y x : Cell) (i rest : Lists Cell) → push p x i ≡ only_at p (y ∷ []) ⊕ rest → (x ≡ y) × (i ≡ rest)
@@ -44,55 +44,55 @@ one_back p x i = sym (push_is p x i)
 
 module _ (p c : ℕ) (after : List Pending) (before t : List ℕ) (i : Lists Cell) where
   abbrev Then : List ℕ → Lists Cell → Type 0
-  Then said rest = Ends after (before ++ (said ++ closing_brackets c)) rest t
+  Then said rest = PrintsRest after (before ++ (said ++ closing_brackets c)) rest t
 
-  int_law : (x : Cell) → ValueFirst int p Then (push p x i) ↔ EndsAfter (entered_value int p c x after before) i t
+  int_law : (x : Cell) → ValueFirst int p Then (push p x i) ↔ PrintsRestAfter (entered_value int p c x after before) i t
   int_law x = (λ h. forth x h.0 h.1 h.2 h.3 h.4, back x)
     where
-      forth : (x : Cell) (v : Value) (rest : Lists Cell) → is_a int v ≡ true → push p x i ≡ spread int p v ⊕ rest → Then (text v) rest → EndsAfter (entered_value int p c x after before) i t
+      forth : (x : Cell) (v : Value) (rest : Lists Cell) → is_a int v ≡ true → push p x i ≡ spread int p v ⊕ rest → Then (text v) rest → PrintsRestAfter (entered_value int p c x after before) i t
       forth x (an_int n) rest is e h =
           let same = one_forth p (cell_for (an_int n)) x i rest e in
-          subst (λ y. EndsAfter (entered_value int p c y after before) i t) (sym same.0) (subst (λ l. Then (text (an_int n)) l) (sym same.1) h)
+          subst (λ y. PrintsRestAfter (entered_value int p c y after before) i t) (sym same.0) (subst (λ l. Then (text (an_int n)) l) (sym same.1) h)
       forth x _ rest is e h = absurd (cc)
 
-      back : (x : Cell) → EndsAfter (entered_value int p c x after before) i t → ValueFirst int p Then (push p x i)
+      back : (x : Cell) → PrintsRestAfter (entered_value int p c x after before) i t → ValueFirst int p Then (push p x i)
       back (int_cell n) h = (an_int n, i, refl, one_back p (int_cell n) i, h)
       back _ h = absurd h
 
-  bool_law : (x : Cell) → ValueFirst bool p Then (push p x i) ↔ EndsAfter (entered_value bool p c x after before) i t
+  bool_law : (x : Cell) → ValueFirst bool p Then (push p x i) ↔ PrintsRestAfter (entered_value bool p c x after before) i t
   bool_law x = (λ h. forth x h.0 h.1 h.2 h.3 h.4, back x)
     where
-      said : (b : Bool) → Then (text (a_bool b)) i → EndsAfter (entered_value bool p c (flag b) after before) i t
+      said : (b : Bool) → Then (text (a_bool b)) i → PrintsRestAfter (entered_value bool p c (flag b) after before) i t
       said true h = h
       said false h = h
 
-      forth : (x : Cell) (v : Value) (rest : Lists Cell) → is_a bool v ≡ true → push p x i ≡ spread bool p v ⊕ rest → Then (text v) rest → EndsAfter (entered_value bool p c x after before) i t
+      forth : (x : Cell) (v : Value) (rest : Lists Cell) → is_a bool v ≡ true → push p x i ≡ spread bool p v ⊕ rest → Then (text v) rest → PrintsRestAfter (entered_value bool p c x after before) i t
       forth x (a_bool b) rest is e h =
           let same = one_forth p (cell_for (a_bool b)) x i rest e in
-          subst (λ y. EndsAfter (entered_value bool p c y after before) i t) (sym same.0) (said b (subst (λ l. Then (text (a_bool b)) l) (sym same.1) h))
+          subst (λ y. PrintsRestAfter (entered_value bool p c y after before) i t) (sym same.0) (said b (subst (λ l. Then (text (a_bool b)) l) (sym same.1) h))
       forth x _ rest is e h = absurd (cc)
 
-      back : (x : Cell) → EndsAfter (entered_value bool p c x after before) i t → ValueFirst bool p Then (push p x i)
+      back : (x : Cell) → PrintsRestAfter (entered_value bool p c x after before) i t → ValueFirst bool p Then (push p x i)
       back (flag true) h = (a_bool true, i, refl, one_back p (flag true) i, h)
       back (flag false) h = (a_bool false, i, refl, one_back p (flag false) i, h)
       back _ h = absurd h
 
-  vec_law : (item : Ty) (x : Cell) → ValueFirst (vec item) p Then (push p x i) ↔ EndsAfter (entered_value (vec item) p c x after before) i t
+  vec_law : (item : Ty) (x : Cell) → ValueFirst (vec item) p Then (push p x i) ↔ PrintsRestAfter (entered_value (vec item) p c x after before) i t
   vec_law item x = (λ h. forth x h.0 h.1 h.2 h.3 h.4, back x)
     where
-      forth : (x : Cell) (v : Value) (rest : Lists Cell) → is_a (vec item) v ≡ true → push p x i ≡ spread (vec item) p v ⊕ rest → Then (text v) rest → EndsAfter (entered_value (vec item) p c x after before) i t
+      forth : (x : Cell) (v : Value) (rest : Lists Cell) → is_a (vec item) v ≡ true → push p x i ≡ spread (vec item) p v ⊕ rest → Then (text v) rest → PrintsRestAfter (entered_value (vec item) p c x after before) i t
       forth x (a_vec vs) rest is e h =
           let same = one_forth p (cell_for (a_vec vs)) x i rest e in
-          let there : EndsAfter (entered_value (vec item) p c (datum (a_vec vs)) after before) i t = rw is (subst (λ l. Then (text (a_vec vs)) l) (sym same.1) h) in
-          subst (λ y. EndsAfter (entered_value (vec item) p c y after before) i t) (sym same.0) there
+          let there : PrintsRestAfter (entered_value (vec item) p c (datum (a_vec vs)) after before) i t = rw is (subst (λ l. Then (text (a_vec vs)) l) (sym same.1) h) in
+          subst (λ y. PrintsRestAfter (entered_value (vec item) p c y after before) i t) (sym same.0) there
       forth x _ rest is e h = absurd (cc)
 
-      of_datum : (v : Value) (b : Bool) → is_a (vec item) v ≡ b → EndsAfter (cond b (Some (reading after (before ++ (text v ++ closing_brackets c)))) None) i t → ValueFirst (vec item) p Then (push p (datum v) i)
+      of_datum : (v : Value) (b : Bool) → is_a (vec item) v ≡ b → PrintsRestAfter (cond b (Some (print_reading after (before ++ (text v ++ closing_brackets c)))) None) i t → ValueFirst (vec item) p Then (push p (datum v) i)
       of_datum (a_vec vs) true e h = (a_vec vs, i, e, one_back p (datum (a_vec vs)) i, h)
       of_datum _ true e h = absurd (cc)
       of_datum _ false e h = absurd h
 
-      back : (x : Cell) → EndsAfter (entered_value (vec item) p c x after before) i t → ValueFirst (vec item) p Then (push p x i)
+      back : (x : Cell) → PrintsRestAfter (entered_value (vec item) p c x after before) i t → ValueFirst (vec item) p Then (push p x i)
       back (datum v) h = of_datum v (is_a (vec item) v) refl h
       back _ h = absurd h
 
@@ -173,10 +173,10 @@ module _ (first second : Ty) (p c : ℕ) (after : List Pending) (before t : List
   second_next = whole true second (p + width first) (suc c) ∷ after
 
   abbrev Pair : List ℕ → Lists Cell → Type 0
-  Pair said rest = Ends after (before ++ (said ++ closing_brackets c)) rest t
+  Pair said rest = PrintsRest after (before ++ (said ++ closing_brackets c)) rest t
 
   abbrev Half : List ℕ → Lists Cell → Type 0
-  Half said rest = Ends second_next ((before ++ codes "(") ++ (said ++ closing_brackets 0)) rest t
+  Half said rest = PrintsRest second_next ((before ++ codes "(") ++ (said ++ closing_brackets 0)) rest t
 
   pair_first : ValueFirst (pair first second) p Pair i ↔ ValueFirst first p Half i
   pair_first = (λ h. forth h.0 h.1 h.2 h.3 h.4, λ h. back h.0 h.1 h.2 h.3 h.4)
@@ -186,7 +186,7 @@ module _ (first second : Ty) (p c : ℕ) (after : List Pending) (before t : List
           let are = both_true (is_a first a) (is_a second b) is in
           let left = spread first p a in
           let right = spread second (p + width first) b in
-          (a, right ⊕ rest, are.0, e ∙ sides_assoc left right rest, (b, rest, are.1, refl, subst (λ s. Ends after s rest t) (pair_text before (text a) (text b) (closing_brackets c)) h))
+          (a, right ⊕ rest, are.0, e ∙ sides_assoc left right rest, (b, rest, are.1, refl, subst (λ s. PrintsRest after s rest t) (pair_text before (text a) (text b) (closing_brackets c)) h))
       forth _ rest is e h = absurd (cc)
 
       back : (v : Value) (rest : Lists Cell) → is_a first v ≡ true → i ≡ spread first p v ⊕ rest → Half (text v) rest → ValueFirst (pair first second) p Pair i
@@ -199,18 +199,18 @@ module _ (first second : Ty) (p c : ℕ) (after : List Pending) (before t : List
             rest,
             and_true (is_a first a) (is_a second b) is g.2,
             e ∙ ap (λ l. left ⊕ l) g.3 ∙ sym (sides_assoc left right rest),
-            subst (λ s. Ends after s rest t) (sym (pair_text before (text a) (text b) (closing_brackets c))) g.4,
+            subst (λ s. PrintsRest after s rest t) (sym (pair_text before (text a) (text b) (closing_brackets c))) g.4,
           )
 
 module _ (item : Ty) (p c : ℕ) (after : List Pending) (before t : List ℕ) (i : Lists Cell) where
   abbrev Seq : List ℕ → Lists Cell → Type 0
-  Seq said rest = Ends after (before ++ (said ++ closing_brackets c)) rest t
+  Seq said rest = PrintsRest after (before ++ (said ++ closing_brackets c)) rest t
 
   abbrev All : Values → Lists Cell → Type 0
   All vs rest = Seq (text (a_seq vs)) rest
 
   abbrev Further : Values → Lists Cell → Type 0
-  Further vs rest = Ends after (before ++ (further_text vs ++ (codes "}" ++ closing_brackets c))) rest t
+  Further vs rest = PrintsRest after (before ++ (further_text vs ++ (codes "}" ++ closing_brackets c))) rest t
 
   abbrev elements_next : List Pending
   elements_next = whole false item (p + 1) 0 ∷ further item p c ∷ after
@@ -223,17 +223,17 @@ module _ (item : Ty) (p c : ℕ) (after : List Pending) (before t : List ℕ) (i
       forth _ rest is e h = absurd (cc)
 
   -- an element, and then further ones, whose texts are put together so
-  element_next : (P : Values → Lists Cell → Type 0) (said : List ℕ) → ((v : Value) (vs : Values) (rest : Lists Cell) → P (more_values v vs) rest ↔ Ends after ((((before ++ said) ++ []) ++ (text v ++ [])) ++ (further_text vs ++ (codes "}" ++ closing_brackets c))) rest t) →
-      ElementFirst item p P i ↔ Ends elements_next (before ++ said) i t
+  element_next : (P : Values → Lists Cell → Type 0) (said : List ℕ) → ((v : Value) (vs : Values) (rest : Lists Cell) → P (more_values v vs) rest ↔ PrintsRest after ((((before ++ said) ++ []) ++ (text v ++ [])) ++ (further_text vs ++ (codes "}" ++ closing_brackets c))) rest t) →
+      ElementFirst item p P i ↔ PrintsRest elements_next (before ++ said) i t
   element_next P said same = (
     λ h. let g = h.4 in (h.0, h.1, h.2, h.3, (g.0, g.1, g.2, g.3, (same h.0 g.0 g.1).0 g.4)),
     λ h. let g = h.4 in (h.0, h.1, h.2, h.3, (g.0, g.1, g.2, g.3, (same h.0 g.0 g.1).1 g.4)),
   )
 
-  by_text : (s u : List ℕ) (rest : Lists Cell) → s ≡ u → Ends after s rest t ↔ Ends after u rest t
-  by_text s u rest e = (λ h. subst (λ l. Ends after l rest t) e h, λ h. subst (λ l. Ends after l rest t) (sym e) h)
+  by_text : (s u : List ℕ) (rest : Lists Cell) → s ≡ u → PrintsRest after s rest t ↔ PrintsRest after u rest t
+  by_text s u rest e = (λ h. subst (λ l. PrintsRest after l rest t) e h, λ h. subst (λ l. PrintsRest after l rest t) (sym e) h)
 
-  seq_law : (x : Cell) → ValueFirst (seq item) p Seq (push p x i) ↔ EndsAfter (entered_value (seq item) p c x after before) i t
+  seq_law : (x : Cell) → ValueFirst (seq item) p Seq (push p x i) ↔ PrintsRestAfter (entered_value (seq item) p c x after before) i t
   seq_law (flag true) =
       let a = as_segment (push p T i) in
       let b = last_flag item p All i in
@@ -245,7 +245,7 @@ module _ (item : Ty) (p c : ℕ) (after : List Pending) (before t : List ℕ) (i
       (λ h. d.0 (b.0 (a.0 h)), λ h. a.1 (b.1 (d.1 h)))
   seq_law x = (λ h. other_item item p All i x (λ e. absurd (cc)) (λ e. absurd (cc)) ((as_segment (push p x i)).0 h), λ h. absurd h)
 
-  pub further_law : (x : Cell) → SegmentFirst item p Further (push p x i) ↔ EndsAfter (continued item p c x after before) i t
+  pub further_law : (x : Cell) → SegmentFirst item p Further (push p x i) ↔ PrintsRestAfter (continued item p c x after before) i t
   further_law (flag true) = last_flag item p Further i
   further_law (flag false) =
       let b = element_flag item p Further i in
@@ -255,7 +255,7 @@ module _ (item : Ty) (p c : ℕ) (after : List Pending) (before t : List ℕ) (i
 
 -- an item in front of a value
 pub entered_law : (ty : Ty) (p c : ℕ) (after : List Pending) (before t : List ℕ) (i : Lists Cell) (x : Cell) →
-    ValueFirst ty p (λ said rest. Ends after (before ++ (said ++ closing_brackets c)) rest t) (push p x i) ↔ EndsAfter (entered_value ty p c x after before) i t
+    ValueFirst ty p (λ said rest. PrintsRest after (before ++ (said ++ closing_brackets c)) rest t) (push p x i) ↔ PrintsRestAfter (entered_value ty p c x after before) i t
 entered_law int p c after before t i x = int_law p c after before t i x
 entered_law bool p c after before t i x = bool_law p c after before t i x
 entered_law (vec item) p c after before t i x = vec_law p c after before t i item x
@@ -266,6 +266,6 @@ entered_law (pair first second) p c after before t i x =
 entered_law (seq item) p c after before t i x = seq_law item p c after before t i x
 
 -- an item in front of what is still to be read
-pub next_law : (pending : Pending) (after : List Pending) (before t : List ℕ) (i : Lists Cell) (x : Cell) → Ends (pending ∷ after) before (push (port_of pending) x i) t ↔ EndsAfter (next pending x after before) i t
+pub next_law : (pending : Pending) (after : List Pending) (before t : List ℕ) (i : Lists Cell) (x : Cell) → PrintsRest (pending ∷ after) before (push (port_of pending) x i) t ↔ PrintsRestAfter (next pending x after before) i t
 next_law (whole behind ty p c) after before t i x = entered_law ty p c after (before ++ comma_if behind) t i x
 next_law (further item p c) after before t i x = further_law item p c after before t i x

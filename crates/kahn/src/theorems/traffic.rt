@@ -4,7 +4,7 @@
 ghost use Rattle.kahn.specs.Processes.{Process, Settles};
 ghost use Rattle.kahn.specs.Networks.{Network, IsWired, AllLawful};
 ghost use Rattle.kahn.specs.Traffic.{WholeTraffic};
-ghost use Rattle.kahn.specs.TrafficTheorems.{OneTraffic, SameTraffic, CarriesFromNodes, EpochsEnd};
+ghost use Rattle.kahn.specs.TrafficTheorems.{OneTraffic, AllTraffic, CarriesFromNodes, EpochsEnd};
 
 /// Each sound configuration has beginnings of the one traffic, and no fault: what the edges carry is
 /// determined by the nodes alone (Kahn 1974).
@@ -16,7 +16,7 @@ pub fn one_traffic<State, Message>()
 /// Where all nodes ended, the edges carried the one traffic.
 pub fn same_traffic<State, Message>()
     ensures { (P : Process State Message) (net : Network State) → IsWired net → AllLawful P net →
-        SameTraffic P net }
+        AllTraffic P net }
 {}
 
 /// Where each node has a complete run over the same lists, these are what the edges carry.

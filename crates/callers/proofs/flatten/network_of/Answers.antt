@@ -4,7 +4,7 @@ use Rattle.snesl_flatten.specs.Graphs.{states_of, edges_of}
 use Rattle.snesl_flatten.specs.Networks.{NetworkMeans}
 use Rattle.snesl_types.specs.GrammarView.{program_of as tree_of}
 use Rattle.snesl_types.specs.Typed.{typed_inputs, typed_text, typed_tree, typed_ty}
-use Rattle.snesl_types.specs.declared.typed.Typed.{Typed}
+use Rattle.snesl_types.specs.declared.typed.TypedProgram.{TypedProgram}
 use Rattle.callers.proofs.Checked.{of_text, of_program, of_inputs}
 use Rattle.callers.proofs.flatten.network_of.Goals as goal
 
@@ -28,5 +28,5 @@ returns c =
       reads = of_inputs text parsed typed kept same c.args.input.now c.dialect.result (declared c.decls.result.now) (spells environment) c.dialect.ensures c.decls.ensures c.in_ok-inputs.ensures.spelled;
       opened = c.in_ok-with.ensures.opened;
       means = of_program text parsed typed kept same (λ text program. NetworkMeans text program environment states edges)
-          (subst (λ (typed : Typed). NetworkMeans (typed_text typed) (typed_tree typed) environment states edges) c.in_ok-plan.ensures.program c.in_ok-with.ensures.means);
+          (subst (λ (typed : TypedProgram). NetworkMeans (typed_text typed) (typed_tree typed) environment states edges) c.in_ok-plan.ensures.program c.in_ok-with.ensures.means);
     }

@@ -2,7 +2,7 @@ use Rattle.std.proofs.Common.{length, ap, subst, arith}
 use Rattle.std.proofs.lemmas.List.{length_push, take_all}
 use Rattle.std.specs.List.{All, zip}
 use Rattle.snesl_flatten.specs.Graphs.{states_of, edges_of}
-use Rattle.snesl_types.specs.declared.typed.Typed.{Typed}
+use Rattle.snesl_types.specs.declared.typed.TypedProgram.{TypedProgram}
 use Rattle.callers.specs.Flatten.{IsNetworkOf, IsNetworkOfTyped}
 use Rattle.callers.proofs.Planned.{of_network, pairs_more}
 use Rattle.callers.proofs.plans.networks_of.Goals as goal
@@ -17,7 +17,7 @@ loop-input-preserved c =
     let states = states_of graph in
     let edges = edges_of graph in
     let before = c.loop-input.graphs.items in
-    let planned = subst (λ (t : Typed). IsNetworkOfTyped t c.deref.result.now states edges) c.in_ok-plan.ensures.program c.in_ok-network_of_plan.ensures in
+    let planned = subst (λ (t : TypedProgram). IsNetworkOfTyped t c.deref.result.now states edges) c.in_ok-plan.ensures.program c.in_ok-network_of_plan.ensures in
     let made = subst (λ bytes. IsNetworkOfTyped typed bytes states edges) c.deref.ensures.value planned in
     let this = of_network text parsed typed c.in_ok-program.ensures.keeps_text c.in_ok-typed.ensures.program input.items states edges c.in_ok-program.ensures.right c.in_ok-typed.ensures.typed made in
     record {

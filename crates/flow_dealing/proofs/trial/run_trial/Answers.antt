@@ -6,7 +6,7 @@ use Rattle.flow_networks.proofs.VisitedGraphs.{fresh_all_ends}
 use Rattle.flow_dealing.specs.Counts.{AreCounts}
 use Rattle.flow_dealing.proofs.Runs.{counted, same_at_first, same_run}
 use Rattle.flow_dealing.proofs.trial.run_trial.Goals as goal
-use Rattle.flow_dealing.proofs.trial.run_trial.Goals.{else-loop-test, then-loop-test+in_ok-made+then-made-eq0}
+use Rattle.flow_dealing.proofs.trial.run_trial.Goals.{else-loop-test, then-loop-test+in_ok-moved+then-not-moved}
 
 pub loop-init : goal.loop-init
 loop-init g c =
@@ -33,12 +33,12 @@ returns-clause-counts g c =
       | else-loop-test w ↦ counted b c.args.capacity (states_of graph) (edges_of graph) n (edges_of c.loop.graph) (states_of c.loop.graph) (ends_of c.loop.ends) counts
           (all ∙ ap (λ of. length (edges_of of)) w.graph-is) inv.network.same_edges inv.reached
           (subst (λ t. AreCounts n (ends_of t) counts) w.ends-is c.loop-edge.invariant)
-      | then-loop-test+in_ok-made+then-made-eq0 w ↦
+      | then-loop-test+in_ok-moved+then-not-moved w ↦
           let later = w.pass.new.graph in
           let shape = w.pass.ensures.shape in
           counted b c.args.capacity (states_of graph) (edges_of graph) n (edges_of later) (states_of later) (ends_of w.pass.new.ends) counts
           (all ∙ ap (λ of. length (edges_of of)) w.graph-is) (shape.network.same_edges ∙ inv.network.same_edges)
           (same_run b c.args.capacity (states_of graph) (edges_of graph) c.loop.ends.capacity (states_of c.loop.graph) (edges_of c.loop.graph) (states_of later) (ends_of w.pass.new.ends)
-          inv.network inv.capacity w.in_ok-made.ensures.reached)
+          inv.network inv.capacity w.in_ok-moved.ensures.reached)
           (subst (λ t. AreCounts n (ends_of t) counts) w.ends-is c.loop-edge.invariant)
     ]

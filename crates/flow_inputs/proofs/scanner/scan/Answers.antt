@@ -1,7 +1,7 @@
 use Rattle.std.proofs.Common.{◌≡◌, ◌++◌, [], Option, Some, None, ap, sym, ◌∙◌, arith, false, refl}
 use Rattle.std.specs.Prelude.{option_to_list, is_some}
 use Rattle.flow_inputs.specs.declared.turns.Piece.{Piece}
-use Rattle.flow_inputs.specs.Turns.{Turn, turn, state, depth_of}
+use Rattle.flow_inputs.specs.Turns.{Transition, turn, state, depth_of}
 use Rattle.flow_inputs.specs.Left.{left}
 use Rattle.flow_inputs.proofs.Lefts.{after_turn, left_done, left_found, left_unfound, turn_deeper}
 use Rattle.flow_inputs.proofs.scanner.scan.Goals as goal
@@ -25,7 +25,7 @@ returns-then-is_some-clause-first c =
     sym c.tokens.invariant.same
     ∙ c.past-from.ensures.same way leaf c.tokens.state.level
     ∙ left_found text way leaf c.past-from.result.0 s f c.past-from.ensures.within c.in-Some.ensures.next
-    ∙ ap (λ (u : Turn). after_turn text way leaf u f.end) (sym c.turn-piece.ensures)
+    ∙ ap (λ (u : Transition). after_turn text way leaf u f.end) (sym c.turn-piece.ensures)
 
 pub returns-then-is_some-clause-shallow : goal.returns-then-is_some-clause-shallow
 returns-then-is_some-clause-shallow c =
@@ -33,7 +33,7 @@ returns-then-is_some-clause-shallow c =
     let f = c.in-Some.found in
     let deeper = turn_deeper c.args.way.now c.args.leaf s f.mark c.past-from.result.0 in
     let is : depth_of c.turn-piece.result.1.mode ≡ depth_of (turn c.args.way.now c.args.leaf s f.mark c.past-from.result.0).1.mode =
-    ap (λ (u : Turn). depth_of u.1.mode) c.turn-piece.ensures in
+    ap (λ (u : Transition). depth_of u.1.mode) c.turn-piece.ensures in
     omega (arith, is, deeper, c.past-from.ensures.shallow, c.in-Some.ensures.moves)
 
 pub tokens-preserved : goal.tokens-preserved
@@ -45,12 +45,12 @@ tokens-preserved c =
     let f = c.in-Some.found in
     let deeper = turn_deeper way leaf s f.mark c.past-from.result.0 in
     let is : depth_of c.turn-piece.result.1.mode ≡ depth_of (turn way leaf s f.mark c.past-from.result.0).1.mode =
-    ap (λ (u : Turn). depth_of u.1.mode) c.turn-piece.ensures in
+    ap (λ (u : Transition). depth_of u.1.mode) c.turn-piece.ensures in
     record {
       same = sym (sym c.tokens.invariant.same
           ∙ c.past-from.ensures.same way leaf c.tokens.state.level
           ∙ left_found text way leaf c.past-from.result.0 s f c.past-from.ensures.within c.in-Some.ensures.next
-          ∙ ap (λ (u : Turn). after_turn text way leaf u f.end) (sym c.turn-piece.ensures)
+          ∙ ap (λ (u : Transition). after_turn text way leaf u f.end) (sym c.turn-piece.ensures)
           ∙ ap (λ l. l ++ left text way leaf f.end c.turn-piece.result.1) (unwritten c.turn-piece.result.0 (sym c.if-is_some.ensures)));
       within = c.in-Some.ensures.within;
       shallow = omega (arith, is, deeper, c.past-from.ensures.shallow, c.in-Some.ensures.moves);

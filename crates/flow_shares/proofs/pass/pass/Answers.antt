@@ -85,4 +85,11 @@ returns-clause-stuck g c =
     let nodes = c.args.nodes.now.items in
     let passed = c.loop-k.invariant.passed in
     let all : length nodes ≤ c.loop-k.k = omega (arith, passed.places.count) in
-    λ still. calm_end nodes c.loop-k.nodes.items (g.E.Ends.view c.args.ends.now) (g.E.Ends.view c.loop-k.ends) passed.places c.loop-k.k all (passed.calm still)
+    λ still. (calm_end nodes c.loop-k.nodes.items (g.E.Ends.view c.args.ends.now) (g.E.Ends.view c.loop-k.ends) passed.places c.loop-k.k all (passed.calm still)).0
+
+pub returns-clause-rest : goal.returns-clause-rest
+returns-clause-rest g c =
+    let nodes = c.args.nodes.now.items in
+    let passed = c.loop-k.invariant.passed in
+    let all : length nodes ≤ c.loop-k.k = omega (arith, passed.places.count) in
+    λ still. (calm_end nodes c.loop-k.nodes.items (g.E.Ends.view c.args.ends.now) (g.E.Ends.view c.loop-k.ends) passed.places c.loop-k.k all (passed.calm still)).1

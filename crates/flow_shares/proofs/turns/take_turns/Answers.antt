@@ -40,13 +40,13 @@ pub returns-then-idle-idle_turns-clause-moved : goal.returns-then-idle-idle_turn
 returns-then-idle-idle_turns-clause-moved g c =
     let view = g.E.Ends.view in
     let ensures = c.in_ok-pass.ensures in
-    moved_last c.loop-turn.turn c.loop-turn.idle c.args.idle_turns c.args.nodes.now.items c.loop-turn.nodes.items (view c.args.ends.now) (view c.loop-turn.ends) c.loop-turn.invariant.turned c.pass.new.nodes.items (view c.pass.new.ends) ensures.places ensures.ends ensures.moved ensures.spares c.in_ok-pass.field-0 ensures.busy ensures.stuck
+    moved_last c.loop-turn.turn c.loop-turn.idle c.args.idle_turns c.args.nodes.now.items c.loop-turn.nodes.items (view c.args.ends.now) (view c.loop-turn.ends) c.loop-turn.invariant.turned c.pass.new.nodes.items (view c.pass.new.ends) ensures.places ensures.ends ensures.moved ensures.spares c.in_ok-pass.field-0 ensures.busy (λ still. (ensures.stuck still, ensures.rest still))
 
 pub returns-then-idle-idle_turns-clause-progress : goal.returns-then-idle-idle_turns-clause-progress
 returns-then-idle-idle_turns-clause-progress g c =
     let view = g.E.Ends.view in
     let ensures = c.in_ok-pass.ensures in
-    stuck_last c.loop-turn.turn c.loop-turn.idle c.args.idle_turns c.args.nodes.now.items c.loop-turn.nodes.items (view c.args.ends.now) (view c.loop-turn.ends) c.loop-turn.invariant.turned c.pass.new.nodes.items (view c.pass.new.ends) ensures.places ensures.ends ensures.moved ensures.spares c.in_ok-pass.field-0 ensures.busy ensures.stuck
+    stuck_last c.loop-turn.turn c.loop-turn.idle c.args.idle_turns c.args.nodes.now.items c.loop-turn.nodes.items (view c.args.ends.now) (view c.loop-turn.ends) c.loop-turn.invariant.turned c.pass.new.nodes.items (view c.pass.new.ends) ensures.places ensures.ends ensures.moved ensures.spares c.in_ok-pass.field-0 ensures.busy (λ still. (ensures.stuck still, ensures.rest still))
 
 pub loop-turn-preserved : goal.loop-turn-preserved
 loop-turn-preserved g c =
@@ -59,9 +59,9 @@ loop-turn-preserved g c =
       heard = heard_next (λ turn. g.G.Gate.heard c.args.gate.now c.args.number turn) c.loop-turn.turn c.loop-turn.invariant.heard c.begin_turn.ensures.heard;
       same = g.met.E.Ends.same_trans c.args.ends.now c.loop-turn.ends c.pass.new.ends c.loop-turn.invariant.same ensures.same;
       turned = elim c.if-branch.branch [
-        | then-branch w ↦ turned_next c.loop-turn.turn c.loop-turn.idle c.args.idle_turns c.args.nodes.now.items c.loop-turn.nodes.items (view c.args.ends.now) (view c.loop-turn.ends) c.loop-turn.invariant.turned c.pass.new.nodes.items (view c.pass.new.ends) ensures.places ensures.ends ensures.moved ensures.spares c.in_ok-pass.field-0 ensures.busy ensures.stuck
+        | then-branch w ↦ turned_next c.loop-turn.turn c.loop-turn.idle c.args.idle_turns c.args.nodes.now.items c.loop-turn.nodes.items (view c.args.ends.now) (view c.loop-turn.ends) c.loop-turn.invariant.turned c.pass.new.nodes.items (view c.pass.new.ends) ensures.places ensures.ends ensures.moved ensures.spares c.in_ok-pass.field-0 ensures.busy (λ still. (ensures.stuck still, ensures.rest still))
             now (omega (arith, w.idle-is, c.requires.idle)) (inl (w.if-branch.true, w.idle-is))
-        | else-branch+else-idle-idle_turns+else-are_over w ↦ turned_next c.loop-turn.turn c.loop-turn.idle c.args.idle_turns c.args.nodes.now.items c.loop-turn.nodes.items (view c.args.ends.now) (view c.loop-turn.ends) c.loop-turn.invariant.turned c.pass.new.nodes.items (view c.pass.new.ends) ensures.places ensures.ends ensures.moved ensures.spares c.in_ok-pass.field-0 ensures.busy ensures.stuck
+        | else-branch+else-idle-idle_turns+else-are_over w ↦ turned_next c.loop-turn.turn c.loop-turn.idle c.args.idle_turns c.args.nodes.now.items c.loop-turn.nodes.items (view c.args.ends.now) (view c.loop-turn.ends) c.loop-turn.invariant.turned c.pass.new.nodes.items (view c.pass.new.ends) ensures.places ensures.ends ensures.moved ensures.spares c.in_ok-pass.field-0 ensures.busy (λ still. (ensures.stuck still, ensures.rest still))
             now (omega (arith, w.idle-is, few, w.if-idle-idle_turns.false)) (inr (w.if-branch.false, w.idle-is))
       ];
       busy = elim c.if-branch.branch [

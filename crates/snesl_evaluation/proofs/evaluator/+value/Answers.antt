@@ -11,8 +11,9 @@ use Rattle.snesl_evaluation.specs.Answer.{go, go_all, go_join, gives}
 use Rattle.snesl_evaluation.specs.declared.scope.Column.{Column}
 use Rattle.snesl_evaluation.specs.Builtins.{applied, binary_answer, items_at, seq_answer, truth_at}
 use Rattle.snesl_evaluation.specs.Eval.{calls_of, eval, in_step, kept, rows_of}
+use Rattle.snesl_evaluation.specs.Forms.{filter_in}
 use Rattle.snesl_evaluation.specs.Results.{Answers}
-use Rattle.snesl_evaluation.specs.Scopes.{all_in, binders_in, calls_in, bound_items_of, each_in, entered, environment_in, eval_in, kept_at, kept_in, names_of, names_at, where_in}
+use Rattle.snesl_evaluation.specs.Scopes.{all_in, binders_in, calls_in, bound_items_of, each_in, entered, environment_in, eval_in, kept_at, names_of, names_at, where_in}
 use Rattle.snesl_evaluation.proofs.Arguments.{values_given, values_faults, values_all, columns_given, columns_faults, columns_all}
 use Rattle.snesl_evaluation.proofs.Passed.{halt_passes, parameters_seen, parameters_differ, filter_seen}
 use Rattle.snesl_evaluation.proofs.Reading.{behind}
@@ -276,8 +277,8 @@ value-returns-in-Filter t c =
     let e =
     ap (λ expr. eval_in context scope (tree_of expr)) c.in-Filter.is
     ∙ filter_seen (eval_in context scope (tree_of condition)) (truth_at at) (λ b. kept b (eval_in context scope (tree_of c.in-Filter.item.value)))
-    ∙ ap (λ item. seq_answer (kept_in context scope at (tree_of item) (tree_of condition))) (sym c.deref-in-Filter.ensures)
-    ∙ ap (λ test. seq_answer (kept_in context scope at (tree_of c.deref-in-Filter.result.now) (tree_of test))) (sym c.deref-in-Filter-2.ensures) in
+    ∙ ap (λ item. filter_in context scope at item condition) (sym c.deref-in-Filter.ensures)
+    ∙ ap (λ test. filter_in context scope at c.deref-in-Filter.result.now test) (sym c.deref-in-Filter-2.ensures) in
     subst (Answers value_of c.filter.result) (sym e) c.filter.ensures
 
 pub value-returns-in-None : goal.value-returns-in-None

@@ -4,7 +4,7 @@ use Rattle.snesl_grammar.specs.Limits.{greatest_depth}
 use Rattle.snesl_grammar.specs.Operators.{level}
 use Rattle.snesl_expressions.specs.Readers.{within}
 use Rattle.snesl_expressions.specs.Machine.{infix_move, floor}
-use Rattle.snesl_expressions.specs.Parsing.{Gives, frames_of}
+use Rattle.snesl_expressions.specs.Parsing.{IsStep, frames_of}
 use Rattle.snesl_expressions.proofs.Closes.{infix_on, infix_off}
 use Rattle.snesl_expressions.proofs.closings.infix.Goals as goal
 
@@ -23,4 +23,4 @@ returns c =
     let roomy = ap (λ r. within greatest_depth (infix_move c.args.operator c.args.at r)) folded
     ∙ infix_on c.in_ok-outer.outer.items c.args.operator c.args.at (tree_of c.in_ok-outer.left.expr.value) low
     (omega (arith, c.in_ok-outer.left.exact, c.in_ok-outer.outer.ok.0, c.len.ensures, c.saturating_add.ensures)) in
-    subst (Gives c.go_in.result) (sym roomy) c.go_in.ensures
+    subst (IsStep c.go_in.result) (sym roomy) c.go_in.ensures

@@ -10,12 +10,12 @@ use Rattle.snesl_expressions.proofs.closings.next_binder.Goals as goal
 pub returns-then-len-ge-GREATEST_BINDER_COUNT : goal.returns-then-len-ge-GREATEST_BINDER_COUNT
 returns-then-len-ge-GREATEST_BINDER_COUNT c =
     ap (within greatest_depth)
-    (no_more_binder c.args.bound.binders.items c.args.at (tree_of c.args.body.expr.value) c.args.name (frames_of c.args.outer.items) (tree_of c.args.source.expr.value)
+    (no_more_binder c.args.bound.binders.items c.args.at (tree_of c.args.body.expr.value) c.args.name (frames_of c.args.outer.items) (tree_of c.args.whole.expr.value)
     (omega (arith, c.args.bound.binders.ok.0, c.len.ensures)))
 
 pub returns : goal.returns
 returns c =
     ap (within greatest_depth)
-    (one_more_binder c.args.bound.binders.items c.args.at (tree_of c.args.body.expr.value) c.args.name (frames_of c.args.outer.items) (tree_of c.args.source.expr.value)
+    (one_more_binder c.args.bound.binders.items c.args.at (tree_of c.args.body.expr.value) c.args.name (frames_of c.args.outer.items) (tree_of c.args.whole.expr.value)
     (omega (arith, c.args.bound.binders.ok.0, c.len.ensures)))
     ∙ ap (λ bs. Ok (binder_name (frames_of c.args.outer.items) c.args.at (tree_of c.args.body.expr.value) bs)) (sym c.in_ok-bound.ensures)

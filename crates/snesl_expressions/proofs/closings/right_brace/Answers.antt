@@ -3,12 +3,12 @@ use Rattle.snesl_tree.specs.View.{tree_of}
 use Rattle.snesl_grammar.specs.Limits.{greatest_depth}
 use Rattle.snesl_expressions.specs.Readers.{within}
 use Rattle.snesl_expressions.specs.Machine.{after, brace_move}
-use Rattle.snesl_expressions.specs.Parsing.{frame_of, frames_of, Gives}
+use Rattle.snesl_expressions.specs.Parsing.{frame_of, frames_of, IsStep}
 use Rattle.snesl_expressions.proofs.closings.right_brace.Goals as goal
 
 pub returns-in_ok-each_where-in-EachCondition : goal.returns-in_ok-each_where-in-EachCondition
 returns-in_ok-each_where-in-EachCondition c =
     let given = c.behind-in-EachCondition.result in
     let outer = frames_of c.args.outer.items in
-    subst (λ form. Gives given (within greatest_depth (brace_move (frame_of form ∷ outer) (tree_of c.args.whole.expr.value)))) (sym c.in-EachCondition.is)
-    (subst (λ tree. Gives given (Ok (after outer tree))) c.in_ok-each_where-in-EachCondition.ensures c.behind-in-EachCondition.ensures)
+    subst (λ form. IsStep given (within greatest_depth (brace_move (frame_of form ∷ outer) (tree_of c.args.whole.expr.value)))) (sym c.in-EachCondition.is)
+    (subst (λ tree. IsStep given (Ok (after outer tree))) c.in_ok-each_where-in-EachCondition.ensures c.behind-in-EachCondition.ensures)

@@ -1,7 +1,7 @@
 use Rattle.std.proofs.Common.{arith, suc, length, refl, subst, sym, ◌∷◌}
 use Rattle.snesl_grammar.specs.Limits.{greatest_depth}
 use Rattle.snesl_expressions.specs.Machine.{operand}
-use Rattle.snesl_expressions.specs.Parsing.{frame_of, frames_of, Gives}
+use Rattle.snesl_expressions.specs.Parsing.{frame_of, frames_of, IsStep}
 use Rattle.snesl_expressions.proofs.Piles.{at_least, has_room, has_no_room}
 use Rattle.snesl_expressions.proofs.machine.enter.Goals as goal
 
@@ -13,4 +13,4 @@ returns-then-not-has_room c =
 pub returns : goal.returns
 returns c =
     let roomy = has_room c.args.forms.items (operand (frame_of c.args.form ∷ frames_of c.args.forms.items)) (omega (arith, c.if-not-has_room.ensures.0 refl, c.deref.ensures.value)) in
-    subst (Gives c.go_in.result) (sym roomy) c.go_in.ensures
+    subst (IsStep c.go_in.result) (sym roomy) c.go_in.ensures

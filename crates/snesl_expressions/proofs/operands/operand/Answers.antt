@@ -2,10 +2,10 @@ use Rattle.std.proofs.Common.{subst, sym}
 use Rattle.snesl_grammar.specs.Limits.{greatest_depth}
 use Rattle.snesl_expressions.specs.Readers.{step}
 use Rattle.snesl_expressions.specs.Machine.{expressions, operand}
-use Rattle.snesl_expressions.specs.Parsing.{frames_of, Gives}
+use Rattle.snesl_expressions.specs.Parsing.{frames_of, IsStep}
 use Rattle.snesl_expressions.proofs.operands.operand.Goals as goal
 
 pub returns-in-If : goal.returns-in-If
 returns-in-If c =
-    subst (λ kind. Gives c.enter_bare.result (step expressions greatest_depth (operand (frames_of c.args.forms.items)) (record { kind = kind; at = c.args.token.at })))
+    subst (λ kind. IsStep c.enter_bare.result (step expressions greatest_depth (operand (frames_of c.args.forms.items)) (record { kind = kind; at = c.args.token.at })))
     (sym c.in-If.is) c.enter_bare.ensures

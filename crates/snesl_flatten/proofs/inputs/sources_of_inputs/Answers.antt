@@ -1,7 +1,7 @@
 use Rattle.std.proofs.Common.{◌≡◌, ◌+◌, ℕ, List, Some, suc, take, map, sym, subst, ◌∙◌, ap, arith}
 use Rattle.std.proofs.lemmas.List.{length-map}
 use Rattle.std.specs.Arc.{arc_value}
-use Rattle.snesl_values.specs.Entries.{environment_at, ArePlaced}
+use Rattle.snesl_values.specs.Entries.{environment_at, AreSpelledAt}
 use Rattle.snesl_values.specs.Inputs.{Environment, FitDeclarations, declared, declaration_of, dialect_of, environment_of, placed_in, text_in}
 use Rattle.snesl_values.specs.Places.{value_at as spelled_at}
 use Rattle.snesl_translation.specs.Programs.{columns_of}
@@ -15,7 +15,7 @@ unwrap-place-requires c =
     let ds = declared c.args.declarations.now in
     let inputs = c.args.inputs.now in
     let i = c.loop-number.number in
-    let placed = subst (λ l. ArePlaced (dialect_of inputs) (text_in inputs) l (placed_in inputs)) c.requires.declares c.inputs_are_placed.ensures.placed in
+    let placed = subst (λ l. AreSpelledAt (dialect_of inputs) (text_in inputs) l (placed_in inputs)) c.requires.declares c.inputs_are_placed.ensures.placed in
     let there = declared_at c.args.declarations.now i c.index-declarations-number.result c.loop-number-test.true c.index-declarations-number.is in
     place_there (dialect_of inputs) (text_in inputs) ds (placed_in inputs) placed i (declaration_of c.index-declarations-number.result) there c.place.result c.place.ensures
 
@@ -24,8 +24,8 @@ add_sources-requires-clause-placed c =
     let ds = declared c.args.declarations.now in
     let inputs = c.args.inputs.now in
     let i = c.loop-number.number in
-    let placed = subst (λ l. ArePlaced (dialect_of inputs) (text_in inputs) l (placed_in inputs)) c.requires.declares c.inputs_are_placed.ensures.placed in
-    let kept = subst (λ (t : List ℕ). ArePlaced (dialect_of inputs) t ds (placed_in inputs)) (sym c.text.ensures) placed in
+    let placed = subst (λ l. AreSpelledAt (dialect_of inputs) (text_in inputs) l (placed_in inputs)) c.requires.declares c.inputs_are_placed.ensures.placed in
+    let kept = subst (λ (t : List ℕ). AreSpelledAt (dialect_of inputs) t ds (placed_in inputs)) (sym c.text.ensures) placed in
     let there = declared_at c.args.declarations.now i c.index-declarations-number.result c.loop-number-test.true c.index-declarations-number.is in
     (dialect_of inputs, placed_there (dialect_of inputs) (arc_value c.text.result.now).items ds (placed_in inputs) kept i (declaration_of c.index-declarations-number.result) there c.unwrap-place.result (sym c.unwrap-place.ensures ∙ c.place.ensures))
 
@@ -46,8 +46,8 @@ loop-number-preserved c =
     let text = (arc_value c.text.result.now).items in
     let d = declaration_of c.index-declarations-number.result in
     let fits = subst (λ l. FitDeclarations (dialect_of inputs) l es) c.requires.declares c.inputs_fit.ensures in
-    let placed = subst (λ l. ArePlaced (dialect_of inputs) (text_in inputs) l (placed_in inputs)) c.requires.declares c.inputs_are_placed.ensures.placed in
-    let kept = subst (λ (t : List ℕ). ArePlaced (dialect_of inputs) t ds (placed_in inputs)) (sym c.text.ensures) placed in
+    let placed = subst (λ l. AreSpelledAt (dialect_of inputs) (text_in inputs) l (placed_in inputs)) c.requires.declares c.inputs_are_placed.ensures.placed in
+    let kept = subst (λ (t : List ℕ). AreSpelledAt (dialect_of inputs) t ds (placed_in inputs)) (sym c.text.ensures) placed in
     let there = declared_at c.args.declarations.now i c.index-declarations-number.result c.loop-number-test.true c.index-declarations-number.is in
     let known = value_there (dialect_of inputs) text ds (placed_in inputs) kept i d there n (sym c.unwrap-place.ensures ∙ c.place.ensures) in
     let all : environment_at text (placed_in inputs) ≡ es = ap (λ (t : List ℕ). environment_at t (placed_in inputs)) c.text.ensures ∙ sym c.inputs_are_placed.ensures.environment in

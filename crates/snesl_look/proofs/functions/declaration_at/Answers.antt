@@ -1,6 +1,6 @@
 use Rattle.std.proofs.Common.{◌+◌, ◌∙◌, ap, arith, get_or, sym}
 use Rattle.std.proofs.lemmas.List.Sums.{fold_more}
-use Rattle.snesl_look.proofs.Declarations.{Reaches, goes_on, restarts}
+use Rattle.snesl_look.proofs.Declarations.{DeclarationSoFar, goes_on, restarts}
 use Rattle.snesl_look.specs.Functions.{depth_after_byte}
 use Rattle.snesl_look.proofs.functions.declaration_at.Goals as goal
 use Rattle.snesl_look.proofs.functions.declaration_at.Goals.{then-text-place-eq59+then-depth-eq0+else-place-offset, else-text-place-eq59, else-text-place-eq59-via-then-text-place-eq59+else-depth-eq0, else-text-place-eq59-via-else-text-place-eq59}
@@ -13,13 +13,13 @@ loop-place-preserved c =
     let start = c.loop-place.start in
     let offset = c.args.offset in
     let known = c.loop-place.invariant in
-    let so_far : Reaches text offset start place = record {
+    let so_far : DeclarationSoFar text offset start place = record {
       begins = known.begins;
       reached = known.reached;
       behind = known.behind;
       one = known.one;
     } in
-    let next : Reaches text offset c.if-text-place-eq59.start (place + 1) = elim c.if-text-place-eq59.branch [
+    let next : DeclarationSoFar text offset c.if-text-place-eq59.start (place + 1) = elim c.if-text-place-eq59.branch [
       | then-text-place-eq59+then-depth-eq0+else-place-offset w ↦
           rw w.start-is (restarts text offset place depth c.loop-place-test.true w.if-place-offset.false known.deep w.if-text-place-eq59.true w.if-depth-eq0.true)
       | else-text-place-eq59 w ↦ rw w.start-is (goes_on text offset start place depth so_far known.deep (elim w.else-text-place-eq59.branch [

@@ -3,7 +3,7 @@ use Rattle.snesl_values.specs.Inputs.{declared, environment_of, refusal_of}
 use Rattle.snesl_grammar.specs.View.{program_of as tree_of_program}
 use Rattle.snesl_types.specs.Programs.{IsFirstViolation}
 use Rattle.snesl_types.specs.Typed.{typed_inputs, typed_text, typed_tree}
-use Rattle.snesl_types.specs.declared.typed.Typed.{Typed}
+use Rattle.snesl_types.specs.declared.typed.TypedProgram.{TypedProgram}
 use Rattle.flow_networks.specs.Graphs.{states_of, edges_of}
 use Rattle.snesl_flatten.specs.Networks.{NetworkMeans}
 use Rattle.snesl_network.proofs.Refusing.{parse_refused, check_refused, passed_on}
@@ -54,7 +54,7 @@ returns-clause-meant c =
     is_meant c.args.program.now c.args.input.now c.in_ok-program.program c.in_ok-typed.typed c.in_ok-program.ensures.right c.in_ok-program.ensures.keeps_text
     c.in_ok-typed.ensures.program c.in_ok-typed.ensures.typed c.dialect.result (declared c.decls.result.now) c.dialect.ensures c.decls.ensures
     environment states edges c.in_ok-inputs.ensures.spelled
-    (subst (λ (typed : Typed). IsItsNetwork environment states edges (typed_text typed) (typed_tree typed) (typed_inputs typed)) c.in_ok-plan.ensures.program c.in_ok-graph.ensures.network)
-    (subst (λ (typed : Typed). AllOpenFor environment states (typed_text typed) (typed_tree typed) (typed_inputs typed)) c.in_ok-plan.ensures.program c.in_ok-graph.ensures.opens)
+    (subst (λ (typed : TypedProgram). IsItsNetwork environment states edges (typed_text typed) (typed_tree typed) (typed_inputs typed)) c.in_ok-plan.ensures.program c.in_ok-graph.ensures.network)
+    (subst (λ (typed : TypedProgram). AllOpenFor environment states (typed_text typed) (typed_tree typed) (typed_inputs typed)) c.in_ok-plan.ensures.program c.in_ok-graph.ensures.opens)
     c.in_ok-graph.ensures.opened c.graph_is_a_network.ensures.network c.in_ok-plan.ensures.few
-    (subst (λ (typed : Typed). NetworkMeans (typed_text typed) (typed_tree typed) environment states edges) c.in_ok-plan.ensures.program c.in_ok-graph.ensures.means)
+    (subst (λ (typed : TypedProgram). NetworkMeans (typed_text typed) (typed_tree typed) environment states edges) c.in_ok-plan.ensures.program c.in_ok-graph.ensures.means)

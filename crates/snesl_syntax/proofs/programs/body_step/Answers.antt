@@ -5,7 +5,7 @@ use Rattle.snesl_expressions.specs.Readers.{within}
 use Rattle.snesl_expressions.specs.Machine.{expressions}
 use Rattle.snesl_expressions.specs.Parsing.{state_of}
 use Rattle.snesl_syntax.specs.Programs.{in_body, lifted}
-use Rattle.snesl_syntax.specs.TypeMachine.{Steps}
+use Rattle.snesl_syntax.specs.TypeMachine.{IsStep}
 use Rattle.snesl_syntax.specs.ProgramMachine.{header_of, program_state}
 use Rattle.snesl_syntax.proofs.Parts.{step_carried, stop_carried, machine_stops, stop_passed}
 use Rattle.snesl_syntax.proofs.programs.body_step.Goals as goal
@@ -22,6 +22,6 @@ pub returns : goal.returns
 returns c =
     let around = in_body (header_of (map declaration_of c.args.done.items) c.args.header) in
     let move = expressions.move (state_of c.args.machine) c.args.token in
-    subst (Steps program_state c.at_point.result)
+    subst (IsStep program_state c.at_point.result)
     (sym (step_carried greatest_depth around move (state_of c.in_ok-machine.machine) c.in_ok-machine.ensures))
     c.at_point.ensures

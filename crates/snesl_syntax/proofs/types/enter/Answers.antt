@@ -1,6 +1,6 @@
 use Rattle.std.proofs.Common.{arith, suc, length, refl, subst, sym}
 use Rattle.snesl_grammar.specs.Limits.{greatest_depth}
-use Rattle.snesl_syntax.specs.TypeMachine.{frame_of, type_state, Steps}
+use Rattle.snesl_syntax.specs.TypeMachine.{frame_of, type_state, IsStep}
 use Rattle.snesl_expressions.proofs.Piles.{at_least}
 use Rattle.snesl_syntax.proofs.Piles.{has_room, has_no_room}
 use Rattle.snesl_syntax.proofs.types.enter.Goals as goal
@@ -13,4 +13,4 @@ returns-then-not-has_room c =
 pub returns : goal.returns
 returns c =
     let roomy = has_room c.args.forms.items (frame_of c.args.form) (omega (arith, c.if-not-has_room.ensures.0 refl)) in
-    subst (Steps type_state c.go_in.result) (sym roomy) c.go_in.ensures
+    subst (IsStep type_state c.go_in.result) (sym roomy) c.go_in.ensures

@@ -1,6 +1,6 @@
 use Rattle.std.proofs.Common.{◌≡◌, ℕ, List, inr, Err, refl, sym, ap, ◌∙◌, subst, arith}
 use Rattle.std.specs.Arc.{arc_value}
-use Rattle.snesl_values.specs.Entries.{environment_at, ArePlaced}
+use Rattle.snesl_values.specs.Entries.{environment_at, AreSpelledAt}
 use Rattle.snesl_values.specs.Inputs.{dialect_of, declarations_of, environment_of, text_in}
 use Rattle.snesl_values.specs.declared.inputs.InputError.TheVariants.{Bad}
 use Rattle.snesl_values.specs.Declarations.{declared, FitDeclarations}
@@ -88,8 +88,8 @@ pub invariant_of-result : goal.invariant_of-result
 invariant_of-result c =
     let kept : (arc_value c.in_ok-text.text).items ≡ c.args.bytes.now = ap (λ v. v.items) c.in_ok-text.ensures.ok ∙ c.in_ok-copy.ensures.items in
     record {
-      placed = ∣ subst (λ (t : List ℕ). ArePlaced c.args.dialect t (declared c.in_ok-decls.decls.items) c.in_ok-all.all.items) (sym kept)
-          (subst (λ ds. ArePlaced c.args.dialect c.args.bytes.now ds c.in_ok-all.all.items) (sym c.in_ok-decls.ensures) c.in_ok-all.ensures.placed) ∣₁;
+      placed = ∣ subst (λ (t : List ℕ). AreSpelledAt c.args.dialect t (declared c.in_ok-decls.decls.items) c.in_ok-all.all.items) (sym kept)
+          (subst (λ ds. AreSpelledAt c.args.dialect c.args.bytes.now ds c.in_ok-all.all.items) (sym c.in_ok-decls.ensures) c.in_ok-all.ensures.placed) ∣₁;
       fit = ∣ subst (λ (t : List ℕ). FitDeclarations c.args.dialect (declared c.in_ok-decls.decls.items) (environment_at t c.in_ok-all.all.items)) (sym kept)
           (subst (λ ds. FitDeclarations c.args.dialect ds (environment_at c.args.bytes.now c.in_ok-all.all.items)) (sym c.in_ok-decls.ensures) c.in_ok-all.ensures.read.spells.fits) ∣₁;
     }

@@ -5,9 +5,9 @@ use Rattle.snesl_values.specs.Wants.{one, AllRead, Fills, IsStopOf, entry_wants,
 use Rattle.snesl_values.proofs.InputWants.{passed_on, after_one}
 use Rattle.snesl_values.proofs.InputEntries.{SoFar, first_so_far, next_so_far, all_read_closed, all_read_open, none_read, first_declared, next_declared, none_declared, none_left, stop_whole}
 use Rattle.snesl_data.specs.declared.dialect.Dialect.{Dialect}
-use Rattle.snesl_values.specs.Declarations.{Declaration}
-use Rattle.snesl_values.specs.declared.places.Placed.{Placed}
-use Rattle.snesl_values.specs.Entries.{entry_from, environment_at, ArePlaced}
+use Rattle.snesl_values.specs.Declarations.{InputDeclaration}
+use Rattle.snesl_values.specs.declared.places.InputPlace.{InputPlace}
+use Rattle.snesl_values.specs.Entries.{entry_from, environment_at, AreSpelledAt}
 use Rattle.snesl_values.proofs.Entries.{entries-push, placed-push}
 use Rattle.snesl_values.proofs.places.read_places.Goals as goal
 
@@ -43,7 +43,7 @@ loop-declaration-init c =
           (first_so_far c.args.dialect text (declaration_of c.index-decls-0.result) left (entry_from text c.in_ok-input.input) c.in_ok-input.at c.in_ok-input.ensures.read));
       front = declaration_of c.index-decls-0.result ∷ [];
       whole = first;
-      placed = subst (ArePlaced c.args.dialect text (declaration_of c.index-decls-0.result ∷ [])) (sym pushed) (c.in_ok-input.ensures.placed, tt);
+      placed = subst (AreSpelledAt c.args.dialect text (declaration_of c.index-decls-0.result ∷ [])) (sym pushed) (c.in_ok-input.ensures.placed, tt);
     }
 
 pub expect_sign-requires-clause-within : goal.expect_sign-requires-clause-within
@@ -106,7 +106,7 @@ loop-declaration-preserved c =
           c.in_ok-start.ensures.taken c.in_ok-input-2.ensures.read);
       front = front ++ d ∷ [];
       whole = c.loop-declaration.invariant.whole ∙ ap (λ l. front ++ l) next ∙ sym (append_assoc front (d ∷ []) left);
-      placed = subst (ArePlaced c.args.dialect text (front ++ d ∷ [])) (sym c.in_ok-push-2.ensures.items)
+      placed = subst (AreSpelledAt c.args.dialect text (front ++ d ∷ [])) (sym c.in_ok-push-2.ensures.items)
           (placed-push c.args.dialect text front c.loop-declaration.all.items d c.in_ok-input-2.input c.loop-declaration.invariant.placed c.in_ok-input-2.ensures.placed);
     }
 
@@ -133,13 +133,13 @@ returns-in-None-clause-read c =
     c.in-None.ensures.another
 
 -- where no declaration is left, all are placed
-pub all_placed : (dialect : Dialect) (text : List ℕ) (ds front left : List Declaration) (all : List Placed) → ds ≡ front ++ left → left ≡ [] → ArePlaced dialect text front all → ArePlaced dialect text ds all
-all_placed dialect text ds front left all whole none placed = subst (λ l. ArePlaced dialect text l all) (sym (whole ∙ ap (λ l. front ++ l) none ∙ append-nil front)) placed
+pub all_placed : (dialect : Dialect) (text : List ℕ) (ds front left : List InputDeclaration) (all : List InputPlace) → ds ≡ front ++ left → left ≡ [] → AreSpelledAt dialect text front all → AreSpelledAt dialect text ds all
+all_placed dialect text ds front left all whole none placed = subst (λ l. AreSpelledAt dialect text l all) (sym (whole ∙ ap (λ l. front ++ l) none ∙ append-nil front)) placed
 
 pub returns-then-is_empty-clause-placed : goal.returns-then-is_empty-clause-placed
 returns-then-is_empty-clause-placed c =
-    subst (ArePlaced c.args.dialect c.args.text.now (declared c.args.decls.now)) (sym c.new-all.ensures.items)
-    (subst (λ ds. ArePlaced c.args.dialect c.args.text.now ds []) (sym (none_declared c.args.decls.now (eqb-true _ _ (sym c.if-is_empty.ensures)))) tt)
+    subst (AreSpelledAt c.args.dialect c.args.text.now (declared c.args.decls.now)) (sym c.new-all.ensures.items)
+    (subst (λ ds. AreSpelledAt c.args.dialect c.args.text.now ds []) (sym (none_declared c.args.decls.now (eqb-true _ _ (sym c.if-is_empty.ensures)))) tt)
 
 pub returns-in-Some-clause-placed : goal.returns-in-Some-clause-placed
 returns-in-Some-clause-placed c =

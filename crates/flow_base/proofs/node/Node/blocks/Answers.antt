@@ -2,6 +2,7 @@ use Rattle.std.proofs.Common.{refl, sym, subst}
 use Rattle.flow_base.specs.Members.{node_of}
 use Rattle.flow_base.specs.Nodes.{node_state}
 use Rattle.flow_base.specs.Visits.{Went}
+use Rattle.flow_base.specs.NodeLaws.{behaviour_laws}
 use Rattle.flow_base.proofs.Kernels.{made_went, wired}
 use Rattle.flow_base.proofs.Visits.{placed_on}
 use Rattle.flow_base.proofs.Walks.{walk_then}
@@ -9,16 +10,16 @@ use Rattle.flow_base.proofs.node.Node.blocks.Goals as goal
 
 pub blocks-whole-requires : goal.blocks-whole-requires
 blocks-whole-requires g c =
-    let node = node_of g.W.Worker.state g.W.Worker.machine g.met.W.Worker.laws in
+    let node = node_of g.W.Worker.state g.W.Worker.machine in
     let along = c.over_slices-along in
     let walk = along.ensures.walk in
-    let placed = placed_on node.laws c.requires.placed (made_went (along.result, walk.went, refl) node.laws c.requires.placed walk.ends) in
+    let placed = placed_on (behaviour_laws _ g.met.W.Worker.laws) c.requires.placed (made_went (along.result, walk.went, refl) (behaviour_laws _ g.met.W.Worker.laws) c.requires.placed walk.ends) in
     record { wired = wired node.behaviour c.args.inputs.now c.args.outputs.now (node.state along.new.self) (g.E.Ends.view along.new.ends) placed; kinds = placed.kinds }
 
 pub returns : goal.returns
 returns g c =
     let state = g.W.Worker.state in
-    let node = node_of state g.W.Worker.machine g.met.W.Worker.laws in
+    let node = node_of state g.W.Worker.machine in
     let b = node.behaviour in
     let ins = c.args.inputs.now in
     let outs = c.args.outputs.now in

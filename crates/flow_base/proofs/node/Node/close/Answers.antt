@@ -3,43 +3,44 @@ use Rattle.std.proofs.Math.Bool.{or-false}
 use Rattle.std.proofs.lemmas.Bool.{or_right}
 use Rattle.flow_base.specs.Members.{node_of}
 use Rattle.flow_base.specs.Visits.{Visited}
+use Rattle.flow_base.specs.NodeLaws.{behaviour_laws}
 use Rattle.flow_base.proofs.Carried.{same_ends_then}
 use Rattle.flow_base.proofs.Visits.{Made, made_none, made_visit, visited_on, broke_on, on_err}
 use Rattle.flow_base.proofs.node.Node.close.Goals as goal
 
 pub loop-init : goal.loop-init
 loop-init g c =
-    let node = node_of g.W.Worker.state g.W.Worker.machine g.met.W.Worker.laws in
+    let node = node_of g.W.Worker.state g.W.Worker.machine in
     record {
       same = g.met.E.Ends.same_refl c.args.ends.now;
-      made = made_none node.laws c.requires.placed;
+      made = made_none (behaviour_laws _ g.met.W.Worker.laws) c.requires.placed;
       first = λ h. refl;
     }
 
 pub returns-in_err-step-clause-broke : goal.returns-in_err-step-clause-broke
 returns-in_err-step-clause-broke g c =
-    let node = node_of g.W.Worker.state g.W.Worker.machine g.met.W.Worker.laws in
-    on_err c.from_residual.result (broke_on node.laws c.requires.placed c.loop.invariant.made c.in_err-step.ensures.broke)
+    let node = node_of g.W.Worker.state g.W.Worker.machine in
+    on_err c.from_residual.result (broke_on (behaviour_laws _ g.met.W.Worker.laws) c.requires.placed c.loop.invariant.made c.in_err-step.ensures.broke)
 
 pub loop-preserved : goal.loop-preserved
 loop-preserved g c =
-    let node = node_of g.W.Worker.state g.W.Worker.machine g.met.W.Worker.laws in
+    let node = node_of g.W.Worker.state g.W.Worker.machine in
     let view = g.E.Ends.view in
     record {
       same = g.met.E.Ends.same_trans c.args.ends.now c.loop.ends c.step.new.ends c.loop.invariant.same c.step.ensures.same;
       made = subst (Made node.behaviour c.args.inputs.now c.args.outputs.now (node.state c.args.self.now) (view c.args.ends.now) (node.state c.step.new.self) (view c.step.new.ends))
           (or_right c.loop.moved c.in_ok-step.field-0 c.if-not-branch.false)
-          (made_visit node.laws c.requires.placed c.loop.invariant.made c.step.ensures.ends c.in_ok-step.ensures.visited);
+          (made_visit (behaviour_laws _ g.met.W.Worker.laws) c.requires.placed c.loop.invariant.made c.step.ensures.ends c.in_ok-step.ensures.visited);
       first = λ h. cc;
     }
 
 pub returns-then-not-branch-clause-visited : goal.returns-then-not-branch-clause-visited
 returns-then-not-branch-clause-visited g c =
-    let node = node_of g.W.Worker.state g.W.Worker.machine g.met.W.Worker.laws in
+    let node = node_of g.W.Worker.state g.W.Worker.machine in
     let view = g.E.Ends.view in
     subst (Visited c.args.inputs.now c.args.outputs.now node.behaviour (node.state c.args.self.now) (view c.args.ends.now) (node.state c.step.new.self) (view c.step.new.ends))
     (ap (λ any. c.loop.moved || any) c.if-not-branch.true ∙ or-false c.loop.moved)
-    (visited_on node.laws c.requires.placed c.loop.invariant.made c.step.ensures.ends c.in_ok-step.ensures.visited)
+    (visited_on (behaviour_laws _ g.met.W.Worker.laws) c.requires.placed c.loop.invariant.made c.step.ensures.ends c.in_ok-step.ensures.visited)
 
 pub returns-in_err-step-clause-same : goal.returns-in_err-step-clause-same
 returns-in_err-step-clause-same g c = g.met.E.Ends.same_trans c.args.ends.now c.loop.ends c.step.new.ends c.loop.invariant.same c.step.ensures.same

@@ -5,7 +5,7 @@ use Rattle.flow_base.proofs.node.Node.close.Given as goal
 
 -- the steps so far, one in each round
 abbrev pub invariant-loop : goal.invariant-loop
-invariant-loop g l = let node = node_of g.W.Worker.state g.W.Worker.machine g.met.W.Worker.laws in record {
+invariant-loop g l = let node = node_of g.W.Worker.state g.W.Worker.machine in record {
   same : g.E.Ends.same l.fn.ends l.ends;
   made : Made node.behaviour l.fn.inputs l.fn.outputs (node.state l.fn.self) (g.E.Ends.view l.fn.ends) (node.state l.self) (g.E.Ends.view l.ends) l.moved;
   first : l.moved ≡ false → l.counter ≡ 0;

@@ -5,7 +5,7 @@ use Rattle.flow_base.proofs.node.Node.finish.Given as goal
 
 -- the steps so far, one in each round
 abbrev pub invariant-loop-made : goal.invariant-loop-made
-invariant-loop-made g l = let node = node_of g.W.Worker.state g.W.Worker.machine g.met.W.Worker.laws in record {
+invariant-loop-made g l = let node = node_of g.W.Worker.state g.W.Worker.machine in record {
   same : g.E.Ends.same l.fn.ends l.ends;
   made : Made node.behaviour l.fn.inputs l.fn.outputs (node.state l.fn.self) (g.E.Ends.view l.fn.ends) (node.state l.self) (g.E.Ends.view l.ends) (nat_lt 0 l.made);
 }

@@ -4,6 +4,7 @@ use Rattle.flow_base.specs.Along.{PutOnEach, shown_signals, written_signals}
 use Rattle.flow_base.specs.Members.{node_of}
 use Rattle.flow_base.specs.Nodes.{node_state}
 use Rattle.flow_base.specs.Visits.{edge_of, TakeKinds, Went}
+use Rattle.flow_base.specs.NodeLaws.{behaviour_laws}
 use Rattle.flow_base.proofs.Batches.{shown, taken_all_room}
 use Rattle.flow_base.proofs.Carried.{same_ends_then}
 use Rattle.flow_base.proofs.Kernels.{went_none, went_alone, went_further}
@@ -69,7 +70,7 @@ pub put_on_each-requires-clause-kinds : goal.put_on_each-requires-clause-kinds
 put_on_each-requires-clause-kinds g c =
     let state = g.W.Worker.state in
     let m = g.W.Worker.machine in
-    let node = node_of state m g.met.W.Worker.laws in
+    let node = node_of state m in
     let outs = c.args.outputs.now in
     let view = g.E.Ends.view in
     let a = view c.args.ends.now in
@@ -80,7 +81,7 @@ put_on_each-requires-clause-kinds g c =
     let new = state c.along-moved.new.self in
     let ran = c.along-moved.ensures.ran in
     let same = same_ends_then a v1 v2 (same_ends_then a v v1 c.least_space.ensures.ends c.skip_at.ensures.taken.ends) c.skip_at-2.ensures.taken.ends in
-    subst (λ p. TakeKinds outs (m.kind_out p) v2) (sym (same_parameters m node.laws old new ran.history 0 (ran.does 0))) (kinds_still a v2 outs (m.kind_out old.0) same c.requires.placed.kinds)
+    subst (λ p. TakeKinds outs (m.kind_out p) v2) (sym (same_parameters m (behaviour_laws _ g.met.W.Worker.laws) old new ran.history 0 (ran.does 0))) (kinds_still a v2 outs (m.kind_out old.0) same c.requires.placed.kinds)
 
 pub put_on_each-requires-clause-room : goal.put_on_each-requires-clause-room
 put_on_each-requires-clause-room g c = λ q there.
@@ -108,7 +109,7 @@ pub returns-then-steps-eq0-clause-walk : goal.returns-then-steps-eq0-clause-walk
 returns-then-steps-eq0-clause-walk g c =
     let state = g.W.Worker.state in
     let m = g.W.Worker.machine in
-    let node = node_of state m g.met.W.Worker.laws in
+    let node = node_of state m in
     let b = node.behaviour in
     let ins = c.args.inputs.now in
     let outs = c.args.outputs.now in
@@ -129,7 +130,7 @@ pub returns-clause-walk : goal.returns-clause-walk
 returns-clause-walk g c =
     let state = g.W.Worker.state in
     let m = g.W.Worker.machine in
-    let node = node_of state m g.met.W.Worker.laws in
+    let node = node_of state m in
     let b = node.behaviour in
     let ins = c.args.inputs.now in
     let outs = c.args.outputs.now in
@@ -154,7 +155,7 @@ returns-clause-walk g c =
     let ys = take made.second seconds in
     let first = subst (λ l. TakenAll v (edge_of ins 0) l v1) (shown firsts (v.coming (edge_of ins 0)) made.first c.shown_at-first.ensures.shown within.first) c.skip_at.ensures.taken in
     let second = subst (λ l. TakenAll v1 (edge_of ins 1) l v2) (second_taken ins c.requires.inputs v v1 made.second (take made.first (v.coming (edge_of ins 0))) seconds c.skip_at.ensures.taken c.shown_at-second.ensures.shown within.second none_second) c.skip_at-2.ensures.taken in
-    let parameters = same_parameters m node.laws old new ran.history 0 (ran.does 0) in
+    let parameters = same_parameters m (behaviour_laws _ g.met.W.Worker.laws) old new ran.history 0 (ran.does 0) in
     let put = subst (λ p. PutOnEach outs (length outs) (λ q. written_signals block made (m.kind_out p q)) v2 w) parameters c.put_on_each.ensures.put in
     let some : 0 < made.steps = omega (arith, c.if-steps-eq0.false) in
     let went = along_went m block made ins outs n.at xs ys ran c.requires.inputs c.requires.outputs c.requires.placed.each_output (λ le. take_nothing made.first firsts (none_first le)) (λ le. take_nothing made.second seconds (none_second le)) some v v1 v2 w first second put in

@@ -6,7 +6,7 @@ use Rattle.flow_base.proofs.node.Node.over_slices.Given as goal
 
 -- the rounds so far
 abbrev pub invariant-rounds : goal.invariant-rounds
-invariant-rounds g l = let node = node_of g.W.Worker.state g.W.Worker.machine g.met.W.Worker.laws in record {
+invariant-rounds g l = let node = node_of g.W.Worker.state g.W.Worker.machine in record {
   works : l.self.phase ≡ Working;
   walk : Walk g.E.Ends.view g.E.Ends.same l.fn.inputs l.fn.outputs node.behaviour (node.state l.fn.self) l.fn.ends (node.state l.self) l.ends l.most l.made;
 }

@@ -13,7 +13,7 @@ use Rattle.flow_base.proofs.node.Node.pass_items.Goals.{in-Some, in_default}
 pub loop-flat-init : goal.loop-flat-init
 loop-flat-init g c =
     let m = g.W.Worker.machine in
-    let node = node_of g.W.Worker.state m g.met.W.Worker.laws in
+    let node = node_of g.W.Worker.state m in
     let b = node.behaviour in
     let s = node.state c.args.self.now in
     let none = none_passed m g.met.W.Worker.laws g.W.Worker.passes s c.requires.passes in
@@ -31,14 +31,14 @@ returns-then-is_end-clause-ended g c =
 pub returns-clause-all : goal.returns-clause-all
 returns-clause-all g c =
     let m = g.W.Worker.machine in
-    let node = node_of g.W.Worker.state m g.met.W.Worker.laws in
+    let node = node_of g.W.Worker.state m in
     let s = node.state c.args.self.now in
     λ no. subst (λ l. PassedOn node.behaviour s (flat_signals l) s (flat_signals c.loop-flat.out.items)) (take_all c.loop-flat.flat-index c.args.flats.now c.loop-flat-test.false) c.loop-flat.invariant.passed
 
 pub loop-flat-preserved : goal.loop-flat-preserved
 loop-flat-preserved g c =
     let m = g.W.Worker.machine in
-    let node = node_of g.W.Worker.state m g.met.W.Worker.laws in
+    let node = node_of g.W.Worker.state m in
     let outs = c.loop-flat.out.items in
     let follows = c.follows.result in
     let passes = says_passes m g.W.Worker.passes (node.state c.args.self.now) c.requires.passes in

@@ -4,14 +4,15 @@ use Rattle.flow_messages.specs.Signals.{signal_of}
 use Rattle.flow_messages.specs.Kinds.{FitsEdge}
 use Rattle.flow_base.specs.Visits.{edge_of, IsStuck}
 use Rattle.flow_base.specs.Members.{node_of}
+use Rattle.flow_base.specs.NodeLaws.{behaviour_laws}
 use Rattle.flow_base.proofs.Visits.{made_none, input_there, output_there, put_fits, made_read, made_put, made_looked, made_room, visited, broke_off, broke_reading, starves_err, no_room, on_err}
 use Rattle.flow_base.proofs.node.Node.step.Goals as goal
 
 pub prove-unreachable-requires : goal.prove-unreachable-requires
 prove-unreachable-requires g c =
-    let node = node_of g.W.Worker.state g.W.Worker.machine g.met.W.Worker.laws in
+    let node = node_of g.W.Worker.state g.W.Worker.machine in
     let b = node.behaviour in
-    let laws = node.laws in
+    let laws = (behaviour_laws _ g.met.W.Worker.laws) in
     let s = node.state c.args.self.now in
     let placed = c.requires.placed in
     let made = made_none laws placed in
@@ -20,9 +21,9 @@ prove-unreachable-requires g c =
 
 pub prove-unreachable-requires-in-Write : goal.prove-unreachable-requires-in-Write
 prove-unreachable-requires-in-Write g c =
-    let node = node_of g.W.Worker.state g.W.Worker.machine g.met.W.Worker.laws in
+    let node = node_of g.W.Worker.state g.W.Worker.machine in
     let b = node.behaviour in
-    let laws = node.laws in
+    let laws = (behaviour_laws _ g.met.W.Worker.laws) in
     let s = node.state c.args.self.now in
     let placed = c.requires.placed in
     let made = made_none laws placed in
@@ -31,9 +32,9 @@ prove-unreachable-requires-in-Write g c =
 
 pub returns-in_default-clause-visited : goal.returns-in_default-clause-visited
 returns-in_default-clause-visited g c =
-    let node = node_of g.W.Worker.state g.W.Worker.machine g.met.W.Worker.laws in
+    let node = node_of g.W.Worker.state g.W.Worker.machine in
     let b = node.behaviour in
-    let laws = node.laws in
+    let laws = (behaviour_laws _ g.met.W.Worker.laws) in
     let ins = c.args.inputs.now in
     let outs = c.args.outputs.now in
     let s = node.state c.args.self.now in
@@ -47,9 +48,9 @@ returns-in_default-clause-visited g c =
 
 pub returns-in_err-give-in-Read-clause-broke : goal.returns-in_err-give-in-Read-clause-broke
 returns-in_err-give-in-Read-clause-broke g c =
-    let node = node_of g.W.Worker.state g.W.Worker.machine g.met.W.Worker.laws in
+    let node = node_of g.W.Worker.state g.W.Worker.machine in
     let b = node.behaviour in
-    let laws = node.laws in
+    let laws = (behaviour_laws _ g.met.W.Worker.laws) in
     let s = node.state c.args.self.now in
     let view = g.E.Ends.view in
     let placed = c.requires.placed in
@@ -59,9 +60,9 @@ returns-in_err-give-in-Read-clause-broke g c =
 
 pub returns-then-not-room-clause-visited : goal.returns-then-not-room-clause-visited
 returns-then-not-room-clause-visited g c =
-    let node = node_of g.W.Worker.state g.W.Worker.machine g.met.W.Worker.laws in
+    let node = node_of g.W.Worker.state g.W.Worker.machine in
     let b = node.behaviour in
-    let laws = node.laws in
+    let laws = (behaviour_laws _ g.met.W.Worker.laws) in
     let ins = c.args.inputs.now in
     let outs = c.args.outputs.now in
     let s = node.state c.args.self.now in
@@ -76,9 +77,9 @@ returns-then-not-room-clause-visited g c =
 
 pub returns-in_err-message-in-Write-clause-broke : goal.returns-in_err-message-in-Write-clause-broke
 returns-in_err-message-in-Write-clause-broke g c =
-    let node = node_of g.W.Worker.state g.W.Worker.machine g.met.W.Worker.laws in
+    let node = node_of g.W.Worker.state g.W.Worker.machine in
     let b = node.behaviour in
-    let laws = node.laws in
+    let laws = (behaviour_laws _ g.met.W.Worker.laws) in
     let s = node.state c.args.self.now in
     let view = g.E.Ends.view in
     let placed = c.requires.placed in
@@ -91,9 +92,9 @@ returns-in_err-message-in-Write-clause-broke g c =
 
 pub returns-in_ok-give-in-Read-clause-visited : goal.returns-in_ok-give-in-Read-clause-visited
 returns-in_ok-give-in-Read-clause-visited g c =
-    let node = node_of g.W.Worker.state g.W.Worker.machine g.met.W.Worker.laws in
+    let node = node_of g.W.Worker.state g.W.Worker.machine in
     let b = node.behaviour in
-    let laws = node.laws in
+    let laws = (behaviour_laws _ g.met.W.Worker.laws) in
     let s = node.state c.args.self.now in
     let view = g.E.Ends.view in
     let placed = c.requires.placed in
@@ -106,9 +107,9 @@ returns-in_ok-give-in-Read-clause-visited g c =
 
 pub put-requires-clause-fits : goal.put-requires-clause-fits
 put-requires-clause-fits g c =
-    let node = node_of g.W.Worker.state g.W.Worker.machine g.met.W.Worker.laws in
+    let node = node_of g.W.Worker.state g.W.Worker.machine in
     let b = node.behaviour in
-    let laws = node.laws in
+    let laws = (behaviour_laws _ g.met.W.Worker.laws) in
     let s = node.state c.args.self.now in
     let placed = c.requires.placed in
     let u = g.E.Ends.view c.room.new.self in
@@ -117,9 +118,9 @@ put-requires-clause-fits g c =
 
 pub returns-in_ok-message-in-Write-clause-visited : goal.returns-in_ok-message-in-Write-clause-visited
 returns-in_ok-message-in-Write-clause-visited g c =
-    let node = node_of g.W.Worker.state g.W.Worker.machine g.met.W.Worker.laws in
+    let node = node_of g.W.Worker.state g.W.Worker.machine in
     let b = node.behaviour in
-    let laws = node.laws in
+    let laws = (behaviour_laws _ g.met.W.Worker.laws) in
     let outs = c.args.outputs.now in
     let s = node.state c.args.self.now in
     let view = g.E.Ends.view in
@@ -136,8 +137,8 @@ returns-in_ok-message-in-Write-clause-visited g c =
 
 pub returns-in-Ended-clause-visited : goal.returns-in-Ended-clause-visited
 returns-in-Ended-clause-visited g c =
-    let node = node_of g.W.Worker.state g.W.Worker.machine g.met.W.Worker.laws in
-    let laws = node.laws in
+    let node = node_of g.W.Worker.state g.W.Worker.machine in
+    let laws = (behaviour_laws _ g.met.W.Worker.laws) in
     let ins = c.args.inputs.now in
     let outs = c.args.outputs.now in
     let view = g.E.Ends.view in

@@ -3,6 +3,7 @@ use Rattle.std.proofs.lemmas.Bool.{or_left}
 use Rattle.flow_base.specs.declared.node.Phase.TheVariants.{Working}
 use Rattle.flow_base.specs.Members.{node_of}
 use Rattle.flow_base.specs.Visits.{Visited}
+use Rattle.flow_base.specs.NodeLaws.{behaviour_laws}
 use Rattle.flow_base.proofs.Carried.{same_ends_then}
 use Rattle.flow_base.proofs.Visits.{made_first, placed_on, visited_on, broke_on, moved, on_err}
 use Rattle.flow_base.proofs.node.Node.visit_by_steps.Goals.{in-Working, in_default, in-Working-matches, in_default-matches}
@@ -10,32 +11,32 @@ use Rattle.flow_base.proofs.node.Node.visit_by_steps.Goals as goal
 
 pub close-requires-2-clause-placed : goal.close-requires-2-clause-placed
 close-requires-2-clause-placed g c =
-    let node = node_of g.W.Worker.state g.W.Worker.machine g.met.W.Worker.laws in
+    let node = node_of g.W.Worker.state g.W.Worker.machine in
     let placed = c.requires.placed in
-    placed_on node.laws placed (made_first node.laws placed c.work.ensures.ends c.in_ok-made.ensures.visited)
+    placed_on (behaviour_laws _ g.met.W.Worker.laws) placed (made_first (behaviour_laws _ g.met.W.Worker.laws) placed c.work.ensures.ends c.in_ok-made.ensures.visited)
 
 pub returns-in_err-close-clause-broke : goal.returns-in_err-close-clause-broke
 returns-in_err-close-clause-broke g c =
-    let node = node_of g.W.Worker.state g.W.Worker.machine g.met.W.Worker.laws in
+    let node = node_of g.W.Worker.state g.W.Worker.machine in
     let placed = c.requires.placed in
-    let worked = made_first node.laws placed c.work.ensures.ends c.in_ok-made.ensures.visited in
-    on_err c.from_residual-in_err-close.result (broke_on node.laws placed worked c.in_err-close.ensures.broke)
+    let worked = made_first (behaviour_laws _ g.met.W.Worker.laws) placed c.work.ensures.ends c.in_ok-made.ensures.visited in
+    on_err c.from_residual-in_err-close.result (broke_on (behaviour_laws _ g.met.W.Worker.laws) placed worked c.in_err-close.ensures.broke)
 
 -- it works no longer, and so it made a step
 pub returns-clause-visited : goal.returns-clause-visited
 returns-clause-visited g c =
-    let node = node_of g.W.Worker.state g.W.Worker.machine g.met.W.Worker.laws in
+    let node = node_of g.W.Worker.state g.W.Worker.machine in
     let view = g.E.Ends.view in
     let placed = c.requires.placed in
     let s = node.state c.args.self.now in
     let t = node.state c.work.new.self in
-    let worked = made_first node.laws placed c.work.ensures.ends c.in_ok-made.ensures.visited in
+    let worked = made_first (behaviour_laws _ g.met.W.Worker.laws) placed c.work.ensures.ends c.in_ok-made.ensures.visited in
     let works : s.phase ≡ Working = elim c.match-matches.branch [ in-Working w ↦ w.in-Working.is | in_default w ↦ absurd (cc (w.matches-is, c.if-not-matches.false)) ] in
     let stopped : t.phase ≡ Working → ⊥ = λ on. elim c.match-matches-2.branch [ in-Working-matches w ↦ absurd (cc (w.matches-is, c.if-matches.false)) | in_default-matches w ↦ w.in_default-matches.not-Working on ] in
-    let some : nat_lt 0 c.in_ok-made.made ≡ true = moved node.laws placed worked (λ same. stopped (sym (ap (λ n. n.phase) same) ∙ works)) in
+    let some : nat_lt 0 c.in_ok-made.made ≡ true = moved (behaviour_laws _ g.met.W.Worker.laws) placed worked (λ same. stopped (sym (ap (λ n. n.phase) same) ∙ works)) in
     subst (Visited c.args.inputs.now c.args.outputs.now node.behaviour s (view c.args.ends.now) (node.state c.close-2.new.self) (view c.close-2.new.ends))
     (or_left (nat_lt 0 c.in_ok-made.made) c.in_ok-close.field-0 some)
-    (visited_on node.laws placed worked c.close-2.ensures.ends c.in_ok-close.ensures.visited)
+    (visited_on (behaviour_laws _ g.met.W.Worker.laws) placed worked c.close-2.ensures.ends c.in_ok-close.ensures.visited)
 
 pub returns-in_err-close-clause-same : goal.returns-in_err-close-clause-same
 returns-in_err-close-clause-same g c = g.met.E.Ends.same_trans c.args.ends.now c.work.new.ends c.close-2.new.ends c.work.ensures.same c.close-2.ensures.same

@@ -3,6 +3,7 @@ use Rattle.std.specs.Result.{IfOk, OnErr}
 use Rattle.std.proofs.lemmas.Bool.Decides.{nat_tests}
 use Rattle.flow_base.specs.Members.{node_of}
 use Rattle.flow_base.specs.Visits.{Visited}
+use Rattle.flow_base.specs.NodeLaws.{behaviour_laws}
 use Rattle.flow_base.proofs.Kernels.{made_went}
 use Rattle.flow_base.proofs.Visits.{Made, placed_on, visited, visited_on, broke_on}
 use Rattle.flow_base.proofs.node.Node.visit_over_slices.Goals.{in-Working, in_default}
@@ -13,9 +14,9 @@ many-requires-clause-works g c = elim c.match-matches.branch [ in-Working w ↦ 
 
 pub visit_by_steps-requires-clause-placed : goal.visit_by_steps-requires-clause-placed
 visit_by_steps-requires-clause-placed g c =
-    let node = node_of g.W.Worker.state g.W.Worker.machine g.met.W.Worker.laws in
+    let node = node_of g.W.Worker.state g.W.Worker.machine in
     let placed = c.requires.placed in
-    placed_on node.laws placed (made_went c.in_ok-whole.ensures.went node.laws placed c.many.ensures.ends)
+    placed_on (behaviour_laws _ g.met.W.Worker.laws) placed (made_went c.in_ok-whole.ensures.went (behaviour_laws _ g.met.W.Worker.laws) placed c.many.ensures.ends)
 
 if_ok : {E : Type 0} {P Q : Bool → Type 0} (r : Result Bool E) → ((any : Bool) → P any → Q any) → IfOk r P → IfOk r Q
 if_ok (Ok any) step p = step any p
@@ -31,26 +32,26 @@ positive n some = grind (arith, nat_tests)
 -- none was made over slices
 pub returns-then-whole-eq0-clause-visited : goal.returns-then-whole-eq0-clause-visited
 returns-then-whole-eq0-clause-visited g c =
-    let node = node_of g.W.Worker.state g.W.Worker.machine g.met.W.Worker.laws in
+    let node = node_of g.W.Worker.state g.W.Worker.machine in
     let view = g.E.Ends.view in
     let placed = c.requires.placed in
     let later = c.visit_by_steps in
-    let made = made_went c.in_ok-whole.ensures.went node.laws placed c.many.ensures.ends in
+    let made = made_went c.in_ok-whole.ensures.went (behaviour_laws _ g.met.W.Worker.laws) placed c.many.ensures.ends in
     let seen = Visited c.args.inputs.now c.args.outputs.now node.behaviour (node.state c.args.self.now) (view c.args.ends.now) (node.state later.new.self) (view later.new.ends) in
-    if_ok later.result (λ any next. subst seen (ap (λ n. nat_lt 0 n || any) c.if-whole-eq0.true) (visited_on node.laws placed made later.ensures.ends next)) later.ensures.visited
+    if_ok later.result (λ any next. subst seen (ap (λ n. nat_lt 0 n || any) c.if-whole-eq0.true) (visited_on (behaviour_laws _ g.met.W.Worker.laws) placed made later.ensures.ends next)) later.ensures.visited
 
 pub returns-then-whole-eq0-clause-broke : goal.returns-then-whole-eq0-clause-broke
 returns-then-whole-eq0-clause-broke g c =
-    let node = node_of g.W.Worker.state g.W.Worker.machine g.met.W.Worker.laws in
+    let node = node_of g.W.Worker.state g.W.Worker.machine in
     let placed = c.requires.placed in
-    let made = made_went c.in_ok-whole.ensures.went node.laws placed c.many.ensures.ends in
-    on_error c.visit_by_steps.result (broke_on node.laws placed made) c.visit_by_steps.ensures.broke
+    let made = made_went c.in_ok-whole.ensures.went (behaviour_laws _ g.met.W.Worker.laws) placed c.many.ensures.ends in
+    on_error c.visit_by_steps.result (broke_on (behaviour_laws _ g.met.W.Worker.laws) placed made) c.visit_by_steps.ensures.broke
 
 pub returns-clause-visited : goal.returns-clause-visited
 returns-clause-visited g c =
-    let node = node_of g.W.Worker.state g.W.Worker.machine g.met.W.Worker.laws in
+    let node = node_of g.W.Worker.state g.W.Worker.machine in
     let view = g.E.Ends.view in
     let placed = c.requires.placed in
-    let made = made_went c.in_ok-whole.ensures.went node.laws placed c.many.ensures.ends in
+    let made = made_went c.in_ok-whole.ensures.went (behaviour_laws _ g.met.W.Worker.laws) placed c.many.ensures.ends in
     let some = positive c.in_ok-whole.whole c.if-whole-eq0.false in
-    visited node.laws placed (subst (Made node.behaviour c.args.inputs.now c.args.outputs.now (node.state c.args.self.now) (view c.args.ends.now) (node.state c.many.new.self) (view c.many.new.ends)) some made) (λ h. absurd (let no : true ≡ false = h in cc))
+    visited (behaviour_laws _ g.met.W.Worker.laws) placed (subst (Made node.behaviour c.args.inputs.now c.args.outputs.now (node.state c.args.self.now) (view c.args.ends.now) (node.state c.many.new.self) (view c.many.new.ends)) some made) (λ h. absurd (let no : true ≡ false = h in cc))

@@ -8,6 +8,7 @@ use Rattle.flow_base.specs.Machines.{move_of, written_cell}
 use Rattle.flow_base.specs.Nodes.{node_state, want_in, written_signal, after_in, memory_in}
 use Rattle.flow_base.specs.Members.{node_of}
 use Rattle.flow_base.specs.Visits.{edge_of, IsStuck, Visited}
+use Rattle.flow_base.specs.NodeLaws.{behaviour_laws}
 use Rattle.flow_base.proofs.Carried.{same_ends_then}
 use Rattle.flow_base.proofs.Visits.{Made, input_there, output_there, put_fits, reads_at, made_none, made_read, made_wrote, made_looked, made_room, visited, broke_off, broke_reading, starves_err, no_room, on_err}
 use Rattle.flow_base.proofs.node.Node.work.Goals.{in-Read+else-prove+in-Some+in_ok-read_on-in-Read+else-not-branch, in-Write+else-prove-2+else-not-room+in_ok-item-in-Write}
@@ -19,9 +20,9 @@ stepped n = grind (arith, nat_tests)
 pub prove-unreachable-requires : goal.prove-unreachable-requires
 prove-unreachable-requires g c =
     let m = g.W.Worker.machine in
-    let node = node_of g.W.Worker.state m g.met.W.Worker.laws in
+    let node = node_of g.W.Worker.state m in
     let b = node.behaviour in
-    let laws = node.laws in
+    let laws = (behaviour_laws _ g.met.W.Worker.laws) in
     let t = node.state c.loop-made.self in
     let placed = c.requires.placed in
     let made = c.loop-made.invariant.made in
@@ -32,9 +33,9 @@ prove-unreachable-requires g c =
 pub prove-unreachable-requires-in-Write : goal.prove-unreachable-requires-in-Write
 prove-unreachable-requires-in-Write g c =
     let m = g.W.Worker.machine in
-    let node = node_of g.W.Worker.state m g.met.W.Worker.laws in
+    let node = node_of g.W.Worker.state m in
     let b = node.behaviour in
-    let laws = node.laws in
+    let laws = (behaviour_laws _ g.met.W.Worker.laws) in
     let t = node.state c.loop-made.self in
     let placed = c.requires.placed in
     let made = c.loop-made.invariant.made in
@@ -45,8 +46,8 @@ prove-unreachable-requires-in-Write g c =
 pub take-requires : goal.take-requires
 take-requires g c =
     let m = g.W.Worker.machine in
-    let node = node_of g.W.Worker.state m g.met.W.Worker.laws in
-    let laws = node.laws in
+    let node = node_of g.W.Worker.state m in
+    let laws = (behaviour_laws _ g.met.W.Worker.laws) in
     let placed = c.requires.placed in
     let made = c.loop-made.invariant.made in
     reads_at laws placed made c.in-Read.port c.if-prove.false
@@ -54,9 +55,9 @@ take-requires g c =
 pub returns-in_default-clause-visited : goal.returns-in_default-clause-visited
 returns-in_default-clause-visited g c =
     let m = g.W.Worker.machine in
-    let node = node_of g.W.Worker.state m g.met.W.Worker.laws in
+    let node = node_of g.W.Worker.state m in
     let b = node.behaviour in
-    let laws = node.laws in
+    let laws = (behaviour_laws _ g.met.W.Worker.laws) in
     let ins = c.args.inputs.now in
     let outs = c.args.outputs.now in
     let t = node.state c.loop-made.self in
@@ -72,9 +73,9 @@ returns-in_default-clause-visited g c =
 pub returns-then-not-room-clause-visited : goal.returns-then-not-room-clause-visited
 returns-then-not-room-clause-visited g c =
     let m = g.W.Worker.machine in
-    let node = node_of g.W.Worker.state m g.met.W.Worker.laws in
+    let node = node_of g.W.Worker.state m in
     let b = node.behaviour in
-    let laws = node.laws in
+    let laws = (behaviour_laws _ g.met.W.Worker.laws) in
     let ins = c.args.inputs.now in
     let outs = c.args.outputs.now in
     let t = node.state c.loop-made.self in
@@ -91,9 +92,9 @@ returns-then-not-room-clause-visited g c =
 pub returns-then-not-branch-clause-visited : goal.returns-then-not-branch-clause-visited
 returns-then-not-branch-clause-visited g c =
     let m = g.W.Worker.machine in
-    let node = node_of g.W.Worker.state m g.met.W.Worker.laws in
+    let node = node_of g.W.Worker.state m in
     let b = node.behaviour in
-    let laws = node.laws in
+    let laws = (behaviour_laws _ g.met.W.Worker.laws) in
     let t = node.state c.loop-made.self in
     let view = g.E.Ends.view in
     let placed = c.requires.placed in
@@ -108,9 +109,9 @@ returns-then-not-branch-clause-visited g c =
 pub returns-in_err-read_on-in-Read-clause-broke : goal.returns-in_err-read_on-in-Read-clause-broke
 returns-in_err-read_on-in-Read-clause-broke g c =
     let m = g.W.Worker.machine in
-    let node = node_of g.W.Worker.state m g.met.W.Worker.laws in
+    let node = node_of g.W.Worker.state m in
     let b = node.behaviour in
-    let laws = node.laws in
+    let laws = (behaviour_laws _ g.met.W.Worker.laws) in
     let t = node.state c.loop-made.self in
     let view = g.E.Ends.view in
     let placed = c.requires.placed in
@@ -122,9 +123,9 @@ returns-in_err-read_on-in-Read-clause-broke g c =
 pub returns-in_err-item-in-Write-clause-broke : goal.returns-in_err-item-in-Write-clause-broke
 returns-in_err-item-in-Write-clause-broke g c =
     let m = g.W.Worker.machine in
-    let node = node_of g.W.Worker.state m g.met.W.Worker.laws in
+    let node = node_of g.W.Worker.state m in
     let b = node.behaviour in
-    let laws = node.laws in
+    let laws = (behaviour_laws _ g.met.W.Worker.laws) in
     let t = node.state c.loop-made.self in
     let view = g.E.Ends.view in
     let placed = c.requires.placed in
@@ -139,9 +140,9 @@ returns-in_err-item-in-Write-clause-broke g c =
 pub put_in_space-requires-clause-fits : goal.put_in_space-requires-clause-fits
 put_in_space-requires-clause-fits g c =
     let m = g.W.Worker.machine in
-    let node = node_of g.W.Worker.state m g.met.W.Worker.laws in
+    let node = node_of g.W.Worker.state m in
     let b = node.behaviour in
-    let laws = node.laws in
+    let laws = (behaviour_laws _ g.met.W.Worker.laws) in
     let t = node.state c.loop-made.self in
     let placed = c.requires.placed in
     let made = c.loop-made.invariant.made in
@@ -154,9 +155,9 @@ put_in_space-requires-clause-fits g c =
 pub loop-made-preserved : goal.loop-made-preserved
 loop-made-preserved g c =
     let m = g.W.Worker.machine in
-    let node = node_of g.W.Worker.state m g.met.W.Worker.laws in
+    let node = node_of g.W.Worker.state m in
     let b = node.behaviour in
-    let laws = node.laws in
+    let laws = (behaviour_laws _ g.met.W.Worker.laws) in
     let ins = c.args.inputs.now in
     let outs = c.args.outputs.now in
     let s = node.state c.args.self.now in
@@ -189,11 +190,11 @@ loop-made-preserved g c =
 
 pub loop-made-init : goal.loop-made-init
 loop-made-init g c =
-    let node = node_of g.W.Worker.state g.W.Worker.machine g.met.W.Worker.laws in
+    let node = node_of g.W.Worker.state g.W.Worker.machine in
     record {
       same = g.met.E.Ends.same_refl c.args.ends.now;
       works = c.requires.works;
-      made = made_none node.laws c.requires.placed;
+      made = made_none (behaviour_laws _ g.met.W.Worker.laws) c.requires.placed;
     }
 
 pub returns-in_default-clause-same : goal.returns-in_default-clause-same

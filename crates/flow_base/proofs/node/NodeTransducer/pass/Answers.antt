@@ -10,7 +10,7 @@ use Rattle.flow_base.proofs.node.NodeTransducer.pass.Goals as goal
 pub returns-then-pass_items-clause-passed : goal.returns-then-pass_items-clause-passed
 returns-then-pass_items-clause-passed g c =
     let m = g.W.Worker.machine in
-    let node = node_of g.W.Worker.state m g.met.W.Worker.laws in
+    let node = node_of g.W.Worker.state m in
     let n = node.state c.args.self.now in
     let t = node.state c.pass_end.new.self in
     let is : node_passes m g.W.Worker.passes n ≡ true = sym c.if-not-may_pass.ensures.exact in

@@ -24,5 +24,6 @@ returns-clause-along c =
     let back_more : to_z w64 (of_z w64 more) ≡ more = search rules in
     let so_far = subst (λ k. AwaitsFlag c.args.self.now.reduction s (Some (Int k))) (sym back) c.in-Some.ensures.so_far in
     let along = (went.ensures.along dialect s (subst (λ r. AwaitsFlag r s (Some (Int (to_z w64 (of_z w64 total))))) c.in-Some.ensures.sum so_far)).0 in
-    let leads : stage_of_sum s more flags ≡ c.stage_of_sum.result = ap (λ k. stage_of_sum s k flags) (sym back_more) ∙ sym c.stage_of_sum.ensures in
-    subst (λ r. Reduces (dialect, r) s flags elements sums c.stage_of_sum.result) (sym c.in-Some.ensures.sum) (subst (Reduces (dialect, Sum) s flags elements sums) leads along)
+    let stage = c.pass_sum.new.self.stage in
+    let leads : stage_of_sum s more flags ≡ stage = ap (λ k. stage_of_sum s k flags) (sym back_more) ∙ sym c.pass_sum.ensures.stage in
+    subst (λ r. Reduces (dialect, r) s flags elements sums stage) (sym c.in-Some.ensures.sum) (subst (Reduces (dialect, Sum) s flags elements sums) leads along)

@@ -1,7 +1,7 @@
 use Rattle.std.proofs.Common.{[], ◌∷◌}
 use Rattle.flow_messages.proofs.Tables.{if_some}
 use Rattle.flow_messages.specs.Stores.{content_of}
-use Rattle.flow_rings.specs.Edge.{certain_held}
+use Rattle.flow_words.specs.Edge.{certain_held}
 use Rattle.flow_lanes.proofs.Lists.{prefix-more}
 use Rattle.flow_lanes.proofs.ends.LaneReader.front.Goals as goal
 

@@ -1,4 +1,5 @@
 use Rattle.std.proofs.Common.{sym, ap, ◌∙◌, subst}
+use Rattle.std.specs.Prelude.{Some}
 use Rattle.flow_messages.specs.Kinds.{FitsEdge}
 use Rattle.flow_messages.specs.Signals.{signals, signal_of, ended}
 use Rattle.flow_lanes.proofs.InTurn.{given_open, given_fits}
@@ -8,4 +9,4 @@ pub returns-clause-open : goal.returns-clause-open
 returns-clause-open c = ap (λ ms. ended (signals ms)) (sym c.fill_if_empty.ensures.taken) ∙ given_open c.fill_if_empty.new.self c.in_ok-message.message _ c.in_ok-message.ensures.some.1
 
 pub returns-clause-fits : goal.returns-clause-fits
-returns-clause-fits c = subst (λ k. FitsEdge k (signal_of c.in_ok-message.message)) (ap (λ w. w.0) c.fill_if_empty.ensures.edge.0) (given_fits c.fill_if_empty.new.self c.in_ok-message.message _ c.in_ok-message.ensures.some.1)
+returns-clause-fits c = subst (λ k. FitsEdge k (signal_of c.in_ok-message.message)) (ap (λ w. Some w.0) c.fill_if_empty.ensures.edge) (given_fits c.fill_if_empty.new.self c.in_ok-message.message _ c.in_ok-message.ensures.some.1)

@@ -1,6 +1,6 @@
 use Rattle.std.proofs.Common.{◌≤◌, ◌++◌, length, drop, refl, ap, ◌∙◌, arith}
 use Rattle.flow_messages.specs.Stores.{content_of}
-use Rattle.flow_rings.specs.Edge.{certain_held}
+use Rattle.flow_words.specs.Edge.{certain_held}
 use Rattle.flow_lanes.specs.Taken.{held_in}
 use Rattle.flow_lanes.proofs.Drained.{skipped}
 use Rattle.flow_lanes.proofs.pocket.Pocket.take_many.Goals as goal

@@ -6,7 +6,7 @@ use Rattle.flow_lanes.proofs.Drained.{drained}
 use Rattle.flow_lanes.proofs.pocket.Pocket.take_one_by_one.Goals as goal
 
 pub loop-init : goal.loop-init
-loop-init c = record { edge = (refl, refl); back = (refl, refl); taken = sym (append-nil _); ahead = prefix-refl _ }
+loop-init c = record { edge = refl; back = (refl, refl); places = refl; taken = sym (append-nil _); ahead = prefix-refl _ }
 
 pub loop-preserved : goal.loop-preserved
 loop-preserved c =
@@ -14,13 +14,16 @@ loop-preserved c =
     let now = c.take.ensures in
     let old = c.args.self.now in
     let more = drained (taken_from old) (taken_from c.loop.self) (taken_from c.take.new.self) (held_in old) (held_in c.loop.self) (held_in c.take.new.self) c.loop.counter c.take.result (omega (arith, c.loop-test.true, c.requires)) inv.taken inv.ahead now.some now.succeeds in
-    record { edge = (now.edge.0 ∙ inv.edge.0, now.edge.1 ∙ inv.edge.1); back = (now.back.0 ∙ inv.back.0, now.back.1 ∙ inv.back.1); taken = more.0; ahead = more.1 }
+    record { edge = now.edge ∙ inv.edge; back = (now.back.0 ∙ inv.back.0, now.back.1 ∙ inv.back.1); places = now.places ∙ inv.places; taken = more.0; ahead = more.1 }
 
 pub returns-clause-edge : goal.returns-clause-edge
 returns-clause-edge c = c.loop.invariant.edge
 
 pub returns-clause-back : goal.returns-clause-back
 returns-clause-back c = c.loop.invariant.back
+
+pub returns-clause-places : goal.returns-clause-places
+returns-clause-places c = c.loop.invariant.places
 
 pub returns-clause-taken : goal.returns-clause-taken
 returns-clause-taken c =

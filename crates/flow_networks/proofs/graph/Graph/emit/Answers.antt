@@ -1,8 +1,9 @@
 use Rattle.std.proofs.Common.{◌<◌, length, sym, ◌∙◌, ap, subst, arith}
 use Rattle.std.proofs.lemmas.List.{length-map}
 use Rattle.flow_base.specs.Transducers.{IsWrite}
+use Rattle.flow_messages.proofs.Tables.{on_ok}
 use Rattle.flow_networks.specs.Places.{placed_state}
-use Rattle.flow_networks.proofs.Reached.{state_read, states_set, states_kept, on_err, if_ok, if_ok_if}
+use Rattle.flow_networks.proofs.Reached.{state_read, states_set, states_kept, on_err, if_ok_if}
 use Rattle.flow_networks.proofs.Seats.{openings_same, built_same, seated_same}
 use Rattle.flow_networks.proofs.graph.Graph.emit.Goals as goal
 
@@ -38,7 +39,7 @@ returns-clause-message g c =
     let nodes = c.args.self.now.nodes.items in
     let x = c.index_mut.result.now in
     let l : c.args.node < length nodes = omega (arith, c.requires.inside, length-map nodes placed_state) in
-    if_ok_if _ _ c.emit.result (λ m p. p.0 ∙ ap b.process.written (state_read placed_state nodes c.args.node x b.sample l c.index_mut.ensures.value)) c.emit.ensures.ok
+    if_ok_if _ _ c.emit.result (λ m is. is ∙ ap b.process.written (state_read placed_state nodes c.args.node x b.sample l c.index_mut.ensures.value)) c.emit.ensures.message
 
 pub returns-clause-ok : goal.returns-clause-ok
 returns-clause-ok g c =
@@ -46,7 +47,7 @@ returns-clause-ok g c =
     let nodes = c.args.self.now.nodes.items in
     let x = c.index_mut.result.now in
     let l : c.args.node < length nodes = omega (arith, c.requires.inside, length-map nodes placed_state) in
-    if_ok _ c.emit.result (λ m p. states_set placed_state nodes c.args.node c.emit.new.self _ (p.1 ∙ ap b.process.wrote (state_read placed_state nodes c.args.node x b.sample l c.index_mut.ensures.value))) c.emit.ensures.ok
+    on_ok c.emit.result (λ is. states_set placed_state nodes c.args.node c.emit.new.self _ (is ∙ ap b.process.wrote (state_read placed_state nodes c.args.node x b.sample l c.index_mut.ensures.value))) c.emit.ensures.ok
 
 pub returns-clause-err : goal.returns-clause-err
 returns-clause-err g c =

@@ -1,5 +1,5 @@
 use Rattle.std.proofs.Common.{◌≡◌, OnOk}
-use Rattle.flow_networks.proofs.Reached.{Follows, follows_wrote, follows_inputs, follows_outputs, writes_port, either, if_ok}
+use Rattle.flow_networks.proofs.Reached.{Follows, follows_wrote, follows_inputs, follows_outputs, writes_port, either, if_ok, if_ok_if}
 use Rattle.flow_networks.proofs.placed.Placed.emit.Goals as goal
 
 pub invariant_of-self : goal.invariant_of-self
@@ -17,3 +17,9 @@ invariant_of-self g c =
       each_input = follows_inputs b laws s s' follows _ placed.each_input;
       each_output = follows_outputs b laws s s' follows _ placed.each_output;
     }
+
+pub returns-clause-message : goal.returns-clause-message
+returns-clause-message g c = if_ok_if _ _ c.emit.result (λ m p. p.0) c.emit.ensures.ok
+
+pub returns-clause-ok : goal.returns-clause-ok
+returns-clause-ok g c = if_ok _ c.emit.result (λ m p. p.1) c.emit.ensures.ok

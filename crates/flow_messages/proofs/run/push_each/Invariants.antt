@@ -1,0 +1,9 @@
+use Rattle.std.specs.Prelude.{◌≡◌, ◌++◌, take}
+use Rattle.std.specs.Vec.{vec_capacity}
+use Rattle.flow_messages.proofs.run.push_each.Given as goal
+
+abbrev pub invariant-loop-at : goal.invariant-loop-at
+invariant-loop-at g l = record {
+  items : l.items.items ≡ l.fn.items.items ++ take l.at l.more;
+  capacity : vec_capacity l.items ≡ vec_capacity l.fn.items;
+}

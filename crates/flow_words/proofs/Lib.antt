@@ -1,0 +1,11 @@
+pub mod Quarters
+pub mod Digits
+pub mod Said
+pub mod Groups
+pub mod Lists
+pub mod Putting
+pub mod Coming
+pub mod Taking
+pub mod Holding
+pub mod OfKind
+pub mod Sends

@@ -1,0 +1,71 @@
+-- Which words may be put after others.
+use Rattle.std.proofs.Common.{◌≡◌, Bool, true, false, ℤ, List, [], ◌∷◌, ◌++◌, take, refl, ap, ◌∙◌}
+use Rattle.std.proofs.lemmas.List.{map-append}
+use Rattle.std.proofs.lemmas.List.Elements.{All-take}
+use Rattle.std.specs.declared.alloc.Global.{Global}
+use Rattle.rtrb.specs.Ring as port
+use Rattle.rtrb.specs.declared.producer.Producer.{Producer}
+use Rattle.rtrb.specs.Fifo.{EachAllowed}
+use Rattle.flow_messages.specs.declared.message.Msg.{Msg}
+use Rattle.flow_messages.specs.declared.message.Item.TheVariants.{Int as IntItem}
+use Rattle.flow_messages.specs.Contents.{int_messages}
+use Rattle.flow_messages.specs.Signals.{signals, ended}
+use Rattle.flow_messages.proofs.Signals.{ended-more, ended-nil, block-ended}
+use Rattle.flow_words.specs.declared.words.Group.{Group}
+use Rattle.flow_words.specs.declared.words.Group.TheVariants.{None as NoGroup}
+use Rattle.flow_words.specs.Words.{is_escape, each_said, ints_said, ints_sent, group_after, Spells, ArePlain}
+use Rattle.flow_words.proofs.Said.{said-append, after-append, plain_said, plain_after}
+use Rattle.flow_words.proofs.Lists.{ended_take}
+
+-- words without an end may follow words without an end
+pub singles_follow : {W : Type 0} (word : W → Msg) (before ws : List W) → ended (signals (each_said word before)) ≡ false → ended (signals (each_said word ws)) ≡ false
+    → EachAllowed (λ xs _. ended (signals (each_said word xs)) ≡ false) before ws
+singles_follow word before ws free no_end i d low = ap (λ (ms : List Msg). ended (signals ms)) (map-append word before (take i ws))
+    ∙ ended-more (each_said word before) (each_said word (take i ws)) free ∙ ended_take word ws i no_end
+
+-- what words say after whole groups
+pub said_whole : (before ws : List ℤ) → group_after NoGroup before ≡ NoGroup → ints_sent (before ++ ws) ≡ ints_sent before ++ ints_sent ws
+said_whole before ws whole = said-append NoGroup before ws ∙ ap (λ (g : Group). ints_sent before ++ ints_said g ws) whole
+
+pub after_whole : (before ws all : List ℤ) → all ≡ before ++ ws → group_after NoGroup before ≡ NoGroup → group_after NoGroup ws ≡ NoGroup → group_after NoGroup all ≡ NoGroup
+after_whole before ws all is whole more = ap (group_after NoGroup) is ∙ after-append NoGroup before ws ∙ ap (λ (g : Group). group_after g ws) whole ∙ more
+
+open_whole : (before ws : List ℤ) → group_after NoGroup before ≡ NoGroup → ended (signals (ints_sent before)) ≡ false → ended (signals (ints_sent ws)) ≡ false
+    → ended (signals (ints_sent (before ++ ws))) ≡ false
+open_whole before ws whole free no_end = ap (λ (ms : List Msg). ended (signals ms)) (said_whole before ws whole) ∙ ended-more (ints_sent before) (ints_sent ws) free ∙ no_end
+
+-- the words of one message may follow, each after those before it
+pub spelled_follows : (before ws : List ℤ) (m : Msg) → group_after NoGroup before ≡ NoGroup → ended (signals (ints_sent before)) ≡ false → Spells ws m
+    → EachAllowed (λ xs _. ended (signals (ints_sent xs)) ≡ false) before ws
+spelled_follows before ws m whole free spells i d low = open_whole before (take i ws) whole free (ap (λ (ms : List Msg). ended (signals ms)) (spells.2 i low) ∙ ended-nil)
+
+-- and so may plain words
+pub plain_follows : (before ws : List ℤ) → group_after NoGroup before ≡ NoGroup → ended (signals (ints_sent before)) ≡ false → ArePlain ws
+    → EachAllowed (λ xs _. ended (signals (ints_sent xs)) ≡ false) before ws
+plain_follows before ws whole free plain i d low =
+    let part = take i ws in
+    open_whole before part whole free (ap (λ (ms : List Msg). ended (signals ms)) (plain_said part (All-take (λ w. is_escape w ≡ false) i ws plain)) ∙ block-ended (λ n. IntItem n) part)
+
+pub put_plain : (before ws all : List ℤ) → all ≡ before ++ ws → group_after NoGroup before ≡ NoGroup → ArePlain ws
+    → (ints_sent all ≡ ints_sent before ++ int_messages ws) × (group_after NoGroup all ≡ NoGroup)
+put_plain before ws all is whole plain = (
+  ap ints_sent is ∙ said_whole before ws whole ∙ ap (λ (ms : List Msg). ints_sent before ++ ms) (plain_said ws plain),
+  after_whole before ws all is whole (plain_after ws plain),
+)
+
+pub put_spelled : (before ws all : List ℤ) (m : Msg) → all ≡ before ++ ws → group_after NoGroup before ≡ NoGroup → Spells ws m
+    → (ints_sent all ≡ ints_sent before ++ m ∷ []) × (group_after NoGroup all ≡ NoGroup)
+put_spelled before ws all m is whole spells = (
+  ap ints_sent is ∙ said_whole before ws whole ∙ ap (λ (ms : List Msg). ints_sent before ++ ms) spells.0,
+  after_whole before ws all is whole spells.1,
+)
+
+-- the same ring, over two calls
+pub same_producer : {T P : Type 0} (a b c : Producer T Global P) → port.SameProducer a b → port.SameProducer b c → port.SameProducer a c
+same_producer a b c p q = ((q.0.0 ∙ p.0.0, q.0.1 ∙ p.0.1, q.0.2 ∙ p.0.2, q.0.3 ∙ p.0.3), q.1 ∙ p.1)
+
+-- the words of a message were put, or none
+pub spelled_whole : (r : Bool) (before ws all : List ℤ) (m : Msg) → (r ≡ true → all ≡ before ++ ws) → (r ≡ false → all ≡ before) → group_after NoGroup before ≡ NoGroup
+    → Spells ws m → group_after NoGroup all ≡ NoGroup
+spelled_whole true before ws all m done full whole spells = (put_spelled before ws all m (done refl) whole spells).1
+spelled_whole false before ws all m done full whole spells = ap (group_after NoGroup) (full refl) ∙ whole

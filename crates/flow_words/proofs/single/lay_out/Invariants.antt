@@ -1,0 +1,11 @@
+use Rattle.std.proofs.Common.{◌≡◌, length, take}
+use Rattle.flow_messages.specs.Contents.{flag_messages}
+use Rattle.flow_words.specs.Words.{flag_word, each_said}
+use Rattle.flow_words.proofs.single.lay_out.Given as goal
+
+-- what the places hold so far
+abbrev pub invariant-loop-place : goal.invariant-loop-place
+invariant-loop-place l = record {
+  places : length l.words ≡ length l.fn.words;
+  laid : each_said flag_word (take l.place l.words) ≡ flag_messages (take l.place l.flags);
+}

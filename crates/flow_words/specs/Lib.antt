@@ -1,0 +1,3 @@
+pub mod Words
+pub mod Ring
+pub mod Edge

@@ -1,0 +1,289 @@
+// The ring of a writer, whatever it carries.
+ghost use Rattle.std.specs.Prelude.{◌≡◌, ◌+◌, ◌<◌, ◌≤◌, ◌↔◌, ◌/◌, true, false, [], ◌∷◌, ◌++◌, length, IsTrue};
+ghost use Rattle.rtrb.specs.Ring as port;
+ghost use Rattle.rtrb.specs.Fifo.{EachAllowed};
+ghost use Rattle.flow_messages.specs.declared.message.Kind.TheVariants.{Unit as UnitKind, Bool as BoolKind, Int as IntKind};
+ghost use Rattle.flow_messages.specs.Contents.{unit_messages, flag_messages, int_messages};
+ghost use Rattle.flow_messages.specs.Kinds.{fits};
+ghost use Rattle.flow_messages.specs.Signals.{signals, signal_of, ended};
+ghost use Rattle.flow_words.specs.declared.words.Group.TheVariants.{None as NoGroup};
+ghost use Rattle.flow_words.specs.Words.{unit_word, flag_word, each_said, ints_sent, group_after, ArePlain};
+ghost use Rattle.flow_words.specs.Ring.{sent, known_free, half_put, writer_kind, SameProducer};
+
+use crate::ring::{ClosingFlags, ClosingInts, ClosingUnits, WriterWords};
+use crate::single::{PLACES, Single, lay_out};
+use crate::words::{FlagWord, LONGEST, UnitWord, spell};
+use flow_messages::Msg;
+use rtrb::{Producer, Protocol};
+use std::alloc::Global;
+
+// What is put where a block of units is.
+const UNITS: [UnitWord; PLACES] = [UnitWord::Unit; PLACES];
+
+// Puts all of these, or nothing if the ring has less room.
+#[inline(always)]
+fn push_all<T: Copy, P: Protocol<T>>(ring: &mut Producer<T, Global, P>, words: &[T]) -> bool
+    requires { EachAllowed P.allows (port.sent ring.old) words.now }
+    ensures ring { port.SameProducer ring.old ring.new }
+    ensures done { IsTrue result →
+        (port.sent ring.new ≡ port.sent ring.old ++ words.now) ×
+        (port.known_free ring.old ≤ port.known_free ring.new + length words.now) }
+    ensures full { result ≡ false → (port.sent ring.new ≡ port.sent ring.old) ×
+        (port.known_free ring.old ≤ port.known_free ring.new) ×
+        (port.known_free ring.new < length words.now) }
+    ensures succeeds { length words.now ≤ port.known_free ring.old → IsTrue result }
+{
+    ring.push_entire_slice(words).is_ok()
+}
+
+// Puts a message that goes as one word, or nothing if the ring is full.
+#[inline(always)]
+fn push_single<W: Single, P: Protocol<W>>(ring: &mut Producer<W, Global, P>, message: &Msg) -> bool
+    requires fits { fits W.kind (signal_of message.now) ≡ true }
+    requires allowed { (w : W) → P.allows (port.sent ring.old) w }
+    ensures ring { port.SameProducer ring.old ring.new }
+    ensures done { IsTrue result → (each_said W.said (port.sent ring.new) ≡
+        each_said W.said (port.sent ring.old) ++ message.now ∷ []) ×
+        (port.known_free ring.old ≤ port.known_free ring.new + 1) }
+    ensures full { result ≡ false → (port.sent ring.new ≡ port.sent ring.old) ×
+        (port.known_free ring.old ≤ port.known_free ring.new) ×
+        (port.known_free ring.new ≡ 0) }
+    ensures succeeds { 0 < port.known_free ring.old → IsTrue result }
+{
+    match ring.push(W::of(message)) {
+        Ok(()) => true,
+        Err(_) => false,
+    }
+}
+
+// Puts a message of an edge of integers, or nothing if the ring has less room.
+#[inline(always)]
+fn push_spelled(ring: &mut Producer<i64, Global, ClosingInts>, message: &Msg) -> bool
+    requires fits { fits IntKind (signal_of message.now) ≡ true }
+    requires open { ended (signals (ints_sent (port.sent ring.old))) ≡ false }
+    requires whole { group_after NoGroup (port.sent ring.old) ≡ NoGroup }
+    ensures ring { port.SameProducer ring.old ring.new }
+    ensures whole { group_after NoGroup (port.sent ring.new) ≡ NoGroup }
+    ensures done { IsTrue result → (ints_sent (port.sent ring.new) ≡
+        ints_sent (port.sent ring.old) ++ message.now ∷ []) ×
+        (port.known_free ring.old ≤ port.known_free ring.new + 4) }
+    ensures full { result ≡ false → (port.sent ring.new ≡ port.sent ring.old) ×
+        (port.known_free ring.old ≤ port.known_free ring.new) ×
+        (port.known_free ring.new < 4) }
+    ensures succeeds { 4 ≤ port.known_free ring.old → IsTrue result }
+{
+    let (words, count) = spell(message);
+    push_all(ring, &words[..count])
+}
+
+// Puts at most 64 units, where there is room.
+#[inline(always)]
+fn push_few_units(ring: &mut Producer<UnitWord, Global, ClosingUnits>, count: usize)
+    requires few { count ≤ 64 }
+    requires open { ended (signals (each_said unit_word (port.sent ring.old))) ≡ false }
+    requires certain { count ≤ port.known_free ring.old }
+    ensures ring { port.SameProducer ring.old ring.new }
+    ensures put { each_said unit_word (port.sent ring.new) ≡
+        each_said unit_word (port.sent ring.old) ++ unit_messages count }
+    ensures room { port.known_free ring.old ≤ port.known_free ring.new + count }
+{
+    if !push_all(ring, &UNITS[..count]) {
+        unreachable!()
+    }
+}
+
+// Puts so many units, where there is room.
+fn push_units(ring: &mut Producer<UnitWord, Global, ClosingUnits>, count: usize)
+    requires open { ended (signals (each_said unit_word (port.sent ring.old))) ≡ false }
+    requires certain { count ≤ port.known_free ring.old }
+    ensures ring { port.SameProducer ring.old ring.new }
+    ensures put { each_said unit_word (port.sent ring.new) ≡
+        each_said unit_word (port.sent ring.old) ++ unit_messages count }
+    ensures room { port.known_free ring.old ≤ port.known_free ring.new + count }
+{
+    let mut put = 0;
+    while put < count {
+        let some = (count - put).min(PLACES);
+        push_few_units(ring, some);
+        put += some;
+    }
+}
+
+// Puts at most 64 truth values, where there is room.
+#[inline(always)]
+fn push_few_flags(ring: &mut Producer<FlagWord, Global, ClosingFlags>, flags: &[bool])
+    requires few { length flags.now ≤ 64 }
+    requires open { ended (signals (each_said flag_word (port.sent ring.old))) ≡ false }
+    requires certain { length flags.now ≤ port.known_free ring.old }
+    ensures ring { port.SameProducer ring.old ring.new }
+    ensures put { each_said flag_word (port.sent ring.new) ≡
+        each_said flag_word (port.sent ring.old) ++ flag_messages flags.now }
+    ensures room { port.known_free ring.old ≤ port.known_free ring.new + length flags.now }
+{
+    let mut block = [FlagWord::End; PLACES];
+    lay_out(flags, &mut block);
+    if !push_all(ring, &block[..flags.len()]) {
+        unreachable!()
+    }
+}
+
+// Puts these truth values, where there is room.
+fn push_flags(ring: &mut Producer<FlagWord, Global, ClosingFlags>, flags: &[bool])
+    requires open { ended (signals (each_said flag_word (port.sent ring.old))) ≡ false }
+    requires certain { length flags.now ≤ port.known_free ring.old }
+    ensures ring { port.SameProducer ring.old ring.new }
+    ensures put { each_said flag_word (port.sent ring.new) ≡
+        each_said flag_word (port.sent ring.old) ++ flag_messages flags.now }
+    ensures room { port.known_free ring.old ≤ port.known_free ring.new + length flags.now }
+{
+    let mut put = 0;
+    while put < flags.len() {
+        let some = (flags.len() - put).min(PLACES);
+        push_few_flags(ring, &flags[put..put + some]);
+        put += some;
+    }
+}
+
+// Puts these integers, where there is room.
+#[inline(always)]
+fn push_plain(ring: &mut Producer<i64, Global, ClosingInts>, ints: &[i64])
+    requires plain { ArePlain ints.now }
+    requires open { ended (signals (ints_sent (port.sent ring.old))) ≡ false }
+    requires whole { group_after NoGroup (port.sent ring.old) ≡ NoGroup }
+    requires certain { length ints.now ≤ port.known_free ring.old }
+    ensures ring { port.SameProducer ring.old ring.new }
+    ensures whole { group_after NoGroup (port.sent ring.new) ≡ NoGroup }
+    ensures put { ints_sent (port.sent ring.new) ≡
+        ints_sent (port.sent ring.old) ++ int_messages ints.now }
+    ensures room { port.known_free ring.old ≤ port.known_free ring.new + length ints.now }
+{
+    if !push_all(ring, ints) {
+        unreachable!()
+    }
+}
+
+// Whether so many places are free. It looks only where it does not know.
+#[inline(always)]
+fn are_free<T, P: Protocol<T>>(ring: &mut Producer<T, Global, P>, count: usize) -> bool
+    ensures looked { port.ProducerLooked ring.old ring.new }
+    ensures value { IsTrue result ↔ (count ≤ port.known_free ring.new) }
+{
+    count <= ring.cached_slots() || count <= ring.slots()
+}
+
+// Whether places are free for so many integers.
+#[inline(always)]
+fn are_free_for_ints(ring: &mut Producer<i64, Global, ClosingInts>, count: usize) -> bool
+    ensures looked { port.ProducerLooked ring.old ring.new }
+    ensures value { IsTrue result ↔ (count ≤ port.known_free ring.new / 4) }
+{
+    count <= ring.cached_slots() / LONGEST || count <= ring.slots() / LONGEST
+}
+
+impl WriterWords {
+    // Puts a message, or nothing if the ring is full.
+    #[inline(always)]
+    pub(crate) fn push(&mut self, message: &Msg) -> bool
+        requires open { ended (signals (sent self.old)) ≡ false }
+        requires fits { fits (writer_kind self.old) (signal_of message.now) ≡ true }
+        requires whole { half_put self.old ≡ NoGroup }
+        ensures ring { SameProducer self.old self.new }
+        ensures whole { half_put self.new ≡ NoGroup }
+        ensures done { IsTrue result → (sent self.new ≡ sent self.old ++ message.now ∷ []) ×
+            (known_free self.old ≤ known_free self.new + 1) }
+        ensures full { result ≡ false → (sent self.new ≡ sent self.old) ×
+            (known_free self.old ≤ known_free self.new) × (known_free self.new ≡ 0) }
+        ensures succeeds { 0 < known_free self.old → IsTrue result }
+    {
+        match self {
+            WriterWords::Units(ring) => push_single(ring, message),
+            WriterWords::Flags(ring) => push_single(ring, message),
+            WriterWords::Ints(ring) => push_spelled(ring, message),
+        }
+    }
+
+    // Puts so many units, where there is room.
+    #[inline(always)]
+    pub(crate) fn push_units(&mut self, count: usize)
+        requires kind { writer_kind self.old ≡ UnitKind }
+        requires open { ended (signals (sent self.old)) ≡ false }
+        requires certain { count ≤ known_free self.old }
+        ensures ring { SameProducer self.old self.new }
+        ensures whole { half_put self.new ≡ half_put self.old }
+        ensures put { sent self.new ≡ sent self.old ++ unit_messages count }
+        ensures room { known_free self.old ≤ known_free self.new + count }
+    {
+        match self {
+            WriterWords::Units(ring) => push_units(ring, count),
+            _ => unreachable!(),
+        }
+    }
+
+    // Puts these truth values, where there is room.
+    #[inline(always)]
+    pub(crate) fn push_flags(&mut self, flags: &[bool])
+        requires kind { writer_kind self.old ≡ BoolKind }
+        requires open { ended (signals (sent self.old)) ≡ false }
+        requires certain { length flags.now ≤ known_free self.old }
+        ensures ring { SameProducer self.old self.new }
+        ensures whole { half_put self.new ≡ half_put self.old }
+        ensures put { sent self.new ≡ sent self.old ++ flag_messages flags.now }
+        ensures room { known_free self.old ≤ known_free self.new + length flags.now }
+    {
+        match self {
+            WriterWords::Flags(ring) => push_flags(ring, flags),
+            _ => unreachable!(),
+        }
+    }
+
+    // Puts these integers, where there is room.
+    #[inline(always)]
+    pub(crate) fn push_plain(&mut self, ints: &[i64])
+        requires kind { writer_kind self.old ≡ IntKind }
+        requires plain { ArePlain ints.now }
+        requires open { ended (signals (sent self.old)) ≡ false }
+        requires whole { half_put self.old ≡ NoGroup }
+        requires certain { length ints.now ≤ known_free self.old }
+        ensures ring { SameProducer self.old self.new }
+        ensures whole { half_put self.new ≡ NoGroup }
+        ensures put { sent self.new ≡ sent self.old ++ int_messages ints.now }
+        ensures room { known_free self.old ≤ known_free self.new + length ints.now }
+    {
+        match self {
+            WriterWords::Ints(ring) => push_plain(ring, ints),
+            _ => unreachable!(),
+        }
+    }
+
+    // Whether there is room for so many messages.
+    #[inline(always)]
+    pub(crate) fn has_room(&mut self, count: usize) -> bool
+        ensures ring { SameProducer self.old self.new }
+        ensures whole { half_put self.new ≡ half_put self.old }
+        ensures looked { (sent self.new ≡ sent self.old) ×
+            (known_free self.old ≤ known_free self.new) }
+        ensures value { IsTrue result ↔ (count ≤ known_free self.new) }
+    {
+        match self {
+            WriterWords::Units(ring) => are_free(ring, count),
+            WriterWords::Flags(ring) => are_free(ring, count),
+            WriterWords::Ints(ring) => are_free_for_ints(ring, count),
+        }
+    }
+
+    // For how many messages there is room.
+    #[inline(always)]
+    pub(crate) fn room(&mut self) -> usize
+        ensures ring { SameProducer self.old self.new }
+        ensures whole { half_put self.new ≡ half_put self.old }
+        ensures looked { (sent self.new ≡ sent self.old) ×
+            (known_free self.old ≤ known_free self.new) }
+        ensures value { result ≡ known_free self.new }
+    {
+        match self {
+            WriterWords::Units(ring) => ring.slots(),
+            WriterWords::Flags(ring) => ring.slots(),
+            WriterWords::Ints(ring) => ring.slots() / LONGEST,
+        }
+    }
+}

@@ -1,0 +1,180 @@
+// The end that puts messages.
+ghost use Rattle.std.specs.Prelude.{◌≡◌, ◌+◌, ◌<◌, ◌≤◌, ◌↔◌, true, false, [], ◌∷◌, ◌++◌, Some, length, IsTrue, IsOk, OnOk, IfErr, IsErrAnd};
+ghost use Rattle.std.specs.Io.Iter.{u64_saturate};
+ghost use Rattle.flow_messages.specs.declared.ends.Why.TheVariants.{Full, Closed};
+ghost use Rattle.flow_messages.specs.declared.message.Kind.TheVariants.{Unit as UnitKind, Bool as BoolKind, Int as IntKind};
+ghost use Rattle.flow_messages.specs.Contents.{unit_messages, flag_messages, int_messages};
+ghost use Rattle.flow_messages.specs.Kinds.{FitsEdge, TakesKind};
+ghost use Rattle.flow_messages.specs.Signals.{signals, signal_of, ended};
+ghost use Rattle.flow_words.specs.Edge.{sent, certain_room, kind_of, SameWriter, followed_unless_ended};
+
+use crate::ring::{WordWriter, WriterWords};
+use crate::words::are_plain;
+use flow_messages::{Item, Kind, Msg, Refused, Why};
+
+impl WordWriter {
+    /// Puts a message after all others.
+    ///
+    /// It is refused as `Closed` exactly where `End` was put on the edge before, and as `Full` only
+    /// where no room is certain. Then nothing was put, and the message comes back. An item has to be of the edge's kind.
+    #[inline(always)]
+    #[tactic(auto, using(flow_messages::proofs::Signals::signal_steps))]
+    pub fn put(&mut self, message: Msg) -> Result<(), Refused>
+        requires fits { FitsEdge (Some (kind_of self.old)) (signal_of message) }
+        ensures same { SameWriter self.old self.new }
+        ensures ok { OnOk result ((sent self.new ≡ sent self.old ++ message ∷ []) ×
+            (certain_room self.old ≤ certain_room self.new + 1)) }
+        ensures refused { IfErr result (λ e. (e.message ≡ message) ×
+            (sent self.new ≡ sent self.old) × (certain_room self.old ≤ certain_room self.new)) }
+        ensures closed { IsErrAnd result (λ e. e.why ≡ Closed) ↔
+            (ended (signals (sent self.old)) ≡ true) }
+        ensures full { IsErrAnd result (λ e. e.why ≡ Full) → certain_room self.new ≡ 0 }
+        ensures succeeds { ended (signals (sent self.old)) ≡ false → 0 < certain_room self.old →
+            IsOk result }
+    {
+        if self.closed {
+            return Err(Refused {
+                message,
+                why: Why::Closed,
+            });
+        }
+        if !self.ring.push(&message) {
+            return Err(Refused {
+                message,
+                why: Why::Full,
+            });
+        }
+        self.closed = message.is_end();
+        self.put = self.put.saturating_add(1);
+        Ok(())
+    }
+
+    /// Puts so many units where room is certain. They are dropped where `End` was put on the edge before.
+    #[inline(always)]
+    pub fn put_units(&mut self, count: usize)
+        requires kind { kind_of self.old ≡ UnitKind }
+        requires certain { count ≤ certain_room self.old }
+        ensures same { SameWriter self.old self.new }
+        ensures put { sent self.new ≡
+            followed_unless_ended (sent self.old) (unit_messages count) }
+        ensures room { certain_room self.old ≤ certain_room self.new + count }
+    {
+        if self.closed {
+            return;
+        }
+        self.ring.push_units(count);
+        self.put = self.put.saturating_add(count as u64);
+    }
+
+    /// Puts these truth values where room is certain. They are dropped where `End` was put on the edge before.
+    #[inline(always)]
+    pub fn put_flags(&mut self, flags: &[bool])
+        requires kind { kind_of self.old ≡ BoolKind }
+        requires certain { length flags.now ≤ certain_room self.old }
+        ensures same { SameWriter self.old self.new }
+        ensures put { sent self.new ≡
+            followed_unless_ended (sent self.old) (flag_messages flags.now) }
+        ensures room { certain_room self.old ≤ certain_room self.new + length flags.now }
+    {
+        if self.closed {
+            return;
+        }
+        self.ring.push_flags(flags);
+        self.put = self.put.saturating_add(flags.len() as u64);
+    }
+
+    /// Puts these integers where room is certain. They are dropped where `End` was put on the edge before.
+    #[inline(always)]
+    pub fn put_ints(&mut self, ints: &[i64])
+        requires kind { kind_of self.old ≡ IntKind }
+        requires certain { length ints.now ≤ certain_room self.old }
+        ensures same { SameWriter self.old self.new }
+        ensures put { sent self.new ≡
+            followed_unless_ended (sent self.old) (int_messages ints.now) }
+        ensures room { certain_room self.old ≤ certain_room self.new + length ints.now }
+    {
+        if self.closed {
+            return;
+        }
+        if !are_plain(ints) {
+            self.put_each(ints);
+            return;
+        }
+        self.ring.push_plain(ints);
+        self.put = self.put.saturating_add(ints.len() as u64);
+    }
+
+    // Puts these integers one after another.
+    fn put_each(&mut self, ints: &[i64])
+        requires kind { kind_of self.old ≡ IntKind }
+        requires certain { length ints.now ≤ certain_room self.old }
+        ensures same { SameWriter self.old self.new }
+        ensures put { sent self.new ≡
+            followed_unless_ended (sent self.old) (int_messages ints.now) }
+        ensures room { certain_room self.old ≤ certain_room self.new + length ints.now }
+    {
+        for int in ints {
+            let _ = self.put(Msg::Item(Item::Int(i128::from(*int))));
+        }
+    }
+
+    /// Whether the edge takes items of this kind: it takes those of its own.
+    pub fn takes(&self, kind: Kind) -> bool
+        ensures { IsTrue result ↔ TakesKind (Some (kind_of self.now)) kind }
+    {
+        match &self.ring {
+            WriterWords::Units(_) => kind.fits(&Item::Unit),
+            WriterWords::Flags(_) => kind.fits(&Item::Bool(false)),
+            WriterWords::Ints(_) => kind.fits(&Item::Int(0)),
+        }
+    }
+
+    /// Whether `End` was put on the edge.
+    #[inline(always)]
+    pub fn is_closed(&self) -> bool
+        ensures { result ≡ ended (signals (sent self.now)) }
+    {
+        self.closed
+    }
+
+    /// How many messages were put. The count stays at `u64::MAX`.
+    #[inline(always)]
+    pub fn sent_count(&self) -> u64
+        ensures { result ≡ u64_saturate (length (sent self.now)) }
+    {
+        self.put
+    }
+
+    /// Whether the edge is certain to have room for one more message. Only the reader makes more.
+    #[inline(always)]
+    pub fn room(&mut self) -> bool
+        ensures same { SameWriter self.old self.new }
+        ensures looked { (sent self.new ≡ sent self.old) ×
+            (certain_room self.old ≤ certain_room self.new) }
+        ensures value { IsTrue result ↔ (0 < certain_room self.new) }
+    {
+        self.ring.has_room(1)
+    }
+
+    /// How many messages more the edge is certain to have room for. Only the reader makes more.
+    #[inline(always)]
+    pub fn space(&mut self) -> usize
+        ensures same { SameWriter self.old self.new }
+        ensures looked { (sent self.new ≡ sent self.old) ×
+            (certain_room self.old ≤ certain_room self.new) }
+        ensures value { result ≡ certain_room self.new }
+    {
+        self.ring.room()
+    }
+
+    /// Whether the edge is certain to have room for so many messages more. Only the reader makes more.
+    #[inline(always)]
+    pub fn room_for(&mut self, count: usize) -> bool
+        ensures same { SameWriter self.old self.new }
+        ensures looked { (sent self.new ≡ sent self.old) ×
+            (certain_room self.old ≤ certain_room self.new) }
+        ensures value { IsTrue result ↔ (count ≤ certain_room self.new) }
+    {
+        self.ring.has_room(count)
+    }
+}
