@@ -98,7 +98,7 @@ const EACH_WAY: Course = Course {
     ],
 };
 
-// Rings show messages as a slice once they were asked whether one is there.
+// Where the ends of a ring meet, its reader takes over all that was put.
 const INTS_OVER_RINGS: Course = Course {
     name: "integers over rings",
     shares: Shares::One,
@@ -107,7 +107,7 @@ const INTS_OVER_RINGS: Course = Course {
     steps: &[
         CourseStep::At(0, 0, Act::Blocks(Block::PutsInts(&[5, 6]))),
         CourseStep::Meet,
-        CourseStep::At(0, 0, Act::Blocks(Block::ShowsInts(&[]))),
+        CourseStep::At(0, 0, Act::Blocks(Block::ShowsInts(&[5, 6]))),
         CourseStep::At(0, 0, Act::Blocks(Block::SkipsOne)),
         CourseStep::At(0, 0, Act::Blocks(Block::ShowsInts(&[6]))),
         CourseStep::At(0, 0, Act::Takes(Some(6))),
@@ -166,7 +166,7 @@ const FLAGS_OVER_RINGS: Course = Course {
     steps: &[
         CourseStep::At(0, 0, Act::Blocks(Block::PutsFlags(&[true]))),
         CourseStep::Meet,
-        CourseStep::At(0, 0, Act::Blocks(Block::ShowsFlags(&[]))),
+        CourseStep::At(0, 0, Act::Blocks(Block::ShowsFlags(&[true]))),
         CourseStep::At(0, 0, Act::Blocks(Block::SkipsOne)),
         CourseStep::At(0, 0, Act::Counts(1, 1)),
     ],
@@ -180,7 +180,7 @@ const UNITS_OVER_RINGS: Course = Course {
     steps: &[
         CourseStep::At(0, 0, Act::Blocks(Block::PutsUnits(2))),
         CourseStep::Meet,
-        CourseStep::At(0, 0, Act::Blocks(Block::ShowsUnits(0))),
+        CourseStep::At(0, 0, Act::Blocks(Block::ShowsUnits(2))),
         CourseStep::At(0, 0, Act::Blocks(Block::SkipsOne)),
         CourseStep::At(0, 0, Act::Blocks(Block::SkipsOne)),
         CourseStep::At(0, 0, Act::Counts(2, 2)),
