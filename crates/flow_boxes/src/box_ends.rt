@@ -56,11 +56,15 @@ impl Boxes {
 }
 
 impl Ends for Boxes {
+    ghost use Rattle.std.specs.Prelude.{⊤};
     ghost use Rattle.flow_boxes.specs.RoundLaws.{keeps_refl, keeps_trans};
 
     ghost view = { view_of };
 
     ghost same = { λ a b. KeepsRound (contents a) (contents b) };
+
+    // A box keeps nothing back.
+    ghost all_out = { λ _. ⊤ };
 
     fn has_writer(&self, edge: usize) -> bool {
         matches!(self.outboxes.get(edge), Some(Some(_)))
@@ -186,6 +190,8 @@ impl Ends for Boxes {
             None => unreachable!(),
         }
     }
+
+    fn put_out(&mut self) {}
 
     ghost same_refl = { λ a. keeps_refl (contents a) };
 

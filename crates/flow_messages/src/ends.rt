@@ -41,6 +41,9 @@ pub trait Ends {
     /// The two are the same ends, before and after.
     ghost same: { Self → Self → Type 0 };
 
+    /// Nothing that was put is kept back: all of it lies where its reader looks.
+    ghost all_out: { Self → Type 0 };
+
     /// Whether the end that puts messages on this edge is there.
     fn has_writer(&self, edge: usize) -> bool
         ensures { result ≡ (view self.now).writes edge };
@@ -274,6 +277,12 @@ pub trait Ends {
         }
         most
     }
+
+    /// Puts out all that was put and is kept back, for their readers to find.
+    fn put_out(&mut self)
+        ensures same { same self.old self.new }
+        ensures view { view self.new ≡ view self.old }
+        ensures out { all_out self.new };
 
     ghost same_refl: { (a : Self) → same a a };
 

@@ -27,6 +27,8 @@ pub record IsPumped {X Y : Type 0} {t : Ghosts X} {u : EndsGhosts Y} (share resu
   pub progress : result.starved ≡ false → SameTraffic (u.view share.ends) (u.view result.ends) → AreStuck (u.view share.ends) share.nodes.items
   -- and none can now, unless it made all the turns that it may
   pub rest : result.starved ≡ false → result.spent ≡ false → AreStuck (u.view result.ends) result.nodes.items
+  -- and nothing that they put is kept back
+  pub out : result.starved ≡ false → result.spent ≡ false → u.all_out result.ends
 
 -- each of these shares was pumped, in order
 abbrev pub ArePumped : {X Y : Type 0} {t : Ghosts X} {u : EndsGhosts Y} → List (Share X Y t u) → List (Share X Y t u) → Type 0

@@ -24,7 +24,7 @@ pub const MAX_TURNS: usize = 65_536;
 /// Visits the nodes of a share in turns, in ascending order and with at most `chunk` steps each, and gives the share back.
 ///
 /// It ends after `idle_turns` turns in a row that moved nothing, or after one where all nodes are over: then no node can
-/// step by what its ends are certain of. It ends at once where the share has no node; after [`MAX_TURNS`] turns, and then
+/// step by what its ends are certain of, and nothing that was put is kept back. It ends at once where the share has no node; after [`MAX_TURNS`] turns, and then
 /// the share is spent; and where memory was refused to a node, and then the share is starved. The gate is called before
 /// each turn. Nodes at the front that are over are not visited again.
 pub fn pump<T: Transducer, E: Ends, G: Gate>(
@@ -67,6 +67,7 @@ fn after_turns<T: Transducer, E: Ends, G: Gate>(
     ensures calm { result.starved ≡ false → result.moved ≡ false → ShareIsCalm share result }
     ensures progress { result.starved ≡ false → ShareIsCalm share result → ShareIsStuck share }
     ensures rest { result.starved ≡ false → result.spent ≡ false → ShareIsStuck result }
+    ensures out { result.starved ≡ false → result.spent ≡ false → E.all_out result.ends }
     ensures starves { result.starved ≡ true → TakesMemory result.nodes.items }
     ensures spent { result.spent ≡ true → result.starved ≡ false }
     ensures often { result.spent ≡ true → ShareRanOften share result idle_turns }
@@ -145,6 +146,7 @@ fn take_turns<T: Transducer, E: Ends, G: Gate>(
     ensures progress { IfOk result (λ _. MovesIfItCan E.view nodes.old ends.old ends.new) }
     ensures rest { IfOk result (λ turns. turns.spent ≡ false →
         NoneCanMove E.view nodes.new ends.new) }
+    ensures out { IfOk result (λ turns. turns.spent ≡ false → E.all_out ends.new) }
     ensures starves { OnErr result (TakesMemory nodes.new.items) }
     ensures often { IfOk result (λ turns. turns.spent ≡ true →
         RanOften E.view nodes.old ends.old nodes.new ends.new idle_turns) }
@@ -153,6 +155,7 @@ fn take_turns<T: Transducer, E: Ends, G: Gate>(
     ensures none { IfOk result (λ turns. length nodes.old.items ≡ 0 → turns.spent ≡ false) }
 {
     if nodes.is_empty() {
+        ends.put_out();
         return Ok(Turns {
             spent: false,
             moved: false,
@@ -166,6 +169,8 @@ fn take_turns<T: Transducer, E: Ends, G: Gate>(
             idle = 0;
             moved = true;
         } else {
+            // What is kept back is all that another thread may wait for.
+            ends.put_out();
             idle += 1;
             if idle == idle_turns || are_over(nodes) {
                 return Ok(Turns {
