@@ -37,11 +37,15 @@ impl Table {
 }
 
 impl Ends for Table {
+    ghost use Rattle.std.specs.Prelude.{⊤};
     ghost use Rattle.flow_messages.specs.TableLaws.{same_capacity_refl, same_capacity_trans};
 
     ghost view = { ends_of };
 
     ghost same = { λ a b. capacity_of b ≡ capacity_of a };
+
+    // A table keeps nothing back.
+    ghost all_out = { λ _. ⊤ };
 
     fn has_writer(&self, edge: usize) -> bool {
         edge < self.lines.len()
@@ -125,6 +129,8 @@ impl Ends for Table {
     fn put_ints(&mut self, edge: usize, ints: &[i64]) {
         self.lines[edge].put_ints(ints);
     }
+
+    fn put_out(&mut self) {}
 
     ghost same_refl = { same_capacity_refl };
 
