@@ -25,6 +25,20 @@ module _ {X : Type 0} {t : Ghosts X} where
     pub often : turns ≤ idle_turns * count_of moved + idle
     pub progress : 0 < turns → SameTraffic a v → AreStuck a nodes
 
+  -- What a turn made of the nodes and of their ends; `any` says whether one of them made a step.
+  pub record Went (mid later : List (Placed X t)) (v w : View) (any : Bool) : Type 0 where
+    pub places : AreSamePlaces mid later
+    pub ends : SameEnds v w
+    pub moved : HaveMoved mid later v w
+    pub spares : SpareOthers mid v w
+    pub busy : any ≡ true → SameTraffic v w → ⊥
+    pub calm : any ≡ false → SameTraffic v w
+    pub stuck : any ≡ false → AreStuck v mid × AreStuck w later
+
+  -- what is kept back is put out, which their view does not see
+  pub went_out : (mid later : List (Placed X t)) (v w out : View) (any : Bool) → out ≡ w → Went mid later v w any → Went mid later v out any
+  went_out mid later v w out any is = subst (λ z. Went mid later v z any) (sym is)
+
   pub turned_none : (nodes : List (Placed X t)) (a : View) (idle_turns : ℕ) → 0 < idle_turns → Turned 0 0 idle_turns nodes nodes a a
   turned_none nodes a idle_turns some = record {
     places = same_places_refl nodes;
@@ -66,7 +80,7 @@ module _ {X : Type 0} {t : Ghosts X} where
     turn_spares w = spared_then nodes mid a v w turned.places turned.spares
 
     -- one turn more
-    module _ (later : List (Placed X t)) (w : View) (places : AreSamePlaces mid later) (ends : SameEnds v w) (moved : HaveMoved mid later v w) (spares : SpareOthers mid v w) (any : Bool) (busy : any ≡ true → SameTraffic v w → ⊥) (stuck : any ≡ false → AreStuck v mid × AreStuck w later) where
+    module _ (later : List (Placed X t)) (w : View) (any : Bool) (went : Went mid later v w any) where
       still : (one : Bool) → (one ≡ true → SameTraffic v w → ⊥) → (one ≡ false → AreStuck v mid × AreStuck w later) → SameTraffic v w → AreStuck v mid
       still true busy stuck same = absurd (busy refl same)
       still false busy stuck same = (stuck refl).0
@@ -74,25 +88,25 @@ module _ {X : Type 0} {t : Ghosts X} where
       was_stuck : (n : ℕ) → Turned n idle idle_turns nodes mid a v → SameTraffic a w → AreStuck a nodes
       was_stuck zero now same =
           let start = now.first refl in
-          subst (λ (z : List (Placed X t)). AreStuck a z) start.0 (subst (λ (z : View). AreStuck z mid) start.1 (still any busy stuck (subst (λ (z : View). SameTraffic z w) (sym start.1) same)))
-      was_stuck (suc n) now same = now.progress (omega arith) (same_first a v w (moved_grows nodes mid a v now.moved) (moved_grows mid later v w moved) same)
+          subst (λ (z : List (Placed X t)). AreStuck a z) start.0 (subst (λ (z : View). AreStuck z mid) start.1 (still any went.busy went.stuck (subst (λ (z : View). SameTraffic z w) (sym start.1) same)))
+      was_stuck (suc n) now same = now.progress (omega arith) (same_first a v w (moved_grows nodes mid a v now.moved) (moved_grows mid later v w went.moved) same)
 
       pub turned_next : (now : ℕ) → now < idle_turns → ((any ≡ true) × (now ≡ 0)) ⊎ ((any ≡ false) × (now ≡ idle + 1)) → Turned (turns + 1) now idle_turns nodes later a w
       turned_next now few step = record {
-        places = turn_places later places;
-        ends = turn_ends w ends;
-        moved = moved_then nodes mid later a v w turned.places turned.moved moved;
-        spares = turn_spares w spares;
+        places = turn_places later went.places;
+        ends = turn_ends w went.ends;
+        moved = moved_then nodes mid later a v w turned.places turned.moved went.moved;
+        spares = turn_spares w went.spares;
         first = λ h. absurd (omega (arith, h));
         few = few;
-        often = subst (λ n. turns + 1 ≤ idle_turns * n + now) (sym (count_then nodes mid later a v w turned.places turned.moved moved))
-            (turn_counted turns idle idle_turns (count_of turned.moved) (count_of moved) now any turned.often turned.few (λ some. count_some mid later v w moved (busy some)) step);
+        often = subst (λ n. turns + 1 ≤ idle_turns * n + now) (sym (count_then nodes mid later a v w turned.places turned.moved went.moved))
+            (turn_counted turns idle idle_turns (count_of turned.moved) (count_of went.moved) now any turned.often turned.few (λ some. count_some mid later v w went.moved (went.busy some)) step);
         progress = λ h same. was_stuck turns turned same;
       }
 
       -- and the last
       pub moved_last : HaveMoved nodes later a w
-      moved_last = moved_then nodes mid later a v w turned.places turned.moved moved
+      moved_last = moved_then nodes mid later a v w turned.places turned.moved went.moved
 
       pub stuck_last : SameTraffic a w → AreStuck a nodes
       stuck_last = was_stuck turns turned

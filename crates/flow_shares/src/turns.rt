@@ -24,9 +24,9 @@ pub const MAX_TURNS: usize = 65_536;
 /// Visits the nodes of a share in turns, in ascending order and with at most `chunk` steps each, and gives the share back.
 ///
 /// It ends after `idle_turns` turns in a row that moved nothing, or after one where all nodes are over: then no node can
-/// step by what its ends are certain of, and nothing that was put is kept back. It ends at once where the share has no node; after [`MAX_TURNS`] turns, and then
-/// the share is spent; and where memory was refused to a node, and then the share is starved. The gate is called before
-/// each turn. Nodes at the front that are over are not visited again.
+/// step by what its ends are certain of, and nothing that was put is kept back. It ends at once where the share has no
+/// node; after [`MAX_TURNS`] turns, and then the share is spent; and where memory was refused to a node, and then the share
+/// is starved. The gate is called before each turn. Nodes at the front that are over are not visited again.
 pub fn pump<T: Transducer, E: Ends, G: Gate>(
     share: Share<T, E>,
     chunk: usize,

@@ -13,4 +13,5 @@ returns-clause-pumped g c = record {
   calm = c.after_turns.ensures.calm;
   progress = c.after_turns.ensures.progress;
   rest = c.after_turns.ensures.rest;
+  out = c.after_turns.ensures.out;
 }
