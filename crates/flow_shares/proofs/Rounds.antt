@@ -25,8 +25,8 @@ module _ {X : Type 0} {t : Ghosts X} where
     pub often : turns ≤ idle_turns * count_of moved + idle
     pub progress : 0 < turns → SameTraffic a v → AreStuck a nodes
 
-  -- What a turn made of the nodes and of their ends; `any` says whether one of them made a step.
-  pub record Went (mid later : List (Placed X t)) (v w : View) (any : Bool) : Type 0 where
+  -- What one turn made of the nodes and of their ends; `any` says whether one of them made a step.
+  pub record OneTurn (mid later : List (Placed X t)) (v w : View) (any : Bool) : Type 0 where
     pub places : AreSamePlaces mid later
     pub ends : SameEnds v w
     pub moved : HaveMoved mid later v w
@@ -36,8 +36,8 @@ module _ {X : Type 0} {t : Ghosts X} where
     pub stuck : any ≡ false → AreStuck v mid × AreStuck w later
 
   -- what is kept back is put out, which their view does not see
-  pub went_out : (mid later : List (Placed X t)) (v w out : View) (any : Bool) → out ≡ w → Went mid later v w any → Went mid later v out any
-  went_out mid later v w out any is = subst (λ z. Went mid later v z any) (sym is)
+  pub turn_put_out : (mid later : List (Placed X t)) (v w out : View) (any : Bool) → out ≡ w → OneTurn mid later v w any → OneTurn mid later v out any
+  turn_put_out mid later v w out any is = subst (λ z. OneTurn mid later v z any) (sym is)
 
   pub turned_none : (nodes : List (Placed X t)) (a : View) (idle_turns : ℕ) → 0 < idle_turns → Turned 0 0 idle_turns nodes nodes a a
   turned_none nodes a idle_turns some = record {
@@ -80,7 +80,7 @@ module _ {X : Type 0} {t : Ghosts X} where
     turn_spares w = spared_then nodes mid a v w turned.places turned.spares
 
     -- one turn more
-    module _ (later : List (Placed X t)) (w : View) (any : Bool) (went : Went mid later v w any) where
+    module _ (later : List (Placed X t)) (w : View) (any : Bool) (went : OneTurn mid later v w any) where
       still : (one : Bool) → (one ≡ true → SameTraffic v w → ⊥) → (one ≡ false → AreStuck v mid × AreStuck w later) → SameTraffic v w → AreStuck v mid
       still true busy stuck same = absurd (busy refl same)
       still false busy stuck same = (stuck refl).0
