@@ -1,9 +1,10 @@
 -- What turns of nodes make of them and of their ends.
-use Rattle.std.specs.Prelude.{ℕ, ◌<◌}
+use Rattle.std.specs.Prelude.{◌≡◌, ℕ, ◌<◌, true}
 use Rattle.std.specs.declared.vec.Vec.{Vec}
 use Rattle.flow_messages.specs.Ends.{View, SameTraffic}
 use Rattle.flow_base.specs.declared.transducer.Transducer.{Ghosts}
 use Rattle.flow_networks.specs.declared.placed.Placed.{Placed}
+use Rattle.flow_shares.specs.declared.turns.Turns.{Turns}
 use Rattle.flow_shares.specs.Shares.{most_turns, AreStuck, HaveMoved, HaveMovedForTurns, HaveMovedAndLost, SpareOthers}
 
 -- the gate heard of each turn of the share with this number that a pump may make
@@ -44,3 +45,7 @@ module _ {X Y Z : Type 0} {t : Ghosts X} (view : Y → View) (nodes : Vec (Place
     -- they made all turns that a pump may make, and moved at least one message for each so many of them
     abbrev pub RanOften : ℕ → Type 0
     RanOften idle_turns = HaveMovedForTurns most_turns idle_turns nodes.items nodes'.items (view ends) (view ends')
+
+    -- spent turns are all that a pump may make
+    abbrev pub OftenIfSpent : ℕ → Turns → Type 0
+    OftenIfSpent idle_turns turns = turns.spent ≡ true → RanOften idle_turns

@@ -5,7 +5,7 @@ ghost use Rattle.flow_messages.specs.Ends.{SameEnds};
 ghost use Rattle.flow_networks.specs.Skeletons.{AreSamePlaces};
 ghost use Rattle.flow_shares.specs.Pumps.{IsPumped, ShareIsStuck, ShareIsCalm, ShareRanOn, ShareLost, ShareRanApart, ShareRanOften};
 ghost use Rattle.flow_shares.specs.Shares.{most_turns, HasItsEnds, AreApart, IsOwn, TakesMemory};
-ghost use Rattle.flow_shares.specs.Running.{HeardEachTurn, NoneMoved, SomeMoved, NoneCanMove, MovesIfItCan, RanOn, RanAndLost, RanApart, RanOften};
+ghost use Rattle.flow_shares.specs.Running.{HeardEachTurn, NoneMoved, SomeMoved, NoneCanMove, MovesIfItCan, RanOn, RanAndLost, RanApart, OftenIfSpent};
 
 use crate::gate::Gate;
 use crate::over::are_over;
@@ -148,8 +148,7 @@ fn take_turns<T: Transducer, E: Ends, G: Gate>(
         NoneCanMove E.view nodes.new ends.new) }
     ensures out { IfOk result (λ turns. turns.spent ≡ false → E.all_out ends.new) }
     ensures starves { OnErr result (TakesMemory nodes.new.items) }
-    ensures often { IfOk result (λ turns. turns.spent ≡ true →
-        RanOften E.view nodes.old ends.old nodes.new ends.new idle_turns) }
+    ensures often { IfOk result (OftenIfSpent E.view nodes.old ends.old nodes.new ends.new idle_turns) }
     ensures heard { IfOk result (λ turns. turns.spent ≡ true →
         HeardEachTurn G.heard gate.now number) }
     ensures none { IfOk result (λ turns. length nodes.old.items ≡ 0 → turns.spent ≡ false) }
