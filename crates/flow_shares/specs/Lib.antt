@@ -5,3 +5,4 @@ pub mod Pumps
 pub mod Lending
 pub mod Looks
 pub mod Starts
+pub mod Given

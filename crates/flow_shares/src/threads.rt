@@ -1,6 +1,7 @@
 // Threads, each of which pumps a share and gives it back.
-ghost use Rattle.std.specs.Prelude.{◌≡◌, ◌<◌, ◌⊎◌, ◌++◌, ◌∷◌, [], false, map, length, IfOk, OnOk, OnErr};
+ghost use Rattle.std.specs.Prelude.{◌≡◌, ◌<◌, ◌⊎◌, ◌++◌, ◌∷◌, [], false, length, IfOk, OnOk, OnErr};
 ghost use Rattle.std.specs.List.{All};
+ghost use Rattle.flow_shares.specs.Given.{shares_given};
 ghost use Rattle.flow_shares.specs.Pumps.{IsPumped, ArePumped};
 ghost use Rattle.flow_shares.specs.Starts.{AsksForEach, AsksForFirst};
 ghost use Rattle.flow_shares.specs.declared.error.WorkError.TheVariants.{NoThread};
@@ -100,8 +101,7 @@ fn start_all<
     requires some { 0 < chunk }
     requires idle { 0 < idle_turns }
     requires fed { All (λ share. share.starved ≡ false) shares.items }
-    ensures given { IfOk result (λ threads. map (λ thread.
-        thread.promise.given.value) threads.items ≡ shares.items) }
+    ensures given { IfOk result (λ threads. shares_given threads.items ≡ shares.items) }
     ensures asked { OnOk result (AsksForEach S.asked start.old start.new shares.items) }
     ensures first { OnErr result (AsksForFirst S.asked start.old start.new shares.items) }
     ensures refused { S.refused start.new → S.refused start.old ⊎ (result ≡ Err NoThread) }
