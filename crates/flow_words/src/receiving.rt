@@ -46,7 +46,7 @@ fn take_singles<W: Single, P: Protocol<W>>(
     words: &mut [W],
     inbox: &mut Inbox,
 ) -> (usize, bool)
-    requires few { (0 < length words.old) × (length words.old ≤ 64) }
+    requires few { (0 < length words.old) × (length words.old ≤ 256) }
     requires room { 0 < inbox.old.store.capacity }
     ensures ring { port.SameConsumer ring.old ring.new }
     ensures taken { port.received ring.new ≡ port.received ring.old ++ take result.0 words.new }

@@ -76,10 +76,10 @@ fn push_spelled(ring: &mut Producer<i64, Global, ClosingInts>, message: &Msg) ->
     push_all(ring, &words[..count])
 }
 
-// Puts at most 64 units, where there is room.
+// Puts at most a block of units, where there is room.
 #[inline(always)]
 fn push_few_units(ring: &mut Producer<UnitWord, Global, ClosingUnits>, count: usize)
-    requires few { count ≤ 64 }
+    requires few { count ≤ 256 }
     requires open { ended (signals (each_said unit_word (port.sent ring.old))) ≡ false }
     requires certain { count ≤ port.known_free ring.old }
     ensures ring { port.SameProducer ring.old ring.new }
@@ -109,10 +109,10 @@ fn push_units(ring: &mut Producer<UnitWord, Global, ClosingUnits>, count: usize)
     }
 }
 
-// Puts at most 64 truth values, where there is room.
+// Puts at most a block of truth values, where there is room.
 #[inline(always)]
 fn push_few_flags(ring: &mut Producer<FlagWord, Global, ClosingFlags>, flags: &[bool])
-    requires few { length flags.now ≤ 64 }
+    requires few { length flags.now ≤ 256 }
     requires open { ended (signals (each_said flag_word (port.sent ring.old))) ≡ false }
     requires certain { length flags.now ≤ port.known_free ring.old }
     ensures ring { port.SameProducer ring.old ring.new }

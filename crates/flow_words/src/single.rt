@@ -1,6 +1,6 @@
 // Words that say a message each.
-ghost use Rattle.std.specs.Prelude.{◌≡◌, ◌+◌, ◌≤◌, length, take, IsTrue, IfSome};
-ghost use Rattle.flow_messages.specs.declared.message.Msg.TheVariants.{Item as ItemMsg};
+ghost use Rattle.std.specs.Prelude.{◌≡◌, ◌≢◌, ◌+◌, ◌≤◌, false, length, take, IsTrue};
+ghost use Rattle.flow_messages.specs.declared.message.Msg.TheVariants.{Item as ItemMsg, End as EndMsg};
 ghost use Rattle.flow_messages.specs.declared.message.Item.TheVariants.{Unit as UnitItem, Bool as BoolItem};
 ghost use Rattle.flow_messages.specs.Stores.{content_of};
 ghost use Rattle.flow_messages.specs.Contents.{unit_messages, flag_messages};
@@ -12,7 +12,7 @@ use flow_boxes::Inbox;
 use flow_messages::{Item, Msg};
 
 // A block of such words has so many places.
-pub(crate) const PLACES: usize = 64;
+pub(crate) const PLACES: usize = 256;
 
 // A word that says a message.
 pub(crate) trait Single: Copy {
@@ -41,7 +41,7 @@ pub(crate) trait Single: Copy {
 
     // Holds these messages at once, where all are items. Whether they are.
     fn hold_items(words: &[Self], inbox: &mut Inbox) -> bool
-        requires few { length words.now ≤ 64 }
+        requires few { length words.now ≤ 256 }
         requires room { length (content_of inbox.old.store) + length words.now ≤
             inbox.old.store.capacity }
         ensures held { IsTrue result → HasCome (each_said said words.now) inbox.old inbox.new }
@@ -146,16 +146,20 @@ impl FlagWord {
         }
     }
 
-    // The truth value that it says, where it says one.
+    // Whether it says the end.
     #[inline(always)]
-    fn flag(self) -> Option<bool>
-        ensures { IfSome result (λ truth. flag_word self ≡ ItemMsg (BoolItem truth)) }
+    fn is_end(self) -> bool
+        ensures { result ≡ false → flag_word self ≢ EndMsg }
     {
-        match self {
-            FlagWord::False => Some(false),
-            FlagWord::True => Some(true),
-            FlagWord::End => None,
-        }
+        matches!(self, FlagWord::End)
+    }
+
+    // The truth value that it says, or `false` where it says none.
+    #[inline(always)]
+    fn truth(self) -> bool
+        ensures { flag_word self ≢ EndMsg → flag_word self ≡ ItemMsg (BoolItem result) }
+    {
+        matches!(self, FlagWord::True)
     }
 }
 
@@ -164,12 +168,12 @@ impl FlagWord {
 fn are_units(words: &[UnitWord]) -> bool
     ensures { IsTrue result → each_said unit_word words.now ≡ unit_messages (length words.now) }
 {
+    // The loop goes on after the first that says none, so that it can look at several at once.
+    let mut ended = false;
     for word in words {
-        if !word.is_unit() {
-            return false;
-        }
+        ended |= !word.is_unit();
     }
-    true
+    !ended
 }
 
 // Whether all of these say truth values, which then lie in the first places.
@@ -180,13 +184,14 @@ fn read_flags(words: &[FlagWord], flags: &mut [bool]) -> bool
     ensures read { IsTrue result → each_said flag_word words.now ≡
         flag_messages (take (length words.now) flags.new) }
 {
+    // The loop goes on after an end, so that it can look at several at once.
+    let mut ended = false;
     for place in 0..words.len() {
-        let Some(flag) = words[place].flag() else {
-            return false;
-        };
-        flags[place] = flag;
+        let word = words[place];
+        ended |= word.is_end();
+        flags[place] = word.truth();
     }
-    true
+    !ended
 }
 
 // Words for these truth values lie in the first places.
@@ -205,7 +210,7 @@ pub(crate) fn lay_out(flags: &[bool], words: &mut [FlagWord])
 // Holds these messages after all others.
 #[inline(always)]
 pub(crate) fn hold<W: Single>(words: &[W], inbox: &mut Inbox)
-    requires few { length words.now ≤ 64 }
+    requires few { length words.now ≤ 256 }
     requires room { length (content_of inbox.old.store) + length words.now ≤
         inbox.old.store.capacity }
     ensures { HasCome (each_said W.said words.now) inbox.old inbox.new }

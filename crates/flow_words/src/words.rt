@@ -134,10 +134,10 @@ impl Group {
 pub(crate) fn are_plain(words: &[i64]) -> bool
     ensures { IsTrue result → ArePlain words.now }
 {
+    // The loop goes on after the first, so that it can look at several at once.
+    let mut escaped = false;
     for word in words {
-        if escapes(*word) {
-            return false;
-        }
+        escaped |= escapes(*word);
     }
-    true
+    !escaped
 }

@@ -1,7 +1,7 @@
-use Rattle.std.proofs.Common.{take}
+use Rattle.std.proofs.Common.{◌≡◌, false, take}
 use Rattle.flow_words.specs.Words.{ArePlain}
 use Rattle.flow_words.proofs.words.are_plain.Given as goal
 
--- those so far are plain
+-- those so far are plain where no escape was found
 abbrev pub invariant-loop-word : goal.invariant-loop-word
-invariant-loop-word l = ArePlain (take l.word-index l.words)
+invariant-loop-word l = l.escaped ≡ false → ArePlain (take l.word-index l.words)
