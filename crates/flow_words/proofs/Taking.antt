@@ -13,6 +13,7 @@ use Rattle.flow_messages.specs.declared.message.Kind.TheVariants.{Unit as UnitKi
 use Rattle.flow_messages.specs.declared.message.Msg.{Msg}
 use Rattle.flow_messages.specs.Signals.{signals, ended, orderly}
 use Rattle.flow_messages.proofs.Signals.{orderly-snoc}
+use Rattle.flow_messages.proofs.Blocks.{prefix_then}
 use Rattle.flow_boxes.specs.declared.inbox.Inbox.{Inbox}
 use Rattle.flow_boxes.specs.Coming.{HasCome}
 use Rattle.flow_words.specs.declared.words.UnitWord.{UnitWord}
@@ -151,3 +152,36 @@ ints_looked r s k l same p = (
 -- a ring of whole groups that holds no message holds no word
 pub ints_empty : (r k s : List ℤ) → r ++ k ≡ s → group_after NoGroup s ≡ NoGroup → ints_said (group_after NoGroup r) k ≡ [] → length k ≡ 0
 ints_empty r k s fifo whole none = ap length (nothing_left (group_after NoGroup r) k none (sym (after-append NoGroup r k) ∙ ap (group_after NoGroup) fifo ∙ whole)).1
+
+-- the same ring after a look
+pub same_after_look : {W P : Type 0} (a b c : Consumer W Global P) → port.ConsumerLooked a b → port.SameConsumer b c → port.SameConsumer a c
+same_after_look a b c looked same = (
+  (same.0.0 ∙ looked.0.0.0, same.0.1 ∙ looked.0.0.1, same.0.2 ∙ looked.0.0.2, same.0.3 ∙ looked.0.0.3),
+  same.1 ∙ looked.0.1,
+)
+
+-- a look that found nothing brings nothing
+pub no_unit_came : (a b : Consumer UnitWord Global ClosingUnits) (i : Inbox) → port.ConsumerLooked a b → TakesOver [] (UnitsFrom a) (UnitsFrom b) i i
+no_unit_came a b i looked = units_took a b [] i i looked.0 (looked.1 ∙ sym (append-nil (port.received a))) looked.2 tt (come_none i)
+
+pub no_flag_came : (a b : Consumer FlagWord Global ClosingFlags) (i : Inbox) → port.ConsumerLooked a b → TakesOver [] (FlagsFrom a) (FlagsFrom b) i i
+no_flag_came a b i looked = flags_took a b [] i i looked.0 (looked.1 ∙ sym (append-nil (port.received a))) looked.2 tt (come_none i)
+
+-- what came after a look
+pub units_took_later : (a b c : Consumer UnitWord Global ClosingUnits) (ws : List UnitWord) (i j : Inbox) → port.ConsumerLooked a b → port.SameConsumer b c
+    → port.received c ≡ port.received b ++ ws → IsPrefix (port.known_items b) (ws ++ port.known_items c)
+    → Allowed (λ xs _. ended (signals (each_said unit_word xs)) ≡ false) (port.received b) ws → HasCome (each_said unit_word ws) i j
+    → TakesOver (each_said unit_word ws) (UnitsFrom a) (UnitsFrom c) i j
+units_took_later a b c ws i j looked same taken known all come =
+    units_took a c ws i j (same_after_look a b c looked same) (taken ∙ ap (λ l. l ++ ws) looked.1)
+    (prefix_then (port.known_items a) (port.known_items b) (ws ++ port.known_items c) looked.2 known)
+    (subst (λ l. Allowed (λ xs _. ended (signals (each_said unit_word xs)) ≡ false) l ws) looked.1 all) come
+
+pub flags_took_later : (a b c : Consumer FlagWord Global ClosingFlags) (ws : List FlagWord) (i j : Inbox) → port.ConsumerLooked a b → port.SameConsumer b c
+    → port.received c ≡ port.received b ++ ws → IsPrefix (port.known_items b) (ws ++ port.known_items c)
+    → Allowed (λ xs _. ended (signals (each_said flag_word xs)) ≡ false) (port.received b) ws → HasCome (each_said flag_word ws) i j
+    → TakesOver (each_said flag_word ws) (FlagsFrom a) (FlagsFrom c) i j
+flags_took_later a b c ws i j looked same taken known all come =
+    flags_took a c ws i j (same_after_look a b c looked same) (taken ∙ ap (λ l. l ++ ws) looked.1)
+    (prefix_then (port.known_items a) (port.known_items b) (ws ++ port.known_items c) looked.2 known)
+    (subst (λ l. Allowed (λ xs _. ended (signals (each_said flag_word xs)) ≡ false) l ws) looked.1 all) come

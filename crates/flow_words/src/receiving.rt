@@ -227,11 +227,18 @@ impl ReaderWords {
     {
         match self {
             ReaderWords::Units(ring) => {
+                // To lay out a block costs more than to see that nothing is there.
+                if ring.is_empty() {
+                    return (Group::None, false);
+                }
                 let mut words = [UnitWord::End; PLACES];
                 let (_, all) = take_singles(ring, &mut words, inbox);
                 (Group::None, all)
             }
             ReaderWords::Flags(ring) => {
+                if ring.is_empty() {
+                    return (Group::None, false);
+                }
                 let mut words = [FlagWord::End; PLACES];
                 let (_, all) = take_singles(ring, &mut words, inbox);
                 (Group::None, all)

@@ -1,31 +1,45 @@
-use Rattle.std.proofs.Common.{ap}
+use Rattle.std.proofs.Common.{ap, take}
 use Rattle.flow_words.specs.Words.{unit_word, flag_word, each_said}
 use Rattle.flow_words.proofs.Holding.{no_length}
-use Rattle.flow_words.proofs.Taking.{units_took, flags_took}
+use Rattle.flow_words.proofs.Taking.{no_unit_came, no_flag_came, units_took_later, flags_took_later}
 use Rattle.flow_words.proofs.ring.ReaderWords.take_over.Goals as goal
 
-pub returns-in-Units-clause-came : goal.returns-in-Units-clause-came
-returns-in-Units-clause-came c =
+pub returns-then-is_empty-clause-came : goal.returns-then-is_empty-clause-came
+returns-then-is_empty-clause-came c =
+    rw c.in-Units.is (_, no_unit_came c.in-Units.ring c.is_empty.new.self c.args.inbox.now c.if-is_empty.ensures.looked)
+
+pub returns-else-is_empty-clause-came : goal.returns-else-is_empty-clause-came
+returns-else-is_empty-clause-came c =
     let took = c.take_singles-all.ensures in
-    rw c.in-Units.is (_, units_took c.in-Units.ring c.take_singles-all.new.ring _ c.args.inbox.now c.take_singles-all.new.inbox took.ring took.taken took.known took.allowed took.come)
-
-pub returns-in-Units-clause-found : goal.returns-in-Units-clause-found
-returns-in-Units-clause-found c = λ none. ap (each_said unit_word) (no_length _ (c.take_singles-all.ensures.found none))
-
-pub returns-in-Units-clause-all : goal.returns-in-Units-clause-all
-returns-in-Units-clause-all c = λ few. ap (each_said unit_word) (no_length _ (c.take_singles-all.ensures.all few))
-
-pub returns-in-Flags-clause-came : goal.returns-in-Flags-clause-came
-returns-in-Flags-clause-came c =
-    let took = c.take_singles-all-in-Flags.ensures in
-    rw c.in-Flags.is (
+    let ws = take c.take_singles-all.result.0 c.take_singles-all.new.words in
+    rw c.in-Units.is (
       _,
-      flags_took c.in-Flags.ring c.take_singles-all-in-Flags.new.ring _ c.args.inbox.now c.take_singles-all-in-Flags.new.inbox took.ring took.taken took.known
-          took.allowed took.come,
+      units_took_later c.in-Units.ring c.is_empty.new.self c.take_singles-all.new.ring ws c.args.inbox.now c.take_singles-all.new.inbox
+          c.if-is_empty.ensures.looked took.ring took.taken took.known took.allowed took.come,
     )
 
-pub returns-in-Flags-clause-found : goal.returns-in-Flags-clause-found
-returns-in-Flags-clause-found c = λ none. ap (each_said flag_word) (no_length _ (c.take_singles-all-in-Flags.ensures.found none))
+pub returns-else-is_empty-clause-found : goal.returns-else-is_empty-clause-found
+returns-else-is_empty-clause-found c = λ none. ap (each_said unit_word) (no_length _ (c.take_singles-all.ensures.found none))
 
-pub returns-in-Flags-clause-all : goal.returns-in-Flags-clause-all
-returns-in-Flags-clause-all c = λ few. ap (each_said flag_word) (no_length _ (c.take_singles-all-in-Flags.ensures.all few))
+pub returns-else-is_empty-clause-all : goal.returns-else-is_empty-clause-all
+returns-else-is_empty-clause-all c = λ few. ap (each_said unit_word) (no_length _ (c.take_singles-all.ensures.all few))
+
+pub returns-then-is_empty-2-clause-came : goal.returns-then-is_empty-2-clause-came
+returns-then-is_empty-2-clause-came c =
+    rw c.in-Flags.is (_, no_flag_came c.in-Flags.ring c.is_empty-in-Flags.new.self c.args.inbox.now c.if-is_empty-2.ensures.looked)
+
+pub returns-else-is_empty-2-clause-came : goal.returns-else-is_empty-2-clause-came
+returns-else-is_empty-2-clause-came c =
+    let took = c.take_singles-all-in-Flags.ensures in
+    let ws = take c.take_singles-all-in-Flags.result.0 c.take_singles-all-in-Flags.new.words in
+    rw c.in-Flags.is (
+      _,
+      flags_took_later c.in-Flags.ring c.is_empty-in-Flags.new.self c.take_singles-all-in-Flags.new.ring ws c.args.inbox.now c.take_singles-all-in-Flags.new.inbox
+          c.if-is_empty-2.ensures.looked took.ring took.taken took.known took.allowed took.come,
+    )
+
+pub returns-else-is_empty-2-clause-found : goal.returns-else-is_empty-2-clause-found
+returns-else-is_empty-2-clause-found c = λ none. ap (each_said flag_word) (no_length _ (c.take_singles-all-in-Flags.ensures.found none))
+
+pub returns-else-is_empty-2-clause-all : goal.returns-else-is_empty-2-clause-all
+returns-else-is_empty-2-clause-all c = λ few. ap (each_said flag_word) (no_length _ (c.take_singles-all-in-Flags.ensures.all few))
