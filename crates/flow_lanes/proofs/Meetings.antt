@@ -1,6 +1,7 @@
 -- What a meeting keeps, and what it finds.
-use Rattle.std.proofs.Common.{◌≡◌, ◌≢◌, ℕ, zero, suc, ◌+◌, ◌<◌, ◌≤◌, true, List, [], ◌∷◌, ◌++◌, length, refl, ap, sym, ◌∙◌, get_or, set, arith, append-nil, append_assoc, ◌⊎◌, inl, inr}
+use Rattle.std.proofs.Common.{◌≡◌, ◌≢◌, ℕ, zero, suc, ◌+◌, ◌<◌, ◌≤◌, true, List, [], ◌∷◌, ◌++◌, length, refl, ap, sym, ◌∙◌, get_or, set, subst, arith, append-nil, append_assoc, ◌⊎◌, inl, inr}
 use Rattle.std.proofs.lemmas.Bool.{cases_eq}
+use Rattle.std.proofs.lemmas.List.{get_or-set_same}
 use Rattle.std.specs.Prelude.{Option, Some, None}
 use mathlib.Core.List.{IsPrefix}
 use Rattle.flow_messages.specs.Signals.{Signal, carry, stop, signals, ended, orderly}
@@ -13,9 +14,11 @@ use Rattle.flow_lanes.specs.declared.ends.LaneWriter.TheVariants.{Messages as Me
 use Rattle.flow_lanes.specs.declared.ends.LaneReader.{LaneReader}
 use Rattle.flow_rings.specs.declared.ring.Held.{Held}
 use Rattle.flow_lanes.specs.declared.rings.Rings.{Rings}
-use Rattle.flow_lanes.specs.Lane.{sent, received, certain_room, certain_held, edge_capacity, IsLane, SameWriter, SameReader}
+use Rattle.flow_lanes.specs.Lane.{sent, received, certain_room, certain_held, edge_capacity, IsLane, IsOut, SameWriter, SameReader}
 use Rattle.flow_lanes.specs.SameLanes.{lane_stays, same_kind, same_capacity}
-use Rattle.flow_lanes.specs.Rings.{kind_seen, sent_of, room_of, writes_of, received_of, coming_of, reads_of, capacity_of, ends_of, writer_at, reader_at, capacity_at, SameWriters, SameReaders, SameRings, Joins, Kept, RingsHaveMet}
+use Rattle.flow_lanes.specs.Rings.{kind_seen, sent_of, room_of, writes_of, received_of, coming_of, reads_of, capacity_of, ends_of, writer_at, reader_at, capacity_at, OutOf, SameWriters, SameReaders, SameRings, Joins, Kept, RingsHaveMet}
+use Rattle.flow_words.specs.Edge as words
+use Rattle.flow_lanes.proofs.Gathering.{all_orderly}
 use Rattle.flow_lanes.proofs.RingLines.{signals-append}
 
 prefix-refl : (xs ys : List Signal) → ys ≡ xs → IsPrefix xs ys
@@ -66,9 +69,9 @@ joins-reader (Some w) (r ∷ rs) (suc e) h = omega (arith, joins-reader (Some w)
 -- what both ends found where they met is so for the shares that own them
 pub met_here : (ws : List (Option LaneWriter)) (rs : List (Option LaneReader)) (a b : Rings) (e : ℕ) (w : LaneWriter) (r : LaneReader) (found : Held) → e < length ws → e < length rs
     → a.writers.items ≡ set ws e (Some w) → b.readers.items ≡ set rs e (Some r)
-    → received r ++ certain_held r ≡ sent w → found.count ≡ length (certain_held r) → found.room ≤ certain_room w → found.count + found.room ≡ edge_capacity w
+    → received r ++ certain_held r ≡ sent w → found.count ≡ length (certain_held r) → found.room ≤ certain_room w → found.count + found.room ≡ edge_capacity w → IsOut w
     → RingsHaveMet a b e found
-met_here ws rs a b e w r found hw hr is-a is-b fifo count room whole =
+met_here ws rs a b e w r found hw hr is-a is-b fifo count room whole out =
     let coming : at_line coming_of b.readers.items e [] ≡ signals (certain_held r) = ap (λ (l : List (Option LaneReader)). at_line coming_of l e []) is-b ∙ at_line-same coming_of rs e [] (Some r) hr in
     let taken : at_line received_of b.readers.items e [] ≡ signals (received r) = ap (λ (l : List (Option LaneReader)). at_line received_of l e []) is-b ∙ at_line-same received_of rs e [] (Some r) hr in
     let put : at_line sent_of a.writers.items e [] ≡ signals (sent w) = ap (λ (l : List (Option LaneWriter)). at_line sent_of l e []) is-a ∙ at_line-same sent_of ws e [] (Some w) hw in
@@ -79,6 +82,7 @@ met_here ws rs a b e w r found hw hr is-a is-b fifo count room whole =
       count = count ∙ sym (signals-length (certain_held r)) ∙ sym (ap length coming);
       room = omega (arith, free, room);
       whole = whole ∙ sym places;
+      out = subst (λ (l : List (Option LaneWriter)). OutOf (get_or l e None)) (sym is-a) (subst OutOf (sym (get_or-set_same ws e (Some w) None hw)) out);
     }
 
 -- in an orderly list nothing stands after a part that has a stop
@@ -92,7 +96,7 @@ nothing-left (stop ∷ m ∷ before) after h closed = cc
 
 sent_orderly : (w : LaneWriter) → orderly (signals (sent w)) ≡ true
 sent_orderly (MessagesTo w) = w.orderly
-sent_orderly (ScalarsTo w) = w.edge.orderly
+sent_orderly (ScalarsTo w) = all_orderly (words.sent w.edge) w.gathered.items w.closed w.edge.orderly
 
 -- whatever was put by writers is orderly
 writers_orderly : (ws : List (Option LaneWriter)) (e : ℕ) → orderly (at_line sent_of ws e []) ≡ true

@@ -1,10 +1,12 @@
 -- One end of a share's rings, and the others.
 use Rattle.std.proofs.Common.{◌≡◌, ℕ, zero, suc, ◌+◌, ◌<◌, ◌≤◌, Bool, true, false, List, [], ◌∷◌, ◌++◌, length, refl, ap, sym, ◌∙◌, cond, get_or, set, arith, append-nil, inl, inr, ◌⊎◌}
 use Rattle.std.proofs.lemmas.Bool.{cases_Bool}
+use Rattle.std.proofs.Math.Path.{fun_ext}
 use Rattle.std.specs.Prelude.{Option, Some, None}
 use mathlib.Core.List.{IsPrefix}
 use Rattle.flow_messages.specs.declared.message.Msg.{Msg}
-use Rattle.flow_messages.specs.Signals.{signals, signal_of, ended}
+use Rattle.flow_messages.specs.Signals.{Signal, signals, signal_of, ended}
+use Rattle.flow_messages.specs.declared.message.Kind.{Kind}
 use Rattle.flow_messages.specs.Ends.{View, held, SameEnds, LookedForRoom, LookedForMessages, Put, Taken, TakenAll, PutAll}
 use Rattle.flow_messages.specs.Tables.{at_line}
 use Rattle.flow_messages.specs.TableLaws.{signals-length}
@@ -88,6 +90,18 @@ module _ (ws : List (Option LaneWriter)) (rs : List (Option LaneReader)) (e : �
     room = at_line-other room_of ws e 0 (Some v);
     more = omega (arith, writer-room, had_room);
   }
+
+  -- where all that counts of the writer is as it was, the view is too
+  pub writer-kept : sent v ≡ sent w → certain_room v ≡ certain_room w → after ≡ before
+  writer-kept put room =
+      let by_sent : (ℕ → List Signal) → View = λ s. record { sent = s; received = before.received; coming = before.coming; room = after.room; kind = after.kind; writes = after.writes; reads = before.reads } in
+      let by_room : (ℕ → ℕ) → View = λ r. record { sent = before.sent; received = before.received; coming = before.coming; room = r; kind = after.kind; writes = after.writes; reads = before.reads } in
+      let by_kind : (ℕ → Option Kind) → View = λ k. record { sent = before.sent; received = before.received; coming = before.coming; room = before.room; kind = k; writes = after.writes; reads = before.reads } in
+      let by_writes : (ℕ → Bool) → View = λ t. record { sent = before.sent; received = before.received; coming = before.coming; room = before.room; kind = before.kind; writes = t; reads = before.reads } in
+      ap by_sent (fun_ext (at_line-kept sent_of ws e [] old (Some v) h is (ap signals put ∙ sym (ap sent_of was))))
+      ∙ ap by_room (fun_ext (at_line-kept room_of ws e 0 old (Some v) h is (room ∙ sym (ap room_of was))))
+      ∙ ap by_kind (fun_ext writer_ends.kinds)
+      ∙ ap by_writes (fun_ext writer_ends.writes)
 
 module _ (ws : List (Option LaneWriter)) (rs : List (Option LaneReader)) (e : ℕ) (old : Option LaneReader) (r v : LaneReader) (h : e < length rs) (is : old ≡ get_or rs e old) (was : old ≡ Some r) where
   abbrev from : View

@@ -17,7 +17,7 @@ use Rattle.flow_lanes.specs.contracts.rings.Rings as rings
 ruleset parts = (elements_sends, typed_sends, history.the_send, heap.the_field_send, crossing.frees, crosses, sendable)
 
 counted_sends : IsSend counted.the_field.row
-counted_sends = search (words.writer_sends, reader_sends, crosses, sendable) depth 60 fits 20000
+counted_sends = search (words.writer_sends, reader_sends, parts) depth 60 fits 20000
 
 pocket_sends : IsSend pocket.the_field.row
 pocket_sends = search (writer_sends, words.reader_sends, parts) depth 60 fits 20000

@@ -1,5 +1,5 @@
 -- What a contract sees of the two ends of a lane.
-use Rattle.std.specs.Prelude.{◌≡◌, ℕ, ◌≤◌, List, [], Option, Some, min}
+use Rattle.std.specs.Prelude.{◌≡◌, ℕ, ◌≤◌, List, [], Option, Some, ⊤}
 use Rattle.flow_messages.specs.declared.message.Kind.{Kind}
 use Rattle.flow_messages.specs.declared.message.Msg.{Msg}
 use Rattle.flow_messages.specs.Stores.{content_of}
@@ -9,22 +9,29 @@ use Rattle.flow_lanes.specs.declared.ends.LaneWriter.{LaneWriter}
 use Rattle.flow_lanes.specs.declared.ends.LaneWriter.TheVariants.{Messages as MessagesTo, Scalars as ScalarsTo}
 use Rattle.flow_lanes.specs.declared.ends.LaneReader.{LaneReader}
 use Rattle.flow_lanes.specs.declared.ends.LaneReader.TheVariants.{Messages as MessagesFrom, Scalars as ScalarsFrom}
+use Rattle.flow_lanes.specs.Many.{many_messages}
+use Rattle.flow_lanes.specs.Counted.{put_by, sure_room}
 use Rattle.flow_lanes.specs.Taken.{taken_from, held_in}
 
 -- every message put so far, the oldest first
 abbrev pub sent : LaneWriter → List Msg
 sent (MessagesTo w) = ring.sent w
-sent (ScalarsTo w) = words.sent w.edge
+sent (ScalarsTo w) = put_by w
 
 -- how many puts are certain of room
 abbrev pub certain_room : LaneWriter → ℕ
 certain_room (MessagesTo w) = ring.certain_room w
-certain_room (ScalarsTo w) = min w.room (words.certain_room w.edge)
+certain_room (ScalarsTo w) = sure_room w
 
 -- how many messages the lane holds at most
 abbrev pub edge_capacity : LaneWriter → ℕ
 edge_capacity (MessagesTo w) = ring.edge_capacity w
 edge_capacity (ScalarsTo w) = words.edge_capacity w.edge
+
+-- what its edge states as sent is all that was put: nothing is gathered
+abbrev pub IsOut : LaneWriter → Type 0
+IsOut (MessagesTo w) = ⊤
+IsOut (ScalarsTo w) = many_messages w.gathered.items ≡ []
 
 -- the kind of the items that this writer may put, or none where each may be put
 abbrev pub kind_of : LaneWriter → Option Kind

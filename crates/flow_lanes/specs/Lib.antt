@@ -1,5 +1,7 @@
 pub mod Credits
 pub mod Taken
+pub mod Many
+pub mod Counted
 pub mod Followed
 pub mod Lane
 pub mod SameLanes

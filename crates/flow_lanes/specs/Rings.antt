@@ -9,7 +9,7 @@ use Rattle.flow_lanes.specs.declared.ends.LaneReader.{LaneReader}
 use Rattle.flow_rings.specs.declared.ring.Held.{Held}
 use Rattle.flow_lanes.specs.declared.rings.Rings.{Rings}
 use Rattle.flow_messages.specs.declared.message.Kind.{Kind}
-use Rattle.flow_lanes.specs.Lane.{kind_of, sent, received, certain_room, certain_held, edge_capacity, SameWriter, SameReader, IsLane}
+use Rattle.flow_lanes.specs.Lane.{kind_of, sent, received, certain_room, certain_held, edge_capacity, IsOut, SameWriter, SameReader, IsLane}
 
 -- what was put, where the writer is there
 abbrev pub sent_of : Option LaneWriter → List Signal
@@ -35,6 +35,11 @@ kind_seen (Some w) = kind_of w
 abbrev pub capacity_of : Option LaneWriter → ℕ
 capacity_of None = 0
 capacity_of (Some w) = edge_capacity w
+
+-- nothing is gathered there
+abbrev pub OutOf : Option LaneWriter → Type 0
+OutOf None = ⊤
+OutOf (Some w) = IsOut w
 
 -- what was taken, where the reader is there
 abbrev pub received_of : Option LaneReader → List Signal
@@ -74,6 +79,10 @@ writer_at t e = slice_index_or t.writers.items e None
 -- the reader of edge e, where it is there
 abbrev pub reader_at : Rings → ℕ → Option LaneReader
 reader_at t e = slice_index_or t.readers.items e None
+
+-- nothing is gathered in any writer
+abbrev pub AllOut : Rings → Type 0
+AllOut t = (k : ℕ) → OutOf (writer_at t k)
 
 -- the same writer, or none in both
 abbrev pub SameWriters : Option LaneWriter → Option LaneWriter → Type 0
@@ -119,3 +128,4 @@ pub record RingsHaveMet (w r : Rings) (e : ℕ) (found : Held) : Type 0 where
   pub count : found.count ≡ length ((ends_of r).coming e)
   pub room : found.room ≤ (ends_of w).room e
   pub whole : found.count + found.room ≡ capacity_at w e
+  pub out : OutOf (writer_at w e)

@@ -1,13 +1,16 @@
 // What is called at the end that puts scalars.
-ghost use Rattle.std.specs.Prelude.{◌≡◌, ◌+◌, ◌<◌, ◌≤◌, ◌↔◌, true, false, [], ◌∷◌, ◌++◌, Some, length, min, IsTrue, IsOk, OnOk, IfErr, IsErrAnd};
+ghost use Rattle.std.specs.Prelude.{◌≡◌, ◌+◌, ◌<◌, ◌≤◌, ◌↔◌, true, false, [], ◌∷◌, ◌++◌, Some, length, IsTrue, IsOk, OnOk, IfErr, IsErrAnd};
+ghost use Rattle.std.specs.Io.Iter.{u64_saturate};
 ghost use Rattle.flow_messages.specs.Signals.{signals, signal_of, ended};
 ghost use Rattle.flow_messages.specs.Kinds.{FitsEdge};
 ghost use Rattle.flow_messages.specs.declared.ends.Why.TheVariants.{Full, Closed};
 ghost use Rattle.flow_messages.specs.Contents.{unit_messages, flag_messages, int_messages};
 ghost use Rattle.flow_messages.specs.declared.message.Kind.TheVariants.{Unit as UnitKind, Bool as BoolKind, Int as IntKind};
 ghost use Rattle.flow_rings.specs.Edge.{received, SameReader};
-ghost use Rattle.flow_words.specs.Edge.{sent, certain_room, kind_of, SameWriter, followed_unless_ended};
+ghost use Rattle.flow_words.specs.Edge.{sent, kind_of, SameWriter, followed_unless_ended};
+ghost use Rattle.flow_lanes.specs.Counted.{put_by, sure_room};
 ghost use Rattle.flow_lanes.specs.Credits.{credit, number_in};
+ghost use Rattle.flow_lanes.specs.Many.{many_messages};
 
 use crate::counted::CountedWriter;
 use flow_messages::{Item, Msg, Refused, Why};
@@ -47,10 +50,24 @@ impl CountedWriter {
     #[inline(never)]
     fn look_back(&mut self)
         ensures edge { self.new.edge ≡ self.old.edge }
+        ensures gathered { self.new.gathered ≡ self.old.gathered }
+        ensures free { self.new.free ≡ self.old.free }
         ensures back { SameReader self.old.back self.new.back }
         ensures room { self.old.room ≤ self.new.room }
     {
         self.room = self.room.saturating_add(told(&mut self.back));
+    }
+
+    // Looks for how many messages more the edge has room.
+    #[inline(never)]
+    fn look_ahead(&mut self)
+        ensures edge { SameWriter self.old.edge self.new.edge }
+        ensures back { self.new.back ≡ self.old.back }
+        ensures put { put_by self.new ≡ put_by self.old }
+        ensures room { self.new.room ≡ self.old.room }
+        ensures free { self.old.free ≤ self.new.free }
+    {
+        self.free = self.edge.space() - self.gathered.len();
     }
 
     // Puts a message after all others, or gives it back.
@@ -59,24 +76,18 @@ impl CountedWriter {
         requires fits { FitsEdge (Some (kind_of self.old.edge)) (signal_of message) }
         ensures edge { SameWriter self.old.edge self.new.edge }
         ensures back { SameReader self.old.back self.new.back }
-        ensures ok { OnOk result ((sent self.new.edge ≡ sent self.old.edge ++ message ∷ []) ×
-            (min self.old.room (certain_room self.old.edge) ≤
-            min self.new.room (certain_room self.new.edge) + 1)) }
+        ensures ok { OnOk result ((put_by self.new ≡ put_by self.old ++ message ∷ []) ×
+            (sure_room self.old ≤ sure_room self.new + 1)) }
         ensures refused { IfErr result (λ e. (e.message ≡ message) ×
-            (sent self.new.edge ≡ sent self.old.edge) ×
-            (min self.old.room (certain_room self.old.edge) ≤
-            min self.new.room (certain_room self.new.edge))) }
+            (put_by self.new ≡ put_by self.old) × (sure_room self.old ≤ sure_room self.new)) }
         ensures closed { IsErrAnd result (λ e. e.why ≡ Closed) ↔
-            (ended (signals (sent self.old.edge)) ≡ true) }
-        ensures full { IsErrAnd result (λ e. e.why ≡ Full) →
-            min self.new.room (certain_room self.new.edge) ≡ 0 }
-        ensures succeeds { ended (signals (sent self.old.edge)) ≡ false →
-            0 < min self.old.room (certain_room self.old.edge) → IsOk result }
+            (ended (signals (put_by self.old)) ≡ true) }
+        ensures full { IsErrAnd result (λ e. e.why ≡ Full) → sure_room self.new ≡ 0 }
+        ensures succeeds { ended (signals (put_by self.old)) ≡ false →
+            0 < sure_room self.old → IsOk result }
     {
-        if self.room == 0 {
-            self.look_back();
-        }
-        if self.room == 0 {
+        let has_room = self.has_room();
+        if !has_room || self.edge.is_closed() {
             let why = if self.edge.is_closed() {
                 Why::Closed
             } else {
@@ -84,24 +95,34 @@ impl CountedWriter {
             };
             return Err(Refused { message, why });
         }
-        self.edge.put(message)?;
         self.room -= 1;
-        Ok(())
+        self.free -= 1;
+        if self.gathered.gathers(&mut self.edge, &message) {
+            return Ok(());
+        }
+        self.edge.put(message)
     }
 
     // Puts so many units where room is certain. They are dropped where `End` was put before.
     #[inline(always)]
     pub(crate) fn put_units(&mut self, count: usize)
         requires kind { kind_of self.old.edge ≡ UnitKind }
-        requires certain { count ≤ min self.old.room (certain_room self.old.edge) }
+        requires certain { count ≤ sure_room self.old }
         ensures edge { SameWriter self.old.edge self.new.edge }
         ensures back { self.new.back ≡ self.old.back }
-        ensures put { sent self.new.edge ≡
-            followed_unless_ended (sent self.old.edge) (unit_messages count) }
-        ensures room { min self.old.room (certain_room self.old.edge) ≤
-            min self.new.room (certain_room self.new.edge) + count }
+        ensures put { put_by self.new ≡
+            followed_unless_ended (put_by self.old) (unit_messages count) }
+        ensures room { sure_room self.old ≤ sure_room self.new + count }
     {
         self.room -= count;
+        self.free -= count;
+        if self.edge.is_closed() {
+            return;
+        }
+        if self.gathered.makes_places(&mut self.edge, count) {
+            self.gathered.add_units(count);
+            return;
+        }
         self.edge.put_units(count);
     }
 
@@ -109,15 +130,22 @@ impl CountedWriter {
     #[inline(always)]
     pub(crate) fn put_flags(&mut self, flags: &[bool])
         requires kind { kind_of self.old.edge ≡ BoolKind }
-        requires certain { length flags.now ≤ min self.old.room (certain_room self.old.edge) }
+        requires certain { length flags.now ≤ sure_room self.old }
         ensures edge { SameWriter self.old.edge self.new.edge }
         ensures back { self.new.back ≡ self.old.back }
-        ensures put { sent self.new.edge ≡
-            followed_unless_ended (sent self.old.edge) (flag_messages flags.now) }
-        ensures room { min self.old.room (certain_room self.old.edge) ≤
-            min self.new.room (certain_room self.new.edge) + length flags.now }
+        ensures put { put_by self.new ≡
+            followed_unless_ended (put_by self.old) (flag_messages flags.now) }
+        ensures room { sure_room self.old ≤ sure_room self.new + length flags.now }
     {
         self.room -= flags.len();
+        self.free -= flags.len();
+        if self.edge.is_closed() {
+            return;
+        }
+        if self.gathered.makes_places(&mut self.edge, flags.len()) {
+            self.gathered.add_flags(flags);
+            return;
+        }
         self.edge.put_flags(flags);
     }
 
@@ -125,16 +153,37 @@ impl CountedWriter {
     #[inline(always)]
     pub(crate) fn put_ints(&mut self, ints: &[i64])
         requires kind { kind_of self.old.edge ≡ IntKind }
-        requires certain { length ints.now ≤ min self.old.room (certain_room self.old.edge) }
+        requires certain { length ints.now ≤ sure_room self.old }
         ensures edge { SameWriter self.old.edge self.new.edge }
         ensures back { self.new.back ≡ self.old.back }
-        ensures put { sent self.new.edge ≡
-            followed_unless_ended (sent self.old.edge) (int_messages ints.now) }
-        ensures room { min self.old.room (certain_room self.old.edge) ≤
-            min self.new.room (certain_room self.new.edge) + length ints.now }
+        ensures put { put_by self.new ≡
+            followed_unless_ended (put_by self.old) (int_messages ints.now) }
+        ensures room { sure_room self.old ≤ sure_room self.new + length ints.now }
     {
         self.room -= ints.len();
+        self.free -= ints.len();
+        if self.edge.is_closed() {
+            return;
+        }
+        if self.gathered.makes_places(&mut self.edge, ints.len()) {
+            self.gathered.add_ints(ints);
+            return;
+        }
         self.edge.put_ints(ints);
+    }
+
+    // Puts all that is gathered on the edge.
+    #[inline(always)]
+    pub(crate) fn put_out(&mut self)
+        ensures edge { SameWriter self.old.edge self.new.edge }
+        ensures back { self.new.back ≡ self.old.back }
+        ensures put { sent self.new.edge ≡ put_by self.old }
+        ensures out { many_messages self.new.gathered.items ≡ [] }
+        ensures room { (self.new.room ≡ self.old.room) × (self.new.free ≡ self.old.free) }
+    {
+        if self.gathered.len() > 0 {
+            self.gathered.put_on(&mut self.edge);
+        }
     }
 
     // Whether one message more is certain of room.
@@ -142,15 +191,17 @@ impl CountedWriter {
     pub(crate) fn has_room(&mut self) -> bool
         ensures edge { SameWriter self.old.edge self.new.edge }
         ensures back { SameReader self.old.back self.new.back }
-        ensures sent { sent self.new.edge ≡ sent self.old.edge }
-        ensures room { (self.old.room ≤ self.new.room) ×
-            (certain_room self.old.edge ≤ certain_room self.new.edge) }
-        ensures value { IsTrue result ↔ (0 < min self.new.room (certain_room self.new.edge)) }
+        ensures put { put_by self.new ≡ put_by self.old }
+        ensures room { sure_room self.old ≤ sure_room self.new }
+        ensures value { IsTrue result ↔ (0 < sure_room self.new) }
     {
         if self.room == 0 {
             self.look_back();
         }
-        self.edge.room() && self.room > 0
+        if self.free == 0 {
+            self.look_ahead();
+        }
+        self.free > 0 && self.room > 0
     }
 
     // How many messages more are certain of room.
@@ -158,18 +209,24 @@ impl CountedWriter {
     pub(crate) fn space(&mut self) -> usize
         ensures edge { SameWriter self.old.edge self.new.edge }
         ensures back { SameReader self.old.back self.new.back }
-        ensures sent { sent self.new.edge ≡ sent self.old.edge }
-        ensures room { (self.old.room ≤ self.new.room) ×
-            (certain_room self.old.edge ≤ certain_room self.new.edge) }
-        ensures value { result ≡ min self.new.room (certain_room self.new.edge) }
+        ensures put { put_by self.new ≡ put_by self.old }
+        ensures room { sure_room self.old ≤ sure_room self.new }
+        ensures value { result ≡ sure_room self.new }
     {
         if self.room <= self.capacity / 2 {
             self.look_back();
         }
         // It looks at the places of the edge only where it does not know of enough.
-        if self.edge.room_for(self.room) {
-            return self.room;
+        if self.free < self.room {
+            self.look_ahead();
         }
-        self.room.min(self.edge.space())
+        self.room.min(self.free)
+    }
+
+    // How many messages were put, gathered or not. The count stays at `u64::MAX`.
+    pub(crate) fn sent_count(&self) -> u64
+        ensures { result ≡ u64_saturate (length (put_by self.now)) }
+    {
+        self.edge.sent_count().saturating_add(self.gathered.len() as u64)
     }
 }

@@ -10,6 +10,8 @@
 mod counted;
 mod counting;
 mod ends;
+mod gathered;
+mod gathering;
 mod making;
 mod meeting;
 mod pocket;

@@ -7,6 +7,7 @@ ghost use Rattle.flow_lanes.specs.Lane.{sent, received, certain_room, certain_he
 use crate::counted::CountedWriter;
 use crate::counting::NUMBERS;
 use crate::ends::{LaneReader, LaneWriter};
+use crate::gathered::Gathered;
 use crate::pocket::Pocket;
 use flow_boxes::Inbox;
 use flow_history::History;
@@ -14,6 +15,9 @@ use flow_messages::Kind;
 use flow_rings::{edge, scalar_edge};
 use flow_words::word_edge;
 use std::alloc::{AllocError, Global};
+
+// So many scalars are gathered in the writer at most, and not more than a quarter of the lane.
+const GATHERED: usize = 64;
 
 /// The two ends of a lane for items of this kind, which holds at most `capacity` messages. Nothing was put on it.
 ///
@@ -38,9 +42,12 @@ pub fn lane(
     let (writer, reader) = word_edge(alloc, kind, capacity)?;
     // What the reader cannot tell it goes on to owe.
     let (teller, back) = scalar_edge(alloc, Kind::Int, capacity.min(NUMBERS))?;
+    let gathered = Gathered::new(alloc, kind, GATHERED.min(capacity / 4))?;
     let inbox = Inbox::new(alloc, capacity)?;
     let writer = CountedWriter {
         edge: writer,
+        gathered,
+        free: capacity,
         back,
         room: capacity,
         capacity,

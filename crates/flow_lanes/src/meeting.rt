@@ -8,7 +8,9 @@ ghost use Rattle.flow_rings.specs.Edge as ring;
 ghost use Rattle.flow_words.specs.Edge as words;
 ghost use Rattle.flow_lanes.specs.Credits.{credit, Owes};
 ghost use Rattle.flow_lanes.specs.Taken.{taken_from, held_in};
-ghost use Rattle.flow_lanes.specs.Lane.{sent, received, certain_room, certain_held, edge_capacity, IsLane, SameWriter, SameReader};
+ghost use Rattle.flow_lanes.specs.Counted.{put_by, sure_room};
+ghost use Rattle.flow_lanes.specs.Many.{many_messages};
+ghost use Rattle.flow_lanes.specs.Lane.{sent, received, certain_room, certain_held, edge_capacity, IsLane, IsOut, SameWriter, SameReader};
 
 use crate::counted::CountedWriter;
 use crate::ends::{LaneReader, LaneWriter};
@@ -20,7 +22,7 @@ use flow_rings::{EdgeReader, EdgeWriter, Held, meet};
 use flow_words::{WordReader, WordWriter, meet as look};
 
 /// Has both ends of a lane see each other: how many messages the lane holds, and how many more it has
-/// room for. What was taken and what the lane holds are what was put.
+/// room for. What was taken and what the lane holds are what was put, and nothing is gathered.
 pub fn meet_lane(writer: &mut LaneWriter, reader: &mut LaneReader) -> Held
     requires { IsLane writer.old reader.old }
     ensures writer { SameWriter writer.old writer.new × (sent writer.new ≡ sent writer.old) }
@@ -33,6 +35,7 @@ pub fn meet_lane(writer: &mut LaneWriter, reader: &mut LaneReader) -> Held
     ensures count { result.count ≡ length (certain_held reader.new) }
     ensures room { result.room ≤ certain_room writer.new }
     ensures whole { result.count + result.room ≡ edge_capacity writer.new }
+    ensures out { IsOut writer.new }
 {
     match (writer, reader) {
         (LaneWriter::Messages(writer), LaneReader::Messages(reader)) => meet(writer, reader),
@@ -41,7 +44,8 @@ pub fn meet_lane(writer: &mut LaneWriter, reader: &mut LaneReader) -> Held
     }
 }
 
-// The two ends of a lane of scalars see each other. All that the edge holds goes into the pocket, where it is counted.
+// The two ends of a lane of scalars see each other. All that is gathered goes on the edge, and all that the edge holds goes into
+// the pocket, where it is counted.
 fn meet_pocket(writer: &mut CountedWriter, reader: &mut Pocket) -> Held
     requires edge { words.IsEdge writer.old.edge reader.old.edge }
     requires back { ring.IsEdge reader.old.back writer.old.back }
@@ -51,23 +55,24 @@ fn meet_pocket(writer: &mut CountedWriter, reader: &mut Pocket) -> Held
     ensures back { ring.SameReader writer.old.back writer.new.back ×
         ring.SameWriter reader.old.back reader.new.back }
     ensures places { reader.new.inbox.store.capacity ≡ reader.old.inbox.store.capacity }
-    ensures sent { words.sent writer.new.edge ≡ words.sent writer.old.edge }
+    ensures sent { put_by writer.new ≡ put_by writer.old }
     ensures received { taken_from reader.new ≡ taken_from reader.old }
-    ensures room { (writer.old.room ≤ writer.new.room) ×
-        (words.certain_room writer.old.edge ≤ words.certain_room writer.new.edge) }
+    ensures room { sure_room writer.old ≤ sure_room writer.new }
     ensures held { IsPrefix (held_in reader.old) (held_in reader.new) }
-    ensures fifo { taken_from reader.new ++ held_in reader.new ≡ words.sent writer.new.edge }
+    ensures fifo { taken_from reader.new ++ held_in reader.new ≡ put_by writer.new }
     ensures count { result.count ≡ length (held_in reader.new) }
-    ensures free { (result.room ≡ writer.new.room) ×
-        (result.room ≤ words.certain_room writer.new.edge) }
+    ensures free { result.room ≤ sure_room writer.new }
     ensures whole { result.count + result.room ≡ words.edge_capacity writer.new.edge }
+    ensures out { many_messages writer.new.gathered.items ≡ [] }
 {
+    writer.put_out();
     look(&mut writer.edge, &mut reader.edge);
     reader.owed = settle(&mut reader.back, &mut writer.back, reader.owed);
     gather(&mut writer.edge, &mut reader.edge, &mut reader.inbox);
     reader.came = History::new().followed_by(&reader.inbox.arrived);
     let count = reader.inbox.store.len();
     writer.room = writer.capacity - count;
+    writer.free = writer.room;
     Held {
         count,
         room: writer.room,

@@ -24,7 +24,7 @@ impl LaneReader {
         match self {
             LaneReader::Messages(edge) => edge.ready(),
             LaneReader::Scalars(pocket) => {
-                pocket.fill();
+                pocket.fill_if_few();
                 pocket.inbox.store.len() > 0
             }
         }

@@ -1,6 +1,6 @@
 // What is called at the ring ends that a share of a network owns.
-ghost use Rattle.std.specs.Prelude.{◌≡◌, ◌<◌, ℕ, Some, None, length, slice_set, IfOk};
-ghost use Rattle.flow_lanes.specs.Rings.{ends_of, writer_at, reader_at, SameRings, Joins, Kept, RingsHaveMet};
+ghost use Rattle.std.specs.Prelude.{◌≡◌, ◌≢◌, ◌<◌, ℕ, Some, None, length, slice_set, IfOk};
+ghost use Rattle.flow_lanes.specs.Rings.{ends_of, writer_at, reader_at, OutOf, SameRings, Joins, Kept, RingsHaveMet};
 
 use crate::ends::{LaneReader, LaneWriter};
 use crate::meeting::meet_lane;
@@ -10,12 +10,14 @@ use flow_rings::Held;
 use std::alloc::{AllocError, Global};
 
 impl Ends for Rings {
-    ghost use Rattle.flow_lanes.specs.Rings.{ends_of, SameRings};
+    ghost use Rattle.flow_lanes.specs.Rings.{ends_of, SameRings, AllOut};
     ghost use Rattle.flow_lanes.specs.SameEnds.{same_rings_refl, same_rings_trans};
 
     ghost view = { ends_of };
 
     ghost same = { SameRings };
+
+    ghost all_out = { AllOut };
 
     fn has_writer(&self, edge: usize) -> bool {
         match self.writers.get(edge) {
@@ -147,6 +149,12 @@ impl Ends for Rings {
         }
     }
 
+    fn put_out(&mut self) {
+        for edge in 0..self.writers.len() {
+            self.put_out_at(edge);
+        }
+    }
+
     ghost same_refl = { same_rings_refl };
 
     ghost same_trans = { same_rings_trans };
@@ -204,6 +212,20 @@ impl Rings {
         ensures writers { self.new.writers.items ≡ self.old.writers.items }
     {
         self.readers[edge] = Some(reader);
+    }
+
+    // The writer of one edge puts out what it gathered, where it is here.
+    #[inline(always)]
+    fn put_out_at(&mut self, edge: usize)
+        requires { edge < length self.old.writers.items }
+        ensures same { SameRings self.old self.new }
+        ensures view { ends_of self.new ≡ ends_of self.old }
+        ensures out { OutOf (writer_at self.new edge) }
+        ensures others { (k : ℕ) → k ≢ edge → writer_at self.new k ≡ writer_at self.old k }
+    {
+        if let Some(writer) = &mut self.writers[edge] {
+            writer.put_out();
+        }
     }
 
     /// The writer that is here meets the reader that is there.

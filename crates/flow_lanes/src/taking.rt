@@ -18,11 +18,11 @@ use flow_history::History;
 use flow_messages::{Item, Msg};
 use flow_rings::{EdgeReader, EdgeWriter};
 
-// After so many messages the writer is told at once.
-const MANY: u64 = 64;
+// A pocket that holds as many is not filled: a look at the edge costs more than to take them.
+const ENOUGH: usize = 16;
 
 // So many times messages are taken over in one look at most.
-const TIMES: usize = 4;
+const TIMES: usize = 2;
 
 // The message that says a number.
 #[inline(always)]
@@ -133,7 +133,23 @@ impl Pocket {
         }
     }
 
-    // Tells the writer how many were taken, once they are many or a quarter of the lane.
+    // Messages that came are held, where few are.
+    #[inline(always)]
+    pub(crate) fn fill_if_few(&mut self)
+        ensures edge { words.SameReader self.old.edge self.new.edge }
+        ensures back { SameWriter self.old.back self.new.back }
+        ensures places { self.new.inbox.store.capacity ≡ self.old.inbox.store.capacity }
+        ensures taken { taken_from self.new ≡ taken_from self.old }
+        ensures more { IsPrefix (held_in self.old) (held_in self.new) }
+        ensures some { 0 < length (held_in self.new) →
+            0 < length (content_of self.new.inbox.store) }
+    {
+        if self.inbox.store.len() < ENOUGH {
+            self.fill();
+        }
+    }
+
+    // Tells the writer how many were taken, once they are a quarter of the lane.
     #[inline(always)]
     fn tell_if_many(&mut self)
         ensures edge { self.new.edge ≡ self.old.edge }
@@ -141,7 +157,7 @@ impl Pocket {
         ensures back { SameWriter self.old.back self.new.back }
     {
         let quarter = self.inbox.store.capacity / 4;
-        if self.owed >= MANY || self.owed >= quarter as u64 {
+        if self.owed >= quarter as u64 {
             self.owed = tell(&mut self.back, self.owed);
         }
     }

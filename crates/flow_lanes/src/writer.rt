@@ -7,7 +7,7 @@ ghost use Rattle.flow_messages.specs.Contents.{unit_messages, flag_messages, int
 ghost use Rattle.flow_messages.specs.declared.message.Kind.TheVariants.{Unit as UnitKind, Bool as BoolKind, Int as IntKind};
 ghost use Rattle.flow_messages.specs.declared.ends.Why.TheVariants.{Full, Closed};
 ghost use Rattle.flow_words.specs.Edge.{followed_unless_ended};
-ghost use Rattle.flow_lanes.specs.Lane.{sent, certain_room, kind_of, SameWriter};
+ghost use Rattle.flow_lanes.specs.Lane.{sent, certain_room, kind_of, SameWriter, IsOut};
 
 use crate::ends::LaneWriter;
 use crate::scalars::{put_each, put_units_each};
@@ -87,6 +87,20 @@ impl LaneWriter {
         }
     }
 
+    /// Puts out all that is gathered, for the reader to find.
+    #[inline(always)]
+    pub fn put_out(&mut self)
+        ensures same { SameWriter self.old self.new }
+        ensures kept { (sent self.new ≡ sent self.old) ×
+            (certain_room self.new ≡ certain_room self.old) }
+        ensures out { IsOut self.new }
+    {
+        match self {
+            LaneWriter::Messages(_) => {}
+            LaneWriter::Scalars(writer) => writer.put_out(),
+        }
+    }
+
     /// Whether the lane takes items of this kind: any, or those of its own.
     pub fn takes(&self, kind: Kind) -> bool
         ensures { IsTrue result ↔ TakesKind (kind_of self.now) kind }
@@ -131,7 +145,7 @@ impl LaneWriter {
     {
         match self {
             LaneWriter::Messages(edge) => edge.sent_count(),
-            LaneWriter::Scalars(writer) => writer.edge.sent_count(),
+            LaneWriter::Scalars(writer) => writer.sent_count(),
         }
     }
 }

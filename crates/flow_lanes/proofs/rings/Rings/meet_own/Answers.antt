@@ -22,7 +22,7 @@ returns-clause-met c =
     let ws = c.args.self.now.writers.items in
     let rs = c.args.self.now.readers.items in
     let m = c.meet_lane.ensures in
-    met_here ws rs _ _ c.args.edge c.meet_lane.new.writer c.meet_lane.new.reader c.meet_lane.result (joins-writer ws c.args.edge _ c.requires) (joins-reader _ rs c.args.edge c.requires) refl refl m.fifo m.count m.room m.whole
+    met_here ws rs _ _ c.args.edge c.meet_lane.new.writer c.meet_lane.new.reader c.meet_lane.result (joins-writer ws c.args.edge _ c.requires) (joins-reader _ rs c.args.edge c.requires) refl refl m.fifo m.count m.room m.whole m.out
 
 pub returns-clause-same : goal.returns-clause-same
 returns-clause-same c =

@@ -21,7 +21,7 @@ returns-clause-met c =
     let ws = c.args.self.now.writers.items in
     let rs = c.args.other.now.readers.items in
     let m = c.meet_lane.ensures in
-    met_here ws rs _ _ c.args.edge c.meet_lane.new.writer c.meet_lane.new.reader c.meet_lane.result (joins-writer ws c.args.edge _ c.requires) (joins-reader _ rs c.args.edge c.requires) refl refl m.fifo m.count m.room m.whole
+    met_here ws rs _ _ c.args.edge c.meet_lane.new.writer c.meet_lane.new.reader c.meet_lane.result (joins-writer ws c.args.edge _ c.requires) (joins-reader _ rs c.args.edge c.requires) refl refl m.fifo m.count m.room m.whole m.out
 
 pub returns-clause-writer : goal.returns-clause-writer
 returns-clause-writer c =
