@@ -2,7 +2,7 @@ pub mod Lists
 pub mod Came
 pub mod InTurn
 pub mod Followed
-pub mod Gathering
+pub mod Beside
 pub mod Owing
 pub mod Drained
 pub mod Settled

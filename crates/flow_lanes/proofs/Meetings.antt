@@ -18,7 +18,7 @@ use Rattle.flow_lanes.specs.Lane.{sent, received, certain_room, certain_held, ed
 use Rattle.flow_lanes.specs.SameLanes.{lane_stays, same_kind, same_capacity}
 use Rattle.flow_lanes.specs.Rings.{kind_seen, sent_of, room_of, writes_of, received_of, coming_of, reads_of, capacity_of, ends_of, writer_at, reader_at, capacity_at, OutOf, SameWriters, SameReaders, SameRings, Joins, Kept, RingsHaveMet}
 use Rattle.flow_words.specs.Edge as words
-use Rattle.flow_lanes.proofs.Gathering.{all_orderly}
+use Rattle.flow_lanes.proofs.Beside.{all_orderly}
 use Rattle.flow_lanes.proofs.RingLines.{signals-append}
 
 prefix-refl : (xs ys : List Signal) → ys ≡ xs → IsPrefix xs ys

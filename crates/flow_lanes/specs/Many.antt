@@ -1,5 +1,5 @@
 -- Scalars of one kind that lie side by side.
-use Rattle.std.specs.Prelude.{ℕ, ◌≤◌, List, ⊤}
+use Rattle.std.specs.Prelude.{ℕ, List}
 use Rattle.std.specs.Vec.{vec_capacity}
 use Rattle.flow_messages.specs.declared.message.Kind.{Kind}
 use Rattle.flow_messages.specs.declared.message.Kind.TheVariants.{Unit as UnitKind, Bool as BoolKind, Int as IntKind}
@@ -20,8 +20,8 @@ many_kind (Units n) = UnitKind
 many_kind (Flags v) = BoolKind
 many_kind (Ints v) = IntKind
 
--- places are reserved for so many of them: units need none
-abbrev pub HasPlaces : ℕ → Many → Type 0
-HasPlaces n (Units k) = ⊤
-HasPlaces n (Flags v) = n ≤ vec_capacity v
-HasPlaces n (Ints v) = n ≤ vec_capacity v
+-- for how many of so many of them places are reserved, or for more: units need none
+abbrev pub places_for : ℕ → Many → ℕ
+places_for n (Units k) = n
+places_for n (Flags v) = vec_capacity v
+places_for n (Ints v) = vec_capacity v

@@ -1,5 +1,5 @@
 // The end that puts scalars, and counts the room for them.
-ghost use Rattle.std.specs.Prelude.{◌≡◌, ◌+◌, ◌≤◌, true, [], length};
+ghost use Rattle.std.specs.Prelude.{◌≡◌, ◌+◌, ◌≤◌, true, length};
 ghost use Rattle.flow_messages.specs.Limits.{greatest_capacity};
 ghost use Rattle.flow_messages.specs.Signals.{signals, ended};
 ghost use Rattle.flow_rings.specs.Edge.{received};
@@ -27,7 +27,8 @@ pub struct CountedWriter {
     pub(crate) capacity: usize,
     ghost kind: { many_kind gathered.items ≡ kind_of edge },
     ghost sure: { free + length (many_messages gathered.items) ≤ certain_room edge },
-    ghost closed: { ended (signals (sent edge)) ≡ true → many_messages gathered.items ≡ [] },
+    ghost closed: { ended (signals (sent edge)) ≡ true →
+        length (many_messages gathered.items) ≡ 0 },
     ghost places: { edge_capacity edge ≡ capacity },
     ghost limit: { capacity ≤ greatest_capacity },
     ghost within: { room + (length (sent edge) + length (many_messages gathered.items)) ≤

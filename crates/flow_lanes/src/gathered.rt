@@ -1,6 +1,6 @@
 // Scalars that were put on a lane and do not lie on its edge yet.
 ghost use Rattle.std.specs.Prelude.{◌≤◌, length};
-ghost use Rattle.flow_lanes.specs.Many.{many_messages, HasPlaces};
+ghost use Rattle.flow_lanes.specs.Many.{many_messages, places_for};
 
 // Scalars of one kind, side by side, the oldest first. Of units it is said only how many they are.
 #[derive(Drop)]
@@ -16,5 +16,5 @@ pub(crate) struct Gathered {
     pub(crate) items: Many,
     pub(crate) most: usize,
     ghost few: { length (many_messages items) ≤ most },
-    ghost reserved: { HasPlaces most items },
+    ghost reserved: { most ≤ places_for most items },
 }

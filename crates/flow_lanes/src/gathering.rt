@@ -5,7 +5,7 @@ ghost use Rattle.flow_messages.specs.Signals.{signals, ended};
 ghost use Rattle.flow_messages.specs.Contents.{unit_messages, flag_messages, int_messages};
 ghost use Rattle.flow_messages.specs.declared.message.Kind.TheVariants.{Unit as UnitKind, Bool as BoolKind, Int as IntKind, Vec as VecKind};
 ghost use Rattle.flow_words.specs.Edge.{sent, certain_room, kind_of, SameWriter, followed_unless_ended};
-ghost use Rattle.flow_lanes.specs.Many.{many_messages, many_kind, HasPlaces};
+ghost use Rattle.flow_lanes.specs.Many.{many_messages, many_kind, places_for};
 
 use crate::gathered::{Gathered, Many};
 use flow_messages::{Item, Kind, Msg};
@@ -20,7 +20,7 @@ fn no_items(alloc: Global, kind: Kind, most: usize) -> Result<Many, AllocError>
     requires { kind ≢ VecKind }
     ensures none { IfOk result (λ items. many_messages items ≡ []) }
     ensures kind { IfOk result (λ items. many_kind items ≡ kind) }
-    ensures places { IfOk result (λ items. HasPlaces most items) }
+    ensures places { IfOk result (λ items. most ≤ places_for most items) }
 {
     match kind {
         Kind::Unit => Ok(Many::Units(0)),
@@ -41,7 +41,7 @@ fn no_items(alloc: Global, kind: Kind, most: usize) -> Result<Many, AllocError>
 fn append<T: Copy + Drop>(items: &mut Vec<T>, more: &[T])
     requires room { vec_len items.old + length more.now ≤ vec_capacity items.old }
     ensures items { items.new.items ≡ items.old.items ++ more.now }
-    ensures capacity { vec_capacity items.new ≡ vec_capacity items.old }
+    ensures capacity { vec_capacity items.old ≤ vec_capacity items.new }
 {
     if more.len() > FEW {
         let _fits = items.extend_from_slice(more);

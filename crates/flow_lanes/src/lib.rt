@@ -4,6 +4,10 @@
 //! the messages, and the reader takes as many as it finds into a pocket, with one look. Over the second it tells the writer how
 //! many it took out of the pocket. So the writer never puts more than the lane may hold, the pocket counted.
 //!
+//! A put on the edge costs far more than to keep a few scalars. So the writer gathers small puts, and puts them on the edge
+//! together. It does so once no more have a place, where it is told to put out, and where both ends meet. What is gathered counts
+//! as put, and takes room of the lane, but the reader does not see it yet.
+//!
 //! [`Rings`] owns the ends that a share of a network has, each at the number of its lane.
 #![tactic(auto)]
 

@@ -1,28 +1,31 @@
-use Rattle.std.proofs.Common.{◌++◌, length, refl, sym, ap, ◌∙◌, subst, arith, append-nil, length-append}
+use Rattle.std.proofs.Common.{◌++◌, length, sym, ap, ◌∙◌, subst, arith, append-nil, length-append}
 use Rattle.flow_messages.specs.Stores.{content_of}
 use Rattle.flow_boxes.specs.Received.{received_of}
-use Rattle.flow_words.specs.Edge.{certain_held}
+use Rattle.flow_words.specs.Edge.{sent, certain_held}
 use Rattle.flow_words.proofs.Coming.{come_length}
 use Rattle.flow_lanes.specs.Credits.{Owes}
 use Rattle.flow_lanes.proofs.Lists.{filled, prefix-more}
 use Rattle.flow_lanes.proofs.Settled.{bound, within, gathered}
 use Rattle.flow_lanes.proofs.meeting.meet_pocket.Goals as goal
 
+pub meet-requires : goal.meet-requires
+meet-requires c = c.requires.edge ∙ sym c.put_out.ensures.edge.0
+
 pub gather-requires : goal.gather-requires
 gather-requires c =
-    let w = c.args.writer.now in
+    let w = c.put_out.new.self in
     let p = c.args.reader.now in
     let met = c.meet.ensures in
     let b = c.settle-reader.ensures in
     record {
       edge = met.pair;
       fifo = met.fifo;
-      room = omega (arith, bound w p c.meet.new.writer c.meet.new.reader met.writer.1 met.reader.1 met.fifo c.settle-reader.new.back b.begins (b.told (length (received_of p.inbox)) p.owes), w.places, c.requires.places);
+      room = omega (arith, bound w p c.meet.new.writer c.meet.new.reader met.writer.1 met.reader.1 met.fifo c.settle-reader.new.back b.begins (b.told (length (received_of p.inbox)) p.owes), w.places, c.put_out.ensures.edge.1, c.requires.places);
     }
 
 pub overflow_sub-writer : goal.overflow_sub-writer
 overflow_sub-writer c =
-    let w = c.args.writer.now in
+    let w = c.put_out.new.self in
     let p = c.args.reader.now in
     let met = c.meet.ensures in
     let b = c.settle-reader.ensures in
@@ -31,15 +34,19 @@ overflow_sub-writer c =
 
 pub invariant_of-writer : goal.invariant_of-writer
 invariant_of-writer c =
-    let w = c.args.writer.now in
+    let w = c.put_out.new.self in
     let p = c.args.reader.now in
     let met = c.meet.ensures in
     let b = c.settle-reader.ensures in
     let count = come_length (certain_held c.meet.new.reader) p.inbox c.gather.new.inbox c.gather.ensures.come in
+    let none = ap length c.put_out.ensures.out in
     record {
+      kind = w.kind ∙ sym (ap (λ of. of.0) (c.gather.ensures.writer.0.0 ∙ met.writer.0.0));
+      sure = omega (arith, none, w.places, met.writer.0.1, c.gather.ensures.writer.0.1, c.gather.ensures.room.1);
+      closed = λ _. none;
       places = c.gather.ensures.writer.0.1 ∙ met.writer.0.1 ∙ w.places;
       limit = w.limit;
-      within = omega (arith, c.len-count.ensures, count, ap length c.gather.ensures.writer.1, within w p c.meet.new.writer c.meet.new.reader met.writer.1 met.reader.1 met.fifo c.settle-reader.new.back b.begins (b.told (length (received_of p.inbox)) p.owes));
+      within = omega (arith, none, c.len-count.ensures, count, ap length c.gather.ensures.writer.1, within w p c.meet.new.writer c.meet.new.reader met.writer.1 met.reader.1 met.fifo c.settle-reader.new.back b.begins (b.told (length (received_of p.inbox)) p.owes));
     }
 
 pub invariant_of-reader-2 : goal.invariant_of-reader-2
@@ -52,30 +59,32 @@ invariant_of-reader-2 c =
     record {
       reserved = omega (arith, p.reserved, come.capacity);
       arrived = came;
-      all = came ∙ gathered c.args.writer.now p c.meet.new.writer c.meet.new.reader met.writer.1 met.reader.1 met.fifo i come ∙ sym c.gather.ensures.reader.1;
+      all = came ∙ gathered c.put_out.new.self p c.meet.new.writer c.meet.new.reader met.writer.1 met.reader.1 met.fifo i come ∙ sym c.gather.ensures.reader.1;
       owes = subst (λ n. Owes n c.settle-reader.result c.settle-reader.new.teller) (sym (ap length come.received)) (c.settle-reader.ensures.owes (length (received_of p.inbox)) p.owes);
     }
 
 pub returns-clause-room : goal.returns-clause-room
 returns-clause-room c =
-    let w = c.args.writer.now in
+    let w = c.put_out.new.self in
     let p = c.args.reader.now in
     let met = c.meet.ensures in
     let b = c.settle-reader.ensures in
     let count = come_length (certain_held c.meet.new.reader) p.inbox c.gather.new.inbox c.gather.ensures.come in
-    (omega (arith, c.len-count.ensures, count, bound w p c.meet.new.writer c.meet.new.reader met.writer.1 met.reader.1 met.fifo c.settle-reader.new.back b.begins (b.told (length (received_of p.inbox)) p.owes)), omega (arith, met.looked.0, c.gather.ensures.room.0))
+    omega (arith, c.put_out.ensures.room.0, c.put_out.ensures.room.1, c.len-count.ensures, count, bound w p c.meet.new.writer c.meet.new.reader met.writer.1 met.reader.1 met.fifo c.settle-reader.new.back b.begins (b.told (length (received_of p.inbox)) p.owes))
 
 pub returns-clause-edge : goal.returns-clause-edge
 returns-clause-edge c =
     let met = c.meet.ensures in
     let now = c.gather.ensures in
-    ((now.writer.0.0 ∙ met.writer.0.0, now.writer.0.1 ∙ met.writer.0.1), now.reader.0 ∙ met.reader.0)
+    ((now.writer.0.0 ∙ met.writer.0.0 ∙ c.put_out.ensures.edge.0, now.writer.0.1 ∙ met.writer.0.1 ∙ c.put_out.ensures.edge.1), now.reader.0 ∙ met.reader.0)
 
 pub returns-clause-places : goal.returns-clause-places
 returns-clause-places c = c.gather.ensures.come.capacity
 
 pub returns-clause-sent : goal.returns-clause-sent
-returns-clause-sent c = c.gather.ensures.writer.1 ∙ c.meet.ensures.writer.1
+returns-clause-sent c =
+    let on_edge = sent c.gather.new.writer in
+    ap (λ l. on_edge ++ l) c.put_out.ensures.out ∙ append-nil on_edge ∙ c.gather.ensures.writer.1 ∙ c.meet.ensures.writer.1 ∙ c.put_out.ensures.put
 
 pub returns-clause-received : goal.returns-clause-received
 returns-clause-received c = c.gather.ensures.come.received
@@ -94,25 +103,20 @@ returns-clause-fifo c =
     let now = c.gather.ensures in
     let i = c.gather.new.inbox in
     ap (λ l. received_of i ++ (content_of i.store ++ l)) now.none ∙ ap (λ l. received_of i ++ l) (append-nil (content_of i.store)) ∙ i.fifo
-    ∙ gathered c.args.writer.now p c.meet.new.writer c.meet.new.reader met.writer.1 met.reader.1 met.fifo i now.come ∙ sym now.writer.1
+    ∙ gathered c.put_out.new.self p c.meet.new.writer c.meet.new.reader met.writer.1 met.reader.1 met.fifo i now.come ∙ sym now.writer.1
+    ∙ sym (append-nil (sent c.gather.new.writer)) ∙ ap (λ l. sent c.gather.new.writer ++ l) (sym c.put_out.ensures.out)
 
 pub returns-clause-count : goal.returns-clause-count
 returns-clause-count c =
     let i = c.gather.new.inbox in
     omega (arith, c.len-count.ensures, length-append (content_of i.store) (certain_held c.gather.new.reader), ap length c.gather.ensures.none)
 
-pub returns-clause-free : goal.returns-clause-free
-returns-clause-free c =
-    let w = c.args.writer.now in
-    let p = c.args.reader.now in
-    let met = c.meet.ensures in
-    let b = c.settle-reader.ensures in
-    let count = come_length (certain_held c.meet.new.reader) p.inbox c.gather.new.inbox c.gather.ensures.come in
-    (refl, omega (arith, w.places, met.writer.0.1, c.gather.ensures.writer.0.1, c.gather.ensures.room.1))
+pub returns-clause-out : goal.returns-clause-out
+returns-clause-out c = c.put_out.ensures.out
 
 pub returns-clause-whole : goal.returns-clause-whole
 returns-clause-whole c =
-    let w = c.args.writer.now in
+    let w = c.put_out.new.self in
     let p = c.args.reader.now in
     let met = c.meet.ensures in
     let b = c.settle-reader.ensures in

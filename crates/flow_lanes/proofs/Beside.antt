@@ -26,13 +26,16 @@ gathered_orderly (Flags v) = block-orderly (λ b. BoolItem b) v.items
 gathered_orderly (Ints v) = block-orderly (λ n. IntItem n) v.items
 
 -- a list of length 0
-pub none_of : {X : Type 0} (xs : List X) → length xs ≤ 0 → xs ≡ []
+pub none_of : {X : Type 0} (xs : List X) → length xs ≡ 0 → xs ≡ []
 none_of [] h = refl
 none_of (x ∷ xs) h = absurd (omega (arith, h))
 
-module _ (before : List Msg) (m : Many) (none : ended (signals before) ≡ true → many_messages m ≡ []) where
+module _ (before : List Msg) (m : Many) (few : ended (signals before) ≡ true → length (many_messages m) ≡ 0) where
   abbrev all : List Msg
   all = before ++ many_messages m
+
+  none : ended (signals before) ≡ true → many_messages m ≡ []
+  none shut = none_of (many_messages m) (few shut)
 
   -- an end was put on the lane where one was put on its edge
   pub closed_seen : ended (signals all) ≡ ended (signals before)
