@@ -30,6 +30,11 @@ pub none_of : {X : Type 0} (xs : List X) → length xs ≡ 0 → xs ≡ []
 none_of [] h = refl
 none_of (x ∷ xs) h = absurd (omega (arith, h))
 
+-- an edge without an end has none once all that is gathered was put on it
+pub still_open : (before after : List Msg) (m : Many) → ended (signals before) ≡ false → after ≡ followed_unless_ended before (many_messages m) → ended (signals after) ≡ false
+still_open before after m free is =
+    ap (λ (ms : List Msg). ended (signals ms)) (is ∙ followed_free before (many_messages m) free) ∙ ended-more before (many_messages m) free ∙ gathered_open m
+
 module _ (before : List Msg) (m : Many) (few : ended (signals before) ≡ true → length (many_messages m) ≡ 0) where
   abbrev all : List Msg
   all = before ++ many_messages m

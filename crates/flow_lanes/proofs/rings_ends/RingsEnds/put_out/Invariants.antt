@@ -1,0 +1,11 @@
+use Rattle.std.proofs.Common.{◌≡◌, ◌<◌, ℕ}
+use Rattle.flow_lanes.specs.Rings.{ends_of, writer_at, OutOf, SameRings}
+use Rattle.flow_lanes.proofs.rings_ends.RingsEnds.put_out.Given as goal
+
+-- those before have put out
+abbrev pub invariant-loop-edge : goal.invariant-loop-edge
+invariant-loop-edge l = record {
+  same : SameRings l.fn.self l.self;
+  view : ends_of l.self ≡ ends_of l.fn.self;
+  out : (k : ℕ) → k < l.edge → OutOf (writer_at l.self k);
+}
