@@ -1,10 +1,7 @@
 -- What is gathered, and what lies on the edge before it.
-use Rattle.std.proofs.Common.{◌≡◌, ℕ, ◌+◌, ◌≤◌, true, false, List, [], ◌∷◌, ◌++◌, length, refl, sym, ap, ◌∙◌, arith, append_assoc, append-nil, length-append, inl, inr, ◌⊎◌}
+use Rattle.std.proofs.Common.{◌≡◌, true, false, List, [], ◌∷◌, ◌++◌, length, refl, sym, ap, ◌∙◌, arith, append_assoc, append-nil, inl, inr, ◌⊎◌}
 use Rattle.std.proofs.lemmas.Bool.{cases_Bool}
-use Rattle.std.proofs.lemmas.List.{length-map, length-replicate}
-use Rattle.std.specs.Prelude.{Result, Ok, Err, IsOk, OnOk, IfErr, IsErrAnd}
 use Rattle.flow_messages.specs.declared.message.Msg.{Msg}
-use Rattle.flow_messages.specs.declared.message.Msg.TheVariants.{Item as ItemMsg}
 use Rattle.flow_messages.specs.declared.message.Item.TheVariants.{Unit as UnitItem, Bool as BoolItem, Int as IntItem}
 use Rattle.flow_messages.specs.Signals.{signals, ended, orderly}
 use Rattle.flow_messages.proofs.Signals.{ended-more, orderly-more, units-ended, units-orderly, block-ended, block-orderly}
@@ -12,21 +9,21 @@ use Rattle.flow_words.specs.Edge.{followed_unless_ended}
 use Rattle.flow_lanes.specs.declared.gathered.Many.{Many}
 use Rattle.flow_lanes.specs.declared.gathered.Many.TheVariants.{Units, Flags, Ints}
 use Rattle.flow_lanes.specs.Many.{many_messages}
-use Rattle.flow_lanes.proofs.Followed.{followed_shut, followed_free}
+use Rattle.flow_lanes.proofs.Followed.{followed_free}
 
 -- no end is gathered
-pub gathered_open : (m : Many) → ended (signals (many_messages m)) ≡ false
+gathered_open : (m : Many) → ended (signals (many_messages m)) ≡ false
 gathered_open (Units n) = units-ended UnitItem n
 gathered_open (Flags v) = block-ended (λ b. BoolItem b) v.items
 gathered_open (Ints v) = block-ended (λ n. IntItem n) v.items
 
-pub gathered_orderly : (m : Many) → orderly (signals (many_messages m)) ≡ true
+gathered_orderly : (m : Many) → orderly (signals (many_messages m)) ≡ true
 gathered_orderly (Units n) = units-orderly UnitItem n
 gathered_orderly (Flags v) = block-orderly (λ b. BoolItem b) v.items
 gathered_orderly (Ints v) = block-orderly (λ n. IntItem n) v.items
 
 -- a list of length 0
-pub none_of : {X : Type 0} (xs : List X) → length xs ≡ 0 → xs ≡ []
+none_of : {X : Type 0} (xs : List X) → length xs ≡ 0 → xs ≡ []
 none_of [] h = refl
 none_of (x ∷ xs) h = absurd (omega (arith, h))
 
@@ -56,17 +53,6 @@ module _ (before : List Msg) (m : Many) (few : ended (signals before) ≡ true �
     by_end (inl shut) = ap (λ (ms : List Msg). orderly (signals (before ++ ms))) (none shut) ∙ ap (λ (ms : List Msg). orderly (signals ms)) (append-nil before) ∙ is
     by_end (inr free) = orderly-more before (many_messages m) free ∙ gathered_orderly m
 
-  -- what is put on the edge is all that is gathered
-  pub all_put : followed_unless_ended before (many_messages m) ≡ all
-  all_put = by_end (cases_Bool (ended (signals before))) where
-    by_end : (ended (signals before) ≡ true) ⊎ (ended (signals before) ≡ false) → followed_unless_ended before (many_messages m) ≡ all
-    by_end (inl shut) = followed_shut before (many_messages m) shut ∙ sym (append-nil before) ∙ ap (λ (ms : List Msg). before ++ ms) (sym (none shut))
-    by_end (inr free) = followed_free before (many_messages m) free
-
-  -- what is put after an end is dropped
-  pub dropped : (ms : List Msg) → ended (signals before) ≡ true → all ≡ followed_unless_ended all ms
-  dropped ms shut = sym (followed_shut all ms (closed_seen ∙ shut))
-
   -- what is put where no end was follows all that was put
   pub follows : (ms now : List Msg) → ended (signals before) ≡ false → now ≡ all ++ ms → now ≡ followed_unless_ended all ms
   follows ms now free is = is ∙ sym (followed_free all ms (closed_seen ∙ free))
@@ -76,19 +62,3 @@ module _ (was before gathered ms : List Msg) (kept : before ++ gathered ≡ was)
   -- these are gathered too
   pub gathered_more : (more : List Msg) → more ≡ gathered ++ ms → before ++ more ≡ was ++ ms
   gathered_more more is = ap (λ (l : List Msg). before ++ l) is ∙ sym (append_assoc before gathered ms) ∙ ap (λ (l : List Msg). l ++ ms) kept
-
-  -- these are put on the edge at once
-  pub put_at_once : (after : List Msg) → gathered ≡ [] → ended (signals before) ≡ false → after ≡ followed_unless_ended before ms → after ++ gathered ≡ was ++ ms
-  put_at_once after none free is =
-      ap (λ (l : List Msg). after ++ l) none ∙ append-nil after ∙ is ∙ followed_free before ms free
-      ∙ ap (λ (l : List Msg). l ++ ms) (sym (append-nil before) ∙ ap (λ (l : List Msg). before ++ l) (sym none) ∙ kept)
-
--- a put that succeeds is neither refused as closed nor as full
-module _ {X E : Type 0} (P : E → Type 0) where
-  pub not_refused : (r : Result X E) → IsOk r → IfErr r P
-  not_refused (Ok x) is = tt
-  not_refused (Err e) is = cc
-
-  pub no_error : (r : Result X E) → IsOk r → IsErrAnd r P → ⊥
-  no_error (Ok x) is err = err
-  no_error (Err e) is err = cc

@@ -227,6 +227,8 @@ impl CountedWriter {
     pub(crate) fn sent_count(&self) -> u64
         ensures { result ≡ u64_saturate (length (put_by self.now)) }
     {
-        self.edge.sent_count().saturating_add(self.gathered.len() as u64)
+        self.edge
+            .sent_count()
+            .saturating_add(self.gathered.len() as u64)
     }
 }

@@ -1,5 +1,4 @@
-use Rattle.std.proofs.Common.{◌≡◌, ◌<◌, ◌+◌, true, false, [], ◌∷◌, ◌++◌, length, sym, ap, ◌∙◌, arith, length-append}
-use Rattle.std.specs.Prelude.{IsOk}
+use Rattle.std.proofs.Common.{◌≡◌, ◌<◌, ◌+◌, true, false, [], ◌∷◌, length, sym, ap, ◌∙◌, arith, length-append}
 use Rattle.flow_messages.specs.Signals.{signals, ended}
 use Rattle.flow_words.specs.Edge.{sent, certain_room}
 use Rattle.flow_lanes.specs.Many.{many_messages}
