@@ -210,6 +210,9 @@ impl Gathered {
         if self.has_places(count) {
             return true;
         }
+        if self.len() == 0 {
+            return false;
+        }
         self.put_on(edge);
         self.has_places(count)
     }
