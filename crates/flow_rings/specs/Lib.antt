@@ -1,2 +1,4 @@
+pub mod Blocks
+pub mod Ports
 pub mod Ring
 pub mod Edge

@@ -1,5 +1,6 @@
 -- The ring after an end of an edge: of messages, or of scalars of one kind.
-use Rattle.std.specs.Prelude.{◌≡◌, ℕ, List, Option, Some, None}
+use Rattle.std.specs.Prelude.{◌≡◌, ◌+◌, ◌<◌, ◌≤◌, ℕ, List, [], ◌∷◌, ◌++◌, length, Option, Some, None}
+use mathlib.Core.List.{IsPrefix}
 use Rattle.std.specs.declared.alloc.Global.{Global}
 use Rattle.rtrb.specs.Ring as ring
 use Rattle.rtrb.specs.Shared.{Names}
@@ -8,6 +9,7 @@ use denote.RawPtr.{Ptr}
 use Rattle.flow_messages.specs.declared.message.Kind.{Kind}
 use Rattle.flow_messages.specs.declared.message.Kind.TheVariants.{Unit as UnitKind, Bool as BoolKind, Int as IntKind}
 use Rattle.flow_messages.specs.declared.message.Msg.{Msg}
+use Rattle.flow_messages.specs.declared.flat.Flat.{Flat}
 use Rattle.flow_messages.specs.Flats.{messages_of}
 use Rattle.flow_rings.specs.declared.ring.WriterRing.{WriterRing}
 use Rattle.flow_rings.specs.declared.ring.WriterRing.TheVariants.{Messages as MessagesTo, Units as UnitsTo, Flags as FlagsTo, Ints as IntsTo}
@@ -120,3 +122,51 @@ Finishes w f = (mark_which f ≡ writer_which w) × (all_sent f ≡ sent w)
 -- it is left of the writer of this reader's ring
 abbrev pub IsFinishedOf : MarkRing → ReaderRing → Type 0
 IsFinishedOf f r = reader_which r ≡ mark_which f
+
+-- nothing was put, and all its places are free
+abbrev pub IsEmptyWriter : WriterRing → ℕ → Type 0
+IsEmptyWriter w capacity = (sent w ≡ []) × (known_free w ≡ capacity) × (producer_capacity w ≡ capacity)
+
+-- nothing was put, and no place that was known to be free is lost
+abbrev pub SeesRoom : WriterRing → WriterRing → Type 0
+SeesRoom a b = (sent b ≡ sent a) × (known_free a ≤ known_free b)
+
+-- nothing was taken, and what was known is still known
+abbrev pub SeesItems : ReaderRing → ReaderRing → Type 0
+SeesItems a b = (received b ≡ received a) × IsPrefix (known_items a) (known_items b)
+
+-- these were put after all others, in order
+abbrev pub Pushes : WriterRing → List Flat → WriterRing → Type 0
+Pushes a flats b = (sent b ≡ sent a ++ messages_of flats) × (known_free a ≤ known_free b + length flats)
+
+-- m was put after all others
+abbrev pub PushesOne : WriterRing → Msg → WriterRing → Type 0
+PushesOne a m b = (sent b ≡ sent a ++ m ∷ []) × (known_free a ≤ known_free b + 1)
+
+-- nothing was put, and no place is free
+abbrev pub SeesNoRoom : WriterRing → WriterRing → Type 0
+SeesNoRoom a b = (sent b ≡ sent a) × (known_free b ≡ 0)
+
+-- nothing was put, and fewer places are free than these need
+abbrev pub SeesTooLittle : WriterRing → List Flat → WriterRing → Type 0
+SeesTooLittle a flats b = (sent b ≡ sent a) × (known_free a ≤ known_free b) × (known_free b < length flats)
+
+-- m was taken: the first of what was known, where anything was
+abbrev pub PopsOne : ReaderRing → Msg → ReaderRing → Type 0
+PopsOne a m b = (received b ≡ received a ++ m ∷ []) × IsPrefix (known_items a) (m ∷ known_items b)
+
+-- nothing was taken, and nothing is known to be there
+abbrev pub PopsNone : ReaderRing → ReaderRing → Type 0
+PopsNone a b = (received b ≡ received a) × (known_items b ≡ [])
+
+-- what was known comes first of these and of what is known after them
+abbrev pub KeepsItems : ReaderRing → List Msg → ReaderRing → Type 0
+KeepsItems a ms b = IsPrefix (known_items a) (ms ++ known_items b)
+
+-- a message is known to be there
+abbrev pub HoldsAny : ReaderRing → Type 0
+HoldsAny r = 0 < length (known_items r)
+
+-- all that was put and not taken leaves this many places of the ring
+abbrev pub IsAllFree : ℕ → WriterRing → ReaderRing → Type 0
+IsAllFree n w r = n + length (sent w) ≡ producer_capacity w + length (received r)

@@ -4,7 +4,7 @@ ghost use mathlib.Core.List.{IsPrefix};
 ghost use Rattle.flow_messages.specs.Limits.{greatest_capacity};
 ghost use Rattle.flow_messages.specs.declared.message.Kind.TheVariants.{Vec as VecKind};
 ghost use Rattle.flow_rings.specs.Ring as ring;
-ghost use Rattle.flow_rings.specs.Edge.{sent, received, certain_room, certain_held, edge_capacity, kind_of, reader_kind, IsEdge, SameWriter, SameReader};
+ghost use Rattle.flow_rings.specs.Edge.{sent, received, certain_room, certain_held, edge_capacity, kind_of, reader_kind, IsEdge, IsNewWriter, HasAll, SameWriter, SameReader, StaysCertain};
 
 use crate::ring::{
     Closing, ClosingFlags, ClosingInts, ClosingUnits, EdgeReader, EdgeWriter, Held, ReaderRing,
@@ -40,8 +40,7 @@ pub fn edge(alloc: Global, capacity: usize) -> Result<(EdgeWriter, EdgeReader), 
     requires some { 0 < capacity }
     requires limit { capacity ≤ greatest_capacity }
     ensures pair { IfOk result (λ r. IsEdge r.0 r.1) }
-    ensures writer { IfOk result (λ r. (sent r.0 ≡ []) × (certain_room r.0 ≡ capacity) ×
-        (edge_capacity r.0 ≡ capacity)) }
+    ensures writer { IfOk result (λ r. IsNewWriter r.0 capacity) }
     ensures reader { IfOk result (λ r. (received r.1 ≡ []) × (certain_held r.1 ≡ [])) }
     ensures any { IfOk result (λ r. (kind_of r.0 ≡ None) × (reader_kind r.1 ≡ None)) }
 {
@@ -60,8 +59,7 @@ fn scalar_ring(
 ) -> Result<(WriterRing, ReaderRing), AllocError>
     requires { kind ≢ VecKind }
     ensures pair { IfOk result (λ r. ring.IsPair r.0 r.1) }
-    ensures writer { IfOk result (λ r. (ring.sent r.0 ≡ []) × (ring.known_free r.0 ≡ capacity) ×
-        (ring.producer_capacity r.0 ≡ capacity)) }
+    ensures writer { IfOk result (λ r. ring.IsEmptyWriter r.0 capacity) }
     ensures reader { IfOk result (λ r. (ring.received r.1 ≡ []) × (ring.known_items r.1 ≡ [])) }
     ensures kind { IfOk result (λ r. ring.writer_kind r.0 ≡ Some kind) }
 {
@@ -93,8 +91,7 @@ pub fn scalar_edge(
     requires some { 0 < capacity }
     requires limit { capacity ≤ greatest_capacity }
     ensures pair { IfOk result (λ r. IsEdge r.0 r.1) }
-    ensures writer { IfOk result (λ r. (sent r.0 ≡ []) × (certain_room r.0 ≡ capacity) ×
-        (edge_capacity r.0 ≡ capacity)) }
+    ensures writer { IfOk result (λ r. IsNewWriter r.0 capacity) }
     ensures reader { IfOk result (λ r. (received r.1 ≡ []) × (certain_held r.1 ≡ [])) }
     ensures kind { IfOk result (λ r. (kind_of r.0 ≡ Some kind) × (reader_kind r.1 ≡ Some kind)) }
 {
@@ -109,10 +106,9 @@ pub fn meet(writer: &mut EdgeWriter, reader: &mut EdgeReader) -> Held
     ensures writer { SameWriter writer.old writer.new × (sent writer.new ≡ sent writer.old) }
     ensures reader { SameReader reader.old reader.new ×
         (received reader.new ≡ received reader.old) }
-    ensures looked { (certain_room writer.old ≤ certain_room writer.new) ×
-        IsPrefix (certain_held reader.old) (certain_held reader.new) }
+    ensures looked { StaysCertain writer.old reader.old writer.new reader.new }
     ensures pair { IsEdge writer.new reader.new }
-    ensures fifo { received reader.new ++ certain_held reader.new ≡ sent writer.new }
+    ensures fifo { HasAll reader.new (sent writer.new) }
     ensures count { result.count ≡ length (certain_held reader.new) }
     ensures room { result.room ≤ certain_room writer.new }
     ensures whole { result.count + result.room ≡ edge_capacity writer.new }

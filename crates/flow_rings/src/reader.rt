@@ -5,9 +5,10 @@ ghost use Rattle.std.specs.Io.Iter.{u64_saturate};
 ghost use Rattle.arrayvec.specs.ArrayVec.{array_vec_len};
 ghost use mathlib.Core.List.{IsPrefix};
 ghost use Rattle.flow_messages.specs.Signals.{signals, signal_of, ended, orderly};
-ghost use Rattle.flow_messages.specs.Flats.{message_of, messages_of, flats_appended, scalar_first};
+ghost use Rattle.flow_messages.specs.Flats.{messages_of, flats_appended, scalar_first};
 ghost use Rattle.flow_messages.specs.Kinds.{FitsEdge};
-ghost use Rattle.flow_rings.specs.Edge.{received, certain_held, reader_kind, SameReader, all_sent, IsMarkOf};
+ghost use Rattle.flow_rings.specs.Edge.{received, certain_held, reader_kind, SameReader, all_sent, IsMarkOf, IsReady, HasAll, KeepsCertain, ReaderLooked, TakesNone, TakesOne};
+ghost use Rattle.flow_rings.specs.Blocks.{FlatFits, messages_appended};
 
 use crate::ring::{EdgeReader, FinishedMark};
 use flow_messages::{Block, Flat, Msg};
@@ -18,13 +19,11 @@ impl EdgeReader {
     #[inline(always)]
     pub fn take(&mut self) -> Option<Msg>
         ensures same { SameReader self.old self.new }
-        ensures some { IfSome result (λ m. (received self.new ≡ received self.old ++ m ∷ []) ×
-            IsPrefix (certain_held self.old) (m ∷ certain_held self.new)) }
-        ensures none { IfNone result ((received self.new ≡ received self.old) ×
-            (certain_held self.old ≡ []) × (certain_held self.new ≡ [])) }
+        ensures some { IfSome result (λ m. TakesOne self.old m self.new) }
+        ensures none { IfNone result (TakesNone self.old self.new) }
         ensures open { IfSome result (λ _. ended (signals (received self.old)) ≡ false) }
         ensures fits { IfSome result (λ m. FitsEdge (reader_kind self.old) (signal_of m)) }
-        ensures succeeds { 0 < length (certain_held self.old) → IsSome result }
+        ensures succeeds { IsReady self.old → IsSome result }
     {
         let message = self.ring.pop().ok()?;
         self.taken = self.taken.saturating_add(1);
@@ -43,9 +42,8 @@ impl EdgeReader {
     #[inline(always)]
     pub fn ready(&mut self) -> bool
         ensures same { SameReader self.old self.new }
-        ensures looked { (received self.new ≡ received self.old) ×
-            IsPrefix (certain_held self.old) (certain_held self.new) }
-        ensures value { IsTrue result ↔ (0 < length (certain_held self.new)) }
+        ensures looked { ReaderLooked self.old self.new }
+        ensures value { IsTrue result ↔ IsReady self.new }
     {
         !self.ring.is_empty()
     }
@@ -58,18 +56,14 @@ impl EdgeReader {
         requires scalar { IsSome (reader_kind self.old) }
         ensures same { SameReader self.old self.new }
         ensures before { block.new.items ≡ block.old.items ++ flats_appended block.old block.new }
-        ensures taken { received self.new ≡
-            received self.old ++ messages_of (flats_appended block.old block.new) }
-        ensures certain { IsPrefix (certain_held self.old)
-            (messages_of (flats_appended block.old block.new) ++ certain_held self.new) }
-        ensures fit { All (λ x. FitsEdge (reader_kind self.old) (signal_of (message_of x)))
-            (flats_appended block.old block.new) }
-        ensures last { orderly (signals (messages_of (flats_appended block.old block.new))) ≡ true }
+        ensures taken { received self.new ≡ received self.old ++ messages_appended block.old block.new }
+        ensures certain { KeepsCertain self.old (messages_appended block.old block.new) self.new }
+        ensures fit { All (FlatFits (reader_kind self.old)) (flats_appended block.old block.new) }
+        ensures last { orderly (signals (messages_appended block.old block.new)) ≡ true }
         ensures open { 0 < result → ended (signals (received self.old)) ≡ false }
         ensures count { result ≡ length (flats_appended block.old block.new) }
         ensures most { result ≤ most }
-        ensures succeeds { 0 < length (certain_held self.old) → 0 < most →
-            array_vec_len block.old < 64 → 0 < result }
+        ensures succeeds { IsReady self.old → 0 < most → array_vec_len block.old < 64 → 0 < result }
     {
         let count = self.ring.pop_block(block, most);
         self.taken = self.taken.saturating_add(count as u64);
@@ -82,17 +76,13 @@ impl EdgeReader {
     pub fn take_slice(&mut self, flats: &mut [Flat], most: usize) -> usize
         requires scalar { IsSome (reader_kind self.old) }
         ensures same { SameReader self.old self.new }
-        ensures taken { received self.new ≡
-            received self.old ++ messages_of (take result flats.new) }
-        ensures certain { IsPrefix (certain_held self.old)
-            (messages_of (take result flats.new) ++ certain_held self.new) }
-        ensures fit { All (λ x. FitsEdge (reader_kind self.old) (signal_of (message_of x)))
-            (take result flats.new) }
+        ensures taken { received self.new ≡ received self.old ++ messages_of (take result flats.new) }
+        ensures certain { KeepsCertain self.old (messages_of (take result flats.new)) self.new }
+        ensures fit { All (FlatFits (reader_kind self.old)) (take result flats.new) }
         ensures last { orderly (signals (messages_of (take result flats.new))) ≡ true }
         ensures open { 0 < result → ended (signals (received self.old)) ≡ false }
         ensures count { (result ≤ most) × (result ≤ length flats.new) }
-        ensures succeeds { 0 < length (certain_held self.old) → 0 < most →
-            0 < length flats.old → 0 < result }
+        ensures succeeds { IsReady self.old → 0 < most → 0 < length flats.old → 0 < result }
     {
         let count = self.ring.pop_slice(flats, most);
         self.taken = self.taken.saturating_add(count as u64);
@@ -103,8 +93,7 @@ impl EdgeReader {
     #[inline(always)]
     pub fn scalar_is_next(&mut self) -> bool
         ensures same { SameReader self.old self.new }
-        ensures looked { (received self.new ≡ received self.old) ×
-            IsPrefix (certain_held self.old) (certain_held self.new) }
+        ensures looked { ReaderLooked self.old self.new }
         ensures value { result ≡ scalar_first (signals (certain_held self.new)) }
     {
         self.ring.scalar_is_next()
@@ -125,10 +114,9 @@ impl EdgeReader {
         requires { IsMarkOf mark.old self.old }
         ensures same { SameReader self.old self.new }
         ensures mark { IsMarkOf mark.new self.new × (all_sent mark.new ≡ all_sent mark.old) }
-        ensures looked { (received self.new ≡ received self.old) ×
-            IsPrefix (certain_held self.old) (certain_held self.new) }
+        ensures looked { ReaderLooked self.old self.new }
         ensures value { result ≡ length (certain_held self.new) }
-        ensures all { received self.new ++ certain_held self.new ≡ all_sent mark.old }
+        ensures all { HasAll self.new (all_sent mark.old) }
     {
         self.ring.slots_after(&mut mark.mark)
     }

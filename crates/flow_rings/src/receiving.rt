@@ -6,9 +6,11 @@ ghost use Rattle.arrayvec.specs.ArrayVec.{array_vec_len};
 ghost use Rattle.rtrb.specs.Ring as port;
 ghost use Rattle.rtrb.specs.Fifo.{Allowed};
 ghost use Rattle.flow_messages.specs.Signals.{signals, signal_of, ended, orderly};
-ghost use Rattle.flow_messages.specs.Flats.{message_of, messages_of, flats_appended, scalar_first};
+ghost use Rattle.flow_messages.specs.Flats.{messages_of, flats_appended, scalar_first};
 ghost use Rattle.flow_messages.specs.Kinds.{FitsEdge};
-ghost use Rattle.flow_rings.specs.Ring.{sent, received, known_free, known_items, all_sent, reader_kind, SameProducer, SameConsumer, IsPair, IsFinishedOf};
+ghost use Rattle.flow_rings.specs.Ring.{sent, received, known_items, all_sent, reader_kind, SameProducer, SameConsumer, IsPair, IsFinishedOf, HoldsAny, KeepsItems, PopsNone, PopsOne, SeesItems, SeesRoom};
+ghost use Rattle.flow_rings.specs.Ports.{FindsNone, KeepsKnown, KnowsAny, TakesFlat, TakesFlats};
+ghost use Rattle.flow_rings.specs.Blocks.{FlatFits, messages_appended};
 ghost use Rattle.flow_messages.specs.declared.flat.Flat.{Flat as Scalar};
 
 use crate::ring::{MarkRing, ReaderRing, WriterRing};
@@ -23,13 +25,9 @@ const BLANKS: [Flat; 64] = [Flat::End; 64];
 #[inline(always)]
 fn pop_flat<P: Protocol<Flat>>(ring: &mut Consumer<Flat, Global, P>) -> Result<Msg, PopError>
     ensures ring { port.SameConsumer ring.old ring.new }
-    ensures ok { IfOk result (λ m. (x : Scalar) × (message_of x ≡ m) ×
-        (port.received ring.new ≡ port.received ring.old ++ x ∷ []) ×
-        IsPrefix (port.known_items ring.old) (x ∷ port.known_items ring.new) ×
-        P.allows (port.received ring.old) x) }
-    ensures empty { OnErr result ((port.received ring.new ≡ port.received ring.old) ×
-        (port.known_items ring.new ≡ [])) }
-    ensures succeeds { 0 < length (port.known_items ring.old) → IsOk result }
+    ensures ok { IfOk result (λ m. (x : Scalar) × TakesFlat P.allows ring.old x m ring.new) }
+    ensures empty { OnErr result (FindsNone ring.old ring.new) }
+    ensures succeeds { KnowsAny ring.old → IsOk result }
 {
     Ok(ring.pop()?.message())
 }
@@ -43,16 +41,12 @@ fn pop_into<P: Protocol<Flat>>(
 ) -> usize
     ensures ring { port.SameConsumer ring.old ring.new }
     ensures before { block.new.items ≡ block.old.items ++ flats_appended block.old block.new }
-    ensures taken { port.received ring.new ≡
-        port.received ring.old ++ flats_appended block.old block.new }
-    ensures known { IsPrefix (port.known_items ring.old)
-        (flats_appended block.old block.new ++ port.known_items ring.new) }
-    ensures allowed { Allowed P.allows (port.received ring.old)
-        (flats_appended block.old block.new) }
+    ensures taken { TakesFlats ring.old (flats_appended block.old block.new) ring.new }
+    ensures known { KeepsKnown ring.old (flats_appended block.old block.new) ring.new }
+    ensures allowed { Allowed P.allows (port.received ring.old) (flats_appended block.old block.new) }
     ensures count { result ≡ length (flats_appended block.old block.new) }
     ensures most { result ≤ most }
-    ensures succeeds { 0 < length (port.known_items ring.old) → 0 < most →
-        array_vec_len block.old < 64 → 0 < result }
+    ensures succeeds { KnowsAny ring.old → 0 < most → array_vec_len block.old < 64 → 0 < result }
 {
     let first = block.len();
     let count = most.min(block.remaining_capacity()).min(ring.slots());
@@ -74,14 +68,11 @@ fn pop_over<P: Protocol<Flat>>(
     most: usize,
 ) -> usize
     ensures ring { port.SameConsumer ring.old ring.new }
-    ensures taken { port.received ring.new ≡
-        port.received ring.old ++ take result flats.new }
-    ensures known { IsPrefix (port.known_items ring.old)
-        (take result flats.new ++ port.known_items ring.new) }
+    ensures taken { TakesFlats ring.old (take result flats.new) ring.new }
+    ensures known { KeepsKnown ring.old (take result flats.new) ring.new }
     ensures allowed { Allowed P.allows (port.received ring.old) (take result flats.new) }
     ensures count { (result ≤ most) × (result ≤ length flats.new) }
-    ensures succeeds { 0 < length (port.known_items ring.old) → 0 < most →
-        0 < length flats.old → 0 < result }
+    ensures succeeds { KnowsAny ring.old → 0 < most → 0 < length flats.old → 0 < result }
 {
     let (first, _) = flats.split_at_mut(most.min(flats.len()));
     ring.pop_partial_slice(first)
@@ -90,9 +81,7 @@ fn pop_over<P: Protocol<Flat>>(
 // Whether a message is there, and the oldest is no vector.
 #[inline(always)]
 fn scalar_shows<P: Protocol<Msg>>(ring: &mut Consumer<Msg, Global, P>) -> bool
-    ensures ring { port.SameConsumer ring.old ring.new }
-    ensures looked { (port.received ring.new ≡ port.received ring.old) ×
-        IsPrefix (port.known_items ring.old) (port.known_items ring.new) }
+    ensures looked { port.ConsumerLooked ring.old ring.new }
     ensures value { result ≡ scalar_first (signals (port.known_items ring.new)) }
 {
     if ring.slots() == 0 {
@@ -104,9 +93,7 @@ fn scalar_shows<P: Protocol<Msg>>(ring: &mut Consumer<Msg, Global, P>) -> bool
 // Whether a scalar message is there.
 #[inline(always)]
 fn flat_shows<P: Protocol<Flat>>(ring: &mut Consumer<Flat, Global, P>) -> bool
-    ensures ring { port.SameConsumer ring.old ring.new }
-    ensures looked { (port.received ring.new ≡ port.received ring.old) ×
-        IsPrefix (port.known_items ring.old) (port.known_items ring.new) }
+    ensures looked { port.ConsumerLooked ring.old ring.new }
     ensures value { result ≡ scalar_first (signals (messages_of (port.known_items ring.new))) }
 {
     let count = ring.slots();
@@ -121,13 +108,11 @@ impl ReaderRing {
     #[inline(always)]
     pub(crate) fn pop(&mut self) -> Result<Msg, PopError>
         ensures ring { SameConsumer self.old self.new }
-        ensures ok { IfOk result (λ m. (received self.new ≡ received self.old ++ m ∷ []) ×
-            IsPrefix (known_items self.old) (m ∷ known_items self.new)) }
+        ensures ok { IfOk result (λ m. PopsOne self.old m self.new) }
         ensures open { IfOk result (λ _. ended (signals (received self.old)) ≡ false) }
         ensures fits { IfOk result (λ m. FitsEdge (reader_kind self.old) (signal_of m)) }
-        ensures empty { OnErr result ((received self.new ≡ received self.old) ×
-            (known_items self.new ≡ [])) }
-        ensures succeeds { 0 < length (known_items self.old) → IsOk result }
+        ensures empty { OnErr result (PopsNone self.old self.new) }
+        ensures succeeds { HoldsAny self.old → IsOk result }
     {
         match self {
             ReaderRing::Messages(ring) => ring.pop(),
@@ -143,18 +128,14 @@ impl ReaderRing {
         requires scalar { IsSome (reader_kind self.old) }
         ensures ring { SameConsumer self.old self.new }
         ensures before { block.new.items ≡ block.old.items ++ flats_appended block.old block.new }
-        ensures taken { received self.new ≡
-            received self.old ++ messages_of (flats_appended block.old block.new) }
-        ensures known { IsPrefix (known_items self.old)
-            (messages_of (flats_appended block.old block.new) ++ known_items self.new) }
-        ensures fit { All (λ x. FitsEdge (reader_kind self.old) (signal_of (message_of x)))
-            (flats_appended block.old block.new) }
-        ensures last { orderly (signals (messages_of (flats_appended block.old block.new))) ≡ true }
+        ensures taken { received self.new ≡ received self.old ++ messages_appended block.old block.new }
+        ensures known { KeepsItems self.old (messages_appended block.old block.new) self.new }
+        ensures fit { All (FlatFits (reader_kind self.old)) (flats_appended block.old block.new) }
+        ensures last { orderly (signals (messages_appended block.old block.new)) ≡ true }
         ensures open { 0 < result → ended (signals (received self.old)) ≡ false }
         ensures count { result ≡ length (flats_appended block.old block.new) }
         ensures most { result ≤ most }
-        ensures succeeds { 0 < length (known_items self.old) → 0 < most →
-            array_vec_len block.old < 64 → 0 < result }
+        ensures succeeds { HoldsAny self.old → 0 < most → array_vec_len block.old < 64 → 0 < result }
     {
         match self {
             ReaderRing::Messages(_) => unreachable!(),
@@ -169,17 +150,13 @@ impl ReaderRing {
     pub(crate) fn pop_slice(&mut self, flats: &mut [Flat], most: usize) -> usize
         requires scalar { IsSome (reader_kind self.old) }
         ensures ring { SameConsumer self.old self.new }
-        ensures taken { received self.new ≡
-            received self.old ++ messages_of (take result flats.new) }
-        ensures known { IsPrefix (known_items self.old)
-            (messages_of (take result flats.new) ++ known_items self.new) }
-        ensures fit { All (λ x. FitsEdge (reader_kind self.old) (signal_of (message_of x)))
-            (take result flats.new) }
+        ensures taken { received self.new ≡ received self.old ++ messages_of (take result flats.new) }
+        ensures known { KeepsItems self.old (messages_of (take result flats.new)) self.new }
+        ensures fit { All (FlatFits (reader_kind self.old)) (take result flats.new) }
         ensures last { orderly (signals (messages_of (take result flats.new))) ≡ true }
         ensures open { 0 < result → ended (signals (received self.old)) ≡ false }
         ensures count { (result ≤ most) × (result ≤ length flats.new) }
-        ensures succeeds { 0 < length (known_items self.old) → 0 < most →
-            0 < length flats.old → 0 < result }
+        ensures succeeds { HoldsAny self.old → 0 < most → 0 < length flats.old → 0 < result }
     {
         match self {
             ReaderRing::Messages(_) => unreachable!(),
@@ -193,8 +170,7 @@ impl ReaderRing {
     #[inline(always)]
     pub(crate) fn is_empty(&mut self) -> bool
         ensures ring { SameConsumer self.old self.new }
-        ensures looked { (received self.new ≡ received self.old) ×
-            IsPrefix (known_items self.old) (known_items self.new) }
+        ensures looked { SeesItems self.old self.new }
         ensures value { IsTrue result ↔ (length (known_items self.new) ≡ 0) }
     {
         match self {
@@ -209,8 +185,7 @@ impl ReaderRing {
     #[inline(always)]
     pub(crate) fn scalar_is_next(&mut self) -> bool
         ensures ring { SameConsumer self.old self.new }
-        ensures looked { (received self.new ≡ received self.old) ×
-            IsPrefix (known_items self.old) (known_items self.new) }
+        ensures looked { SeesItems self.old self.new }
         ensures value { result ≡ scalar_first (signals (known_items self.new)) }
     {
         match self {
@@ -241,10 +216,8 @@ impl ReaderRing {
     pub(crate) fn slots_beside(&mut self, writer: &mut WriterRing) -> usize
         requires { IsPair writer.old self.old }
         ensures ring { SameConsumer self.old self.new }
-        ensures looked { (received self.new ≡ received self.old) ×
-            IsPrefix (known_items self.old) (known_items self.new) }
-        ensures writer { SameProducer writer.old writer.new × (sent writer.new ≡ sent writer.old) ×
-            (known_free writer.old ≤ known_free writer.new) }
+        ensures looked { SeesItems self.old self.new }
+        ensures writer { SameProducer writer.old writer.new × SeesRoom writer.old writer.new }
         ensures value { result ≡ length (known_items self.new) }
         ensures fifo { received self.new ++ known_items self.new ≡ sent writer.new }
     {
@@ -263,8 +236,7 @@ impl ReaderRing {
     pub(crate) fn slots_after(&mut self, mark: &mut MarkRing) -> usize
         requires { IsFinishedOf mark.old self.old }
         ensures ring { SameConsumer self.old self.new }
-        ensures looked { (received self.new ≡ received self.old) ×
-            IsPrefix (known_items self.old) (known_items self.new) }
+        ensures looked { SeesItems self.old self.new }
         ensures mark { IsFinishedOf mark.new self.new × (all_sent mark.new ≡ all_sent mark.old) }
         ensures value { result ≡ length (known_items self.new) }
         ensures fifo { received self.new ++ known_items self.new ≡ all_sent mark.old }

@@ -6,9 +6,10 @@ ghost use Rattle.rtrb.specs.declared.errors.PushError.TheVariants.{Full};
 ghost use Rattle.flow_messages.specs.Signals.{signals, signal_of, ended, orderly};
 ghost use Rattle.flow_messages.specs.Flats.{message_of, messages_of, is_scalar};
 ghost use Rattle.flow_messages.specs.Kinds.{FitsEdge};
-ghost use Rattle.flow_rings.specs.Ring.{sent, received, known_free, known_items, producer_capacity, writer_kind, SameProducer, SameConsumer, IsPair, Finishes};
+ghost use Rattle.flow_rings.specs.Ring.{sent, known_free, writer_kind, SameProducer, SameConsumer, IsPair, Finishes, IsAllFree, Pushes, PushesOne, SeesItems, SeesNoRoom, SeesRoom, SeesTooLittle};
+ghost use Rattle.flow_rings.specs.Ports.{FindsNoPlace, FindsTooFew, PutsFlat, PutsFlats};
+ghost use Rattle.flow_rings.specs.Blocks.{FlatFits};
 ghost use Rattle.flow_messages.specs.declared.flat.Flat.{Flat as Scalar};
-ghost use mathlib.Core.List.{IsPrefix};
 ghost use Rattle.std.specs.List.{All};
 
 use crate::ring::{MarkRing, ReaderRing, WriterRing};
@@ -25,11 +26,8 @@ fn push_flat<P: Protocol<Flat>>(
     requires scalar { is_scalar (signal_of message) ≡ true }
     requires allowed { (x : Scalar) → message_of x ≡ message → P.allows (port.sent ring.old) x }
     ensures ring { port.SameProducer ring.old ring.new }
-    ensures ok { OnOk result ((messages_of (port.sent ring.new) ≡
-        messages_of (port.sent ring.old) ++ message ∷ []) ×
-        (port.known_free ring.old ≤ port.known_free ring.new + 1)) }
-    ensures full { IfErr result (λ e. (e ≡ Full message) ×
-        (port.sent ring.new ≡ port.sent ring.old) × (port.known_free ring.new ≡ 0)) }
+    ensures ok { OnOk result (PutsFlat ring.old message ring.new) }
+    ensures full { IfErr result (λ e. (e ≡ Full message) × FindsNoPlace ring.old ring.new) }
     ensures succeeds { 0 < port.known_free ring.old → IsOk result }
 {
     let Some(flat) = Flat::of(&message) else {
@@ -46,12 +44,8 @@ fn push_flat<P: Protocol<Flat>>(
 fn push_all<P: Protocol<Flat>>(ring: &mut Producer<Flat, Global, P>, flats: &[Flat]) -> bool
     requires { EachAllowed P.allows (port.sent ring.old) flats.now }
     ensures ring { port.SameProducer ring.old ring.new }
-    ensures done { IsTrue result →
-        (port.sent ring.new ≡ port.sent ring.old ++ flats.now) ×
-        (port.known_free ring.old ≤ port.known_free ring.new + length flats.now) }
-    ensures full { result ≡ false → (port.sent ring.new ≡ port.sent ring.old) ×
-        (port.known_free ring.old ≤ port.known_free ring.new) ×
-        (port.known_free ring.new < length flats.now) }
+    ensures done { IsTrue result → PutsFlats ring.old flats.now ring.new }
+    ensures full { result ≡ false → FindsTooFew ring.old flats.now ring.new }
     ensures succeeds { length flats.now ≤ port.known_free ring.old → IsTrue result }
 {
     ring.push_entire_slice(flats).is_ok()
@@ -73,10 +67,8 @@ impl WriterRing {
         requires open { ended (signals (sent self.old)) ≡ false }
         requires fits { FitsEdge (writer_kind self.old) (signal_of message) }
         ensures ring { SameProducer self.old self.new }
-        ensures ok { OnOk result ((sent self.new ≡ sent self.old ++ message ∷ []) ×
-            (known_free self.old ≤ known_free self.new + 1)) }
-        ensures full { IfErr result (λ e. (e ≡ Full message) ×
-            (sent self.new ≡ sent self.old) × (known_free self.new ≡ 0)) }
+        ensures ok { OnOk result (PushesOne self.old message self.new) }
+        ensures full { IfErr result (λ e. (e ≡ Full message) × SeesNoRoom self.old self.new) }
         ensures succeeds { 0 < known_free self.old → IsOk result }
     {
         match self {
@@ -91,17 +83,12 @@ impl WriterRing {
     #[inline(always)]
     pub(crate) fn push_slice(&mut self, flats: &[Flat]) -> bool
         requires scalar { IsSome (writer_kind self.old) }
-        requires fit { All (λ x. FitsEdge (writer_kind self.old) (signal_of (message_of x)))
-            flats.now }
+        requires fit { All (FlatFits (writer_kind self.old)) flats.now }
         requires last { orderly (signals (messages_of flats.now)) ≡ true }
         requires open { ended (signals (sent self.old)) ≡ false }
         ensures ring { SameProducer self.old self.new }
-        ensures done { IsTrue result →
-            (sent self.new ≡ sent self.old ++ messages_of flats.now) ×
-            (known_free self.old ≤ known_free self.new + length flats.now) }
-        ensures full { result ≡ false → (sent self.new ≡ sent self.old) ×
-            (known_free self.old ≤ known_free self.new) ×
-            (known_free self.new < length flats.now) }
+        ensures done { IsTrue result → Pushes self.old flats.now self.new }
+        ensures full { result ≡ false → SeesTooLittle self.old flats.now self.new }
         ensures succeeds { length flats.now ≤ known_free self.old → IsTrue result }
     {
         match self {
@@ -116,8 +103,7 @@ impl WriterRing {
     #[inline(always)]
     pub(crate) fn has_slots(&mut self, count: usize) -> bool
         ensures ring { SameProducer self.old self.new }
-        ensures looked { (sent self.new ≡ sent self.old) ×
-            (known_free self.old ≤ known_free self.new) }
+        ensures looked { SeesRoom self.old self.new }
         ensures value { IsTrue result ↔ (count ≤ known_free self.new) }
     {
         match self {
@@ -132,8 +118,7 @@ impl WriterRing {
     #[inline(always)]
     pub(crate) fn slots(&mut self) -> usize
         ensures ring { SameProducer self.old self.new }
-        ensures looked { (sent self.new ≡ sent self.old) ×
-            (known_free self.old ≤ known_free self.new) }
+        ensures looked { SeesRoom self.old self.new }
         ensures value { result ≡ known_free self.new }
     {
         match self {
@@ -148,14 +133,10 @@ impl WriterRing {
     pub(crate) fn slots_beside(&mut self, reader: &mut ReaderRing) -> usize
         requires { IsPair self.old reader.old }
         ensures ring { SameProducer self.old self.new }
-        ensures looked { (sent self.new ≡ sent self.old) ×
-            (known_free self.old ≤ known_free self.new) }
-        ensures reader { SameConsumer reader.old reader.new ×
-            (received reader.new ≡ received reader.old) ×
-            IsPrefix (known_items reader.old) (known_items reader.new) }
+        ensures looked { SeesRoom self.old self.new }
+        ensures reader { SameConsumer reader.old reader.new × SeesItems reader.old reader.new }
         ensures value { result ≡ known_free self.new }
-        ensures all_free { result + length (sent self.new) ≡
-            producer_capacity self.new + length (received reader.new) }
+        ensures all_free { IsAllFree result self.new reader.new }
     {
         match (self, reader) {
             (WriterRing::Messages(writer), ReaderRing::Messages(reader)) => {

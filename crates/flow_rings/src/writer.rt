@@ -1,11 +1,12 @@
 // The end that puts messages.
-ghost use Rattle.std.specs.Prelude.{◌≡◌, ◌+◌, ◌<◌, ◌≤◌, ◌↔◌, true, false, [], ◌∷◌, ◌++◌, length, IsTrue, IsOk, OnOk, IfErr, IsErrAnd, IsSome, IfSome};
+ghost use Rattle.std.specs.Prelude.{◌≡◌, ◌+◌, ◌<◌, ◌≤◌, ◌↔◌, true, false, [], ◌++◌, length, IsTrue, IsOk, OnOk, IfErr, IsErrAnd, IsSome, IfSome};
 ghost use Rattle.std.specs.List.{All};
 ghost use Rattle.std.specs.Io.Iter.{u64_saturate};
 ghost use Rattle.flow_messages.specs.Signals.{signals, signal_of, ended, orderly};
 ghost use Rattle.flow_messages.specs.declared.ends.Why.TheVariants.{Full, Closed};
-ghost use Rattle.flow_rings.specs.Edge.{sent, certain_room, kind_of, SameWriter, Finishes};
-ghost use Rattle.flow_messages.specs.Flats.{message_of, messages_of};
+ghost use Rattle.flow_rings.specs.Edge.{sent, certain_room, kind_of, SameWriter, Finishes, IsNotClosed, IsRoomForAll, LacksRoom, LeavesRoom, PutsOne, WriterLooked};
+ghost use Rattle.flow_rings.specs.Blocks.{FlatFits};
+ghost use Rattle.flow_messages.specs.Flats.{messages_of};
 ghost use Rattle.flow_messages.specs.Kinds.{FitsEdge, TakesKind};
 
 use crate::ring::{EdgeWriter, FinishedMark, WriterRing};
@@ -35,15 +36,12 @@ impl EdgeWriter {
     pub fn put(&mut self, message: Msg) -> Result<(), Refused>
         requires fits { FitsEdge (kind_of self.old) (signal_of message) }
         ensures same { SameWriter self.old self.new }
-        ensures ok { OnOk result ((sent self.new ≡ sent self.old ++ message ∷ []) ×
-            (certain_room self.old ≤ certain_room self.new + 1)) }
-        ensures refused { IfErr result (λ e. (e.message ≡ message) ×
-            (sent self.new ≡ sent self.old) × (certain_room self.old ≤ certain_room self.new)) }
+        ensures ok { OnOk result (PutsOne self.old message self.new) }
+        ensures refused { IfErr result (λ e. (e.message ≡ message) × WriterLooked self.old self.new) }
         ensures closed { IsErrAnd result (λ e. e.why ≡ Closed) ↔
             (ended (signals (sent self.old)) ≡ true) }
         ensures full { IsErrAnd result (λ e. e.why ≡ Full) → certain_room self.new ≡ 0 }
-        ensures succeeds { ended (signals (sent self.old)) ≡ false → 0 < certain_room self.old →
-            IsOk result }
+        ensures succeeds { IsNotClosed self.old → 0 < certain_room self.old → IsOk result }
     {
         if self.closed {
             return Err(Refused {
@@ -97,8 +95,7 @@ impl EdgeWriter {
     #[inline(always)]
     pub fn room(&mut self) -> bool
         ensures same { SameWriter self.old self.new }
-        ensures looked { (sent self.new ≡ sent self.old) ×
-            (certain_room self.old ≤ certain_room self.new) }
+        ensures looked { WriterLooked self.old self.new }
         ensures value { IsTrue result ↔ (0 < certain_room self.new) }
     {
         self.ring.has_slots(1)
@@ -108,8 +105,7 @@ impl EdgeWriter {
     #[inline(always)]
     pub fn space(&mut self) -> usize
         ensures same { SameWriter self.old self.new }
-        ensures looked { (sent self.new ≡ sent self.old) ×
-            (certain_room self.old ≤ certain_room self.new) }
+        ensures looked { WriterLooked self.old self.new }
         ensures value { result ≡ certain_room self.new }
     {
         self.ring.slots()
@@ -119,8 +115,7 @@ impl EdgeWriter {
     #[inline(always)]
     pub fn room_for(&mut self, count: usize) -> bool
         ensures same { SameWriter self.old self.new }
-        ensures looked { (sent self.new ≡ sent self.old) ×
-            (certain_room self.old ≤ certain_room self.new) }
+        ensures looked { WriterLooked self.old self.new }
         ensures value { IsTrue result ↔ (count ≤ certain_room self.new) }
     {
         self.ring.has_slots(count)
@@ -134,21 +129,16 @@ impl EdgeWriter {
     #[tactic(auto, using(crate::proofs::Lists::list_steps))]
     pub fn put_slice(&mut self, flats: &[Flat]) -> bool
         requires scalar { IsSome (kind_of self.old) }
-        requires fit { All (λ x. FitsEdge (kind_of self.old) (signal_of (message_of x)))
-            flats.now }
+        requires fit { All (FlatFits (kind_of self.old)) flats.now }
         requires last { orderly (signals (messages_of flats.now)) ≡ true }
         ensures same { SameWriter self.old self.new }
-        ensures put { IsTrue result →
-            sent self.new ≡ sent self.old ++ messages_of flats.now }
-        ensures room { IsTrue result →
-            certain_room self.old ≤ certain_room self.new + length flats.now }
-        ensures open { IsTrue result → ended (signals (sent self.old)) ≡ false }
-        ensures refused { result ≡ false → (sent self.new ≡ sent self.old) ×
-            (certain_room self.old ≤ certain_room self.new) }
-        ensures full { result ≡ false → ended (signals (sent self.old)) ≡ false →
-            certain_room self.new < length flats.now }
-        ensures succeeds { ended (signals (sent self.old)) ≡ false →
-            length flats.now ≤ certain_room self.old → IsTrue result }
+        ensures put { IsTrue result → sent self.new ≡ sent self.old ++ messages_of flats.now }
+        ensures room { IsTrue result → LeavesRoom self.old flats.now self.new }
+        ensures open { IsTrue result → IsNotClosed self.old }
+        ensures refused { result ≡ false → WriterLooked self.old self.new }
+        ensures full { result ≡ false → IsNotClosed self.old → LacksRoom self.new flats.now }
+        ensures succeeds { IsNotClosed self.old → IsRoomForAll self.old flats.now →
+            IsTrue result }
     {
         let was_closed = self.closed;
         if was_closed {
@@ -170,22 +160,20 @@ impl EdgeWriter {
     #[inline(always)]
     pub fn put_block(&mut self, block: &mut Block) -> bool
         requires scalar { IsSome (kind_of self.old) }
-        requires fit { All (λ x. FitsEdge (kind_of self.old) (signal_of (message_of x)))
-            block.old.items }
+        requires fit { All (FlatFits (kind_of self.old)) block.old.items }
         requires last { orderly (signals (messages_of block.old.items)) ≡ true }
         ensures same { SameWriter self.old self.new }
         ensures put { IsTrue result →
-            (sent self.new ≡ sent self.old ++ messages_of block.old.items) ×
-            (block.new.items ≡ []) }
-        ensures room { IsTrue result →
-            certain_room self.old ≤ certain_room self.new + length block.old.items }
-        ensures open { IsTrue result → ended (signals (sent self.old)) ≡ false }
-        ensures refused { result ≡ false → (sent self.new ≡ sent self.old) ×
-            (block.new ≡ block.old) × (certain_room self.old ≤ certain_room self.new) }
-        ensures full { result ≡ false → ended (signals (sent self.old)) ≡ false →
-            certain_room self.new < length block.old.items }
-        ensures succeeds { ended (signals (sent self.old)) ≡ false →
-            length block.old.items ≤ certain_room self.old → IsTrue result }
+            sent self.new ≡ sent self.old ++ messages_of block.old.items }
+        ensures emptied { IsTrue result → block.new.items ≡ [] }
+        ensures room { IsTrue result → LeavesRoom self.old block.old.items self.new }
+        ensures open { IsTrue result → IsNotClosed self.old }
+        ensures refused { result ≡ false → WriterLooked self.old self.new }
+        ensures kept { result ≡ false → block.new ≡ block.old }
+        ensures full { result ≡ false → IsNotClosed self.old →
+            LacksRoom self.new block.old.items }
+        ensures succeeds { IsNotClosed self.old → IsRoomForAll self.old block.old.items →
+            IsTrue result }
     {
         let is_put = self.put_slice(block.as_slice());
         if is_put {
