@@ -4,6 +4,7 @@ ghost use Rattle.flow_messages.specs.Limits.{greatest_capacity};
 ghost use Rattle.flow_messages.specs.Signals.{signals, ended, orderly};
 ghost use Rattle.flow_messages.specs.declared.message.Msg.{Msg as Message};
 ghost use Rattle.flow_rings.specs.Edge.{sent, received, kind_of, SameWriter, SameReader};
+ghost use Rattle.flow_crossing.specs.Messages.{MayPutAll, WereKept};
 
 use flow_messages::Msg;
 use flow_rings::{
@@ -56,8 +57,7 @@ pub fn put_all(rt: &impl Wait, writer: EdgeWriter, messages: Vec<Msg>) -> EdgeWr
 
 // The list with one message more. A list for which there is no memory is given up.
 fn keep(taken: Result<Vec<Msg>, AllocError>, message: Msg) -> Result<Vec<Msg>, AllocError>
-    ensures { (before : List Message) → IfOk taken (λ v. v.items ≡ before) →
-        IfOk result (λ v. v.items ≡ before ++ message ∷ []) }
+    ensures { (kept : List Message) → WereKept taken kept → WereKept result (kept ++ message ∷ []) }
 {
     let mut taken = taken?;
     taken.push(message)?;
@@ -74,7 +74,7 @@ pub fn take_all(
     requires { received reader ≡ [] }
     ensures same { SameReader reader result.0 }
     ensures ended { ended (signals (received result.0)) ≡ true }
-    ensures taken { IfOk result.1 (λ v. v.items ≡ received result.0) }
+    ensures taken { WereKept result.1 (received result.0) }
 {
     let mut reader = reader;
     let mut taken = Ok(Vec::new(alloc));
@@ -115,8 +115,7 @@ pub fn send_across<R: Threads + Wait + Sync>(
     let (mut writer, (mut reader, taken)) = thread::join(
         rt,
         move || -> EdgeWriter
-            requires { (kind_of writer ≡ None) × (sent writer ≡ []) ×
-                (orderly (signals messages.items) ≡ true) }
+            requires { MayPutAll writer messages.items }
             ensures same { SameWriter writer result }
             ensures sent { sent result ≡ messages.items }
         { put_all(rt, writer, messages) },
@@ -124,7 +123,7 @@ pub fn send_across<R: Threads + Wait + Sync>(
             requires { received reader ≡ [] }
             ensures same { SameReader reader result.0 }
             ensures ended { ended (signals (received result.0)) ≡ true }
-            ensures taken { IfOk result.1 (λ v. v.items ≡ received result.0) }
+            ensures taken { WereKept result.1 (received result.0) }
         { take_all(rt, alloc, reader) },
     );
     same_ends_are_an_edge();

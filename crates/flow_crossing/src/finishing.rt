@@ -4,6 +4,7 @@ ghost use Rattle.flow_messages.specs.Limits.{greatest_capacity};
 ghost use Rattle.flow_messages.specs.Signals.{signals, ended, orderly};
 ghost use Rattle.flow_rings.specs.Edge.{sent, received, all_sent, kind_of, IsEdge, IsMarkOf, SameReader};
 ghost use Rattle.flow_rings.specs.declared.ring.EdgeReader.{EdgeReader as Reader};
+ghost use Rattle.flow_crossing.specs.Messages.{MayPutAll, WereKept};
 
 use crate::across::{put_all, take_all};
 use flow_messages::Msg;
@@ -48,8 +49,7 @@ pub fn send_and_finish<R: Threads + Wait + Sync>(
     let (mark, (mut reader, taken)) = thread::join(
         rt,
         move || -> Option<FinishedMark>
-            requires { (kind_of writer ≡ None) × (sent writer ≡ []) ×
-                (orderly (signals messages.items) ≡ true) }
+            requires { MayPutAll writer messages.items }
             ensures mark { IfSome result (λ mark. (r : Reader) → IsEdge writer r →
                 IsMarkOf mark r) }
             ensures sent { IfSome result (λ mark. all_sent mark ≡ messages.items) }
@@ -58,7 +58,7 @@ pub fn send_and_finish<R: Threads + Wait + Sync>(
             requires { received reader ≡ [] }
             ensures same { SameReader reader result.0 }
             ensures ended { ended (signals (received result.0)) ≡ true }
-            ensures taken { IfOk result.1 (λ v. v.items ≡ received result.0) }
+            ensures taken { WereKept result.1 (received result.0) }
         { take_all(rt, alloc, reader) },
     );
     same_ends_are_an_edge();

@@ -2,7 +2,10 @@
 use Rattle.std.specs.Prelude.{◌≡◌, ◌+◌, ◌<◌, ◌≤◌, ℕ, true, false, List, [], ◌∷◌, ◌++◌, length, Option}
 use mathlib.Core.List.{IsPrefix}
 use Rattle.flow_messages.specs.declared.flat.Flat.{Flat}
-use Rattle.flow_messages.specs.Signals.{signals, ended}
+use Rattle.arrayvec.specs.ArrayVec.{ArrayVec}
+use Rattle.flow_messages.specs.Signals.{signal_of, signals, ended}
+use Rattle.flow_messages.specs.Flats.{message_of, messages_of, flats_appended}
+use Rattle.flow_messages.specs.Kinds.{FitsEdge}
 use Rattle.flow_messages.specs.declared.message.Kind.{Kind}
 use Rattle.flow_messages.specs.declared.message.Msg.{Msg}
 use Rattle.flow_rings.specs.declared.ring.EdgeWriter.{EdgeWriter}
@@ -129,3 +132,11 @@ HasAll r ms = received r ++ certain_held r ≡ ms
 -- these messages were taken, and nothing is left
 abbrev pub TookAll : EdgeReader → List Msg → Type 0
 TookAll r ms = (received r ≡ ms) × (certain_held r ≡ [])
+
+-- an edge of this kind takes what the flat stands for
+abbrev pub FlatFits : Option Kind → Flat → Type 0
+FlatFits of x = FitsEdge of (signal_of (message_of x))
+
+-- the messages that were appended to a block
+abbrev pub messages_appended : ArrayVec Flat → ArrayVec Flat → List Msg
+messages_appended before after = messages_of (flats_appended before after)

@@ -1,4 +1,3 @@
-pub mod Blocks
 pub mod Ports
 pub mod Ring
 pub mod Edge

@@ -7,8 +7,7 @@ ghost use mathlib.Core.List.{IsPrefix};
 ghost use Rattle.flow_messages.specs.Signals.{signals, signal_of, ended, orderly};
 ghost use Rattle.flow_messages.specs.Flats.{messages_of, flats_appended, scalar_first};
 ghost use Rattle.flow_messages.specs.Kinds.{FitsEdge};
-ghost use Rattle.flow_rings.specs.Edge.{received, certain_held, reader_kind, SameReader, all_sent, IsMarkOf, IsReady, HasAll, KeepsCertain, ReaderLooked, TakesNone, TakesOne};
-ghost use Rattle.flow_rings.specs.Blocks.{FlatFits, messages_appended};
+ghost use Rattle.flow_rings.specs.Edge.{received, certain_held, reader_kind, SameReader, all_sent, IsMarkOf, IsReady, HasAll, KeepsCertain, ReaderLooked, TakesNone, TakesOne, FlatFits, messages_appended};
 
 use crate::ring::{EdgeReader, FinishedMark};
 use flow_messages::{Block, Flat, Msg};

@@ -10,7 +10,7 @@ ghost use Rattle.flow_messages.specs.Flats.{messages_of, flats_appended, scalar_
 ghost use Rattle.flow_messages.specs.Kinds.{FitsEdge};
 ghost use Rattle.flow_rings.specs.Ring.{sent, received, known_items, all_sent, reader_kind, SameProducer, SameConsumer, IsPair, IsFinishedOf, HoldsAny, KeepsItems, PopsNone, PopsOne, SeesItems, SeesRoom};
 ghost use Rattle.flow_rings.specs.Ports.{FindsNone, KeepsKnown, KnowsAny, TakesFlat, TakesFlats};
-ghost use Rattle.flow_rings.specs.Blocks.{FlatFits, messages_appended};
+ghost use Rattle.flow_rings.specs.Edge.{FlatFits, messages_appended};
 ghost use Rattle.flow_messages.specs.declared.flat.Flat.{Flat as Scalar};
 
 use crate::ring::{MarkRing, ReaderRing, WriterRing};

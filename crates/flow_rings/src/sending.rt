@@ -8,7 +8,7 @@ ghost use Rattle.flow_messages.specs.Flats.{message_of, messages_of, is_scalar};
 ghost use Rattle.flow_messages.specs.Kinds.{FitsEdge};
 ghost use Rattle.flow_rings.specs.Ring.{sent, known_free, writer_kind, SameProducer, SameConsumer, IsPair, Finishes, IsAllFree, Pushes, PushesOne, SeesItems, SeesNoRoom, SeesRoom, SeesTooLittle};
 ghost use Rattle.flow_rings.specs.Ports.{FindsNoPlace, FindsTooFew, PutsFlat, PutsFlats};
-ghost use Rattle.flow_rings.specs.Blocks.{FlatFits};
+ghost use Rattle.flow_rings.specs.Edge.{FlatFits};
 ghost use Rattle.flow_messages.specs.declared.flat.Flat.{Flat as Scalar};
 ghost use Rattle.std.specs.List.{All};
 

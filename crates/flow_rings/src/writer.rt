@@ -4,8 +4,7 @@ ghost use Rattle.std.specs.List.{All};
 ghost use Rattle.std.specs.Io.Iter.{u64_saturate};
 ghost use Rattle.flow_messages.specs.Signals.{signals, signal_of, ended, orderly};
 ghost use Rattle.flow_messages.specs.declared.ends.Why.TheVariants.{Full, Closed};
-ghost use Rattle.flow_rings.specs.Edge.{sent, certain_room, kind_of, SameWriter, Finishes, IsNotClosed, IsRoomForAll, LacksRoom, LeavesRoom, PutsOne, WriterLooked};
-ghost use Rattle.flow_rings.specs.Blocks.{FlatFits};
+ghost use Rattle.flow_rings.specs.Edge.{sent, certain_room, kind_of, SameWriter, Finishes, IsNotClosed, IsRoomForAll, LacksRoom, LeavesRoom, PutsOne, WriterLooked, FlatFits};
 ghost use Rattle.flow_messages.specs.Flats.{messages_of};
 ghost use Rattle.flow_messages.specs.Kinds.{FitsEdge, TakesKind};
 

@@ -19,7 +19,7 @@ pub after-left-requires : goal.after-left-requires
 after-left-requires g c =
     let writer = c.in_ok-writer.writer in
     let mark = subst (λ m. IfSome m (λ f. (r : EdgeReader) → IsEdge writer r → IsMarkOf f r)) c.in-Some.is c.join-mark.ensures.first.0 in
-    let still = c.same_ends_are_an_edge.ensures.edge writer writer c.in_ok-writer.reader c.join-mark.result.1.0 c.in_ok-writer.ensures.pair (refl, refl) c.join-mark.ensures.second.0 in
+    let still = c.same_ends_are_an_edge.ensures.edge writer writer c.in_ok-writer.reader c.join-mark.result.1.0 c.in_ok-writer.ensures.pair ((refl, refl), c.join-mark.ensures.second.0) in
     mark c.join-mark.result.1.0 still
 
 pub returns-clause-taken : goal.returns-clause-taken
