@@ -1,5 +1,5 @@
 -- What a node passes on, item by item, and its end.
-use Rattle.std.proofs.Common.{◌≡◌, ◌≢◌, ℕ, zero, suc, ◌+◌, ◌*◌, ◌<◌, ◌≤◌, Bool, true, false, cond, nat_lt, Option, Some, None, Result, Ok, Err, List, [], ◌∷◌, ◌++◌, ◌&&◌, length, get_or, take, refl, sym, ◌∙◌, ap, subst, arith, add-one, length-append, inl, inr}
+use Rattle.std.proofs.Common.{◌≡◌, ℕ, zero, suc, ◌+◌, ◌*◌, ◌<◌, ◌≤◌, Bool, true, false, cond, nat_lt, Option, Some, None, Result, Ok, Err, List, [], ◌∷◌, ◌++◌, ◌&&◌, length, get_or, take, refl, sym, ◌∙◌, ap, subst, arith, add-one, length-append, inl, inr}
 use Rattle.std.proofs.Math.Nat.{mul-add}
 use Rattle.std.proofs.lemmas.Bool.{and_parts}
 use Rattle.std.proofs.lemmas.Bool.Decides.{nat_tests}
@@ -8,7 +8,6 @@ use Rattle.kahn.specs.declared.want.Want.TheVariants.{Read, Write, Ended}
 use Rattle.kahn.specs.Processes.{Event, Reads, Writes, Does, reads, writes}
 use Rattle.kahn.proofs.History.{does_then, reads_append, writes_append}
 use Rattle.kahn.proofs.Prefix.{reads_later, writes_first, writes_later}
-use Rattle.flow_messages.specs.Cells.{Cell}
 use Rattle.flow_messages.specs.Signals.{Signal, carry, stop, signal_of, is_stop, orderly, signals}
 use Rattle.flow_messages.specs.Flats.{message_of, flat_signals}
 use Rattle.flow_messages.specs.declared.flat.Flat.{Flat}
@@ -19,7 +18,6 @@ use Rattle.flow_messages.proofs.Scalars.{said_length, said_more}
 use Rattle.flow_base.specs.Ports.{ports}
 use Rattle.flow_base.specs.Transducers.{Behaviour, IsWrite}
 use Rattle.flow_base.specs.Machines.{Machine, MachineLaws, Move, begins, takes, gives, ask_of, state_after_read, state_after_write, written_cell, OnNext, SoundAt}
-use Rattle.flow_base.specs.declared.worker.Ask.TheVariants.{Begin}
 use Rattle.flow_base.specs.declared.node.Phase.{Phase}
 use Rattle.flow_base.specs.declared.node.Phase.TheVariants.{Working, Closing, Ending, Faulted}
 use Rattle.flow_base.specs.Nodes.{NodeState, node_state, behaviour_of, want_for, at_end, went_on, closing}

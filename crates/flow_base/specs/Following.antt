@@ -8,7 +8,7 @@ use Rattle.flow_base.specs.declared.worker.Ask.{Ask}
 use Rattle.flow_base.specs.declared.worker.Ask.TheVariants.{Begin, Take, Give}
 use Rattle.flow_base.specs.declared.node.Phase.{Phase}
 use Rattle.flow_base.specs.declared.node.Phase.TheVariants.{Working, Closing, Ending, Faulted}
-use Rattle.flow_base.specs.Machines.{Machine, Move, gives, move_of, ask_of, state_after_read, OnNext}
+use Rattle.flow_base.specs.Machines.{Machine, gives, move_of, ask_of, state_after_read, OnNext}
 use Rattle.flow_base.specs.Nodes.{NodeState}
 
 -- what it says, if there is a message

@@ -30,3 +30,5 @@ pub mod Passing
 pub mod Following
 pub mod Along
 pub mod Walks
+pub mod OnPorts
+pub mod Standing

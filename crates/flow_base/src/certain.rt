@@ -40,8 +40,7 @@ pub(crate) fn look_for_messages<E: Ends>(ends: &mut E, edges: &[usize])
     requires { All (λ e. (E.view ends.old).reads e ≡ true) edges.now }
     ensures same { E.same ends.old ends.new }
     ensures ends { SameEnds (E.view ends.old) (E.view ends.new) }
-    ensures looked { (outputs : List ℕ) →
-        LeavesAlone edges.now outputs (E.view ends.old) (E.view ends.new) }
+    ensures looked { (outs : List ℕ) → LeavesAlone edges.now outs (E.view ends.old) (E.view ends.new) }
 {
     for edge in edges {
         let _ = ends.ready(*edge);

@@ -10,8 +10,9 @@ ghost use Rattle.flow_base.specs.Nodes.{behaviour_of, closing, node_state, opene
 ghost use Rattle.flow_base.specs.Passing.{MayCome, PassedOn};
 ghost use Rattle.flow_base.specs.Following.{node_passes};
 ghost use Rattle.flow_base.specs.Along.{AreApart};
-ghost use Rattle.flow_base.specs.Visits.{IsPlaced, WentOn, Visited, BrokeOff};
+ghost use Rattle.flow_base.specs.Visits.{WentOn, Visited, BrokeOff};
 ghost use Rattle.flow_base.specs.Walks.{Walk};
+ghost use Rattle.flow_base.specs.Standing.{EndsAll, NodeIsPlaced, NodeReads, PassesAll, PassesToEnd, StandsStill, end_written};
 ghost use Rattle.flow_base.specs.declared.node.Phase.TheVariants.{Working, Ending};
 
 use crate::certain::{look_for_messages, put_in_space};
@@ -109,12 +110,9 @@ impl<W: Worker> Node<W> {
     fn read_on(&mut self, message: Msg) -> Result<bool, AllocError>
         requires works { self.old.phase ≡ Working }
         requires reads { IsReading (ask_of (move_of W.machine (W.state self.old.worker))) }
-        ensures ok { IfOk result (λ on. ⟦<Node<W> as Transducer>⟧.state self.new ≡
-            ⟦<Node<W> as Transducer>⟧.behaviour.process.read
-            (⟦<Node<W> as Transducer>⟧.state self.old) (signal_of message)) }
+        ensures ok { IfOk result (λ on. NodeReads W.Worker self.old message self.new) }
         ensures on { IfOk result (λ on. on ≡ true → self.new.phase ≡ Working) }
-        ensures err { OnErr result (⟦<Node<W> as Transducer>⟧.state self.new ≡
-            ⟦<Node<W> as Transducer>⟧.state self.old) }
+        ensures err { OnErr result (StandsStill W.Worker self.old self.new) }
         ensures sure { W.machine.takes_memory (W.state self.old.worker).1 ≡ false → IsOk result }
     {
         match message {
@@ -144,8 +142,7 @@ impl<W: Worker> Node<W> {
         outputs: &[usize],
         ends: &mut E,
     ) -> Result<bool, AllocError>
-        requires placed { IsPlaced ⟦<Node<W> as Transducer>⟧.behaviour inputs.now outputs.now
-            (⟦<Node<W> as Transducer>⟧.state self.old) (E.view ends.old) }
+        requires placed { NodeIsPlaced W.Worker inputs.now outputs.now self.old (E.view ends.old) }
         ensures same { E.same ends.old ends.new }
         ensures ends { SameEnds (E.view ends.old) (E.view ends.new) }
         ensures visited { IfOk result (λ any. Visited inputs.now outputs.now
@@ -188,8 +185,7 @@ impl<W: Worker> Node<W> {
         ends: &mut E,
         chunk: usize,
     ) -> Result<usize, AllocError>
-        requires placed { IsPlaced ⟦<Node<W> as Transducer>⟧.behaviour inputs.now outputs.now
-            (⟦<Node<W> as Transducer>⟧.state self.old) (E.view ends.old) }
+        requires placed { NodeIsPlaced W.Worker inputs.now outputs.now self.old (E.view ends.old) }
         ensures same { E.same ends.old ends.new }
         ensures ends { SameEnds (E.view ends.old) (E.view ends.new) }
         ensures within { IfOk result (λ made. made ≤ chunk) }
@@ -222,8 +218,7 @@ impl<W: Worker> Node<W> {
         most: usize,
     ) -> usize
         requires works { self.old.phase ≡ Working }
-        requires placed { IsPlaced ⟦<Node<W> as Transducer>⟧.behaviour inputs.now outputs.now
-            (⟦<Node<W> as Transducer>⟧.state self.old) (E.view ends.old) }
+        requires placed { NodeIsPlaced W.Worker inputs.now outputs.now self.old (E.view ends.old) }
         requires inputs { AreApart inputs.now }
         requires outputs { AreApart outputs.now }
         ensures works { self.new.phase ≡ Working }
@@ -257,8 +252,7 @@ impl<W: Worker> Node<W> {
         most: usize,
     ) -> usize
         requires works { self.old.phase ≡ Working }
-        requires placed { IsPlaced ⟦<Node<W> as Transducer>⟧.behaviour inputs.now outputs.now
-            (⟦<Node<W> as Transducer>⟧.state self.old) (E.view ends.old) }
+        requires placed { NodeIsPlaced W.Worker inputs.now outputs.now self.old (E.view ends.old) }
         ensures works { self.new.phase ≡ Working }
         ensures walk { Walk E.view E.same inputs.now outputs.now
             ⟦<Node<W> as Transducer>⟧.behaviour (⟦<Node<W> as Transducer>⟧.state self.old) ends.old
@@ -293,8 +287,7 @@ impl<W: Worker> Node<W> {
         most: usize,
     ) -> usize
         requires works { self.old.phase ≡ Working }
-        requires placed { IsPlaced ⟦<Node<W> as Transducer>⟧.behaviour inputs.now outputs.now
-            (⟦<Node<W> as Transducer>⟧.state self.old) (E.view ends.old) }
+        requires placed { NodeIsPlaced W.Worker inputs.now outputs.now self.old (E.view ends.old) }
         ensures walk { Walk E.view E.same inputs.now outputs.now
             ⟦<Node<W> as Transducer>⟧.behaviour (⟦<Node<W> as Transducer>⟧.state self.old) ends.old
             (⟦<Node<W> as Transducer>⟧.state self.new) ends.new most result }
@@ -317,8 +310,7 @@ impl<W: Worker> Node<W> {
         ends: &mut E,
         chunk: usize,
     ) -> Result<usize, AllocError>
-        requires placed { IsPlaced ⟦<Node<W> as Transducer>⟧.behaviour inputs.now outputs.now
-            (⟦<Node<W> as Transducer>⟧.state self.old) (E.view ends.old) }
+        requires placed { NodeIsPlaced W.Worker inputs.now outputs.now self.old (E.view ends.old) }
         ensures same { E.same ends.old ends.new }
         ensures ends { SameEnds (E.view ends.old) (E.view ends.new) }
         ensures within { IfOk result (λ made. made ≤ chunk) }
@@ -349,8 +341,7 @@ impl<W: Worker> Node<W> {
         chunk: usize,
     ) -> Result<usize, AllocError>
         requires works { self.old.phase ≡ Working }
-        requires placed { IsPlaced ⟦<Node<W> as Transducer>⟧.behaviour inputs.now outputs.now
-            (⟦<Node<W> as Transducer>⟧.state self.old) (E.view ends.old) }
+        requires placed { NodeIsPlaced W.Worker inputs.now outputs.now self.old (E.view ends.old) }
         ensures same { E.same ends.old ends.new }
         ensures ends { SameEnds (E.view ends.old) (E.view ends.new) }
         ensures within { IfOk result (λ made. made ≤ chunk) }
@@ -384,8 +375,7 @@ impl<W: Worker> Node<W> {
     ) -> Result<usize, AllocError>
         requires some { 0 < chunk }
         requires works { self.old.phase ≡ Working }
-        requires placed { IsPlaced ⟦<Node<W> as Transducer>⟧.behaviour inputs.now outputs.now
-            (⟦<Node<W> as Transducer>⟧.state self.old) (E.view ends.old) }
+        requires placed { NodeIsPlaced W.Worker inputs.now outputs.now self.old (E.view ends.old) }
         ensures same { E.same ends.old ends.new }
         ensures ends { SameEnds (E.view ends.old) (E.view ends.new) }
         ensures within { IfOk result (λ made. made ≤ chunk) }
@@ -433,8 +423,7 @@ impl<W: Worker> Node<W> {
         left: usize,
     ) -> Result<bool, AllocError>
         requires some { 0 < left }
-        requires placed { IsPlaced ⟦<Node<W> as Transducer>⟧.behaviour inputs.now outputs.now
-            (⟦<Node<W> as Transducer>⟧.state self.old) (E.view ends.old) }
+        requires placed { NodeIsPlaced W.Worker inputs.now outputs.now self.old (E.view ends.old) }
         ensures same { E.same ends.old ends.new }
         ensures ends { SameEnds (E.view ends.old) (E.view ends.new) }
         ensures visited { IfOk result (λ any. Visited inputs.now outputs.now
@@ -464,8 +453,7 @@ impl<W: Worker> Node<W> {
         chunk: usize,
     ) -> Result<bool, AllocError>
         requires some { 0 < chunk }
-        requires placed { IsPlaced ⟦<Node<W> as Transducer>⟧.behaviour inputs.now outputs.now
-            (⟦<Node<W> as Transducer>⟧.state self.old) (E.view ends.old) }
+        requires placed { NodeIsPlaced W.Worker inputs.now outputs.now self.old (E.view ends.old) }
         ensures same { E.same ends.old ends.new }
         ensures ends { SameEnds (E.view ends.old) (E.view ends.new) }
         ensures visited { IfOk result (λ any. Visited inputs.now outputs.now
@@ -498,8 +486,7 @@ impl<W: Worker> Node<W> {
         chunk: usize,
     ) -> Result<bool, AllocError>
         requires some { 0 < chunk }
-        requires placed { IsPlaced ⟦<Node<W> as Transducer>⟧.behaviour inputs.now outputs.now
-            (⟦<Node<W> as Transducer>⟧.state self.old) (E.view ends.old) }
+        requires placed { NodeIsPlaced W.Worker inputs.now outputs.now self.old (E.view ends.old) }
         ensures same { E.same ends.old ends.new }
         ensures ends { SameEnds (E.view ends.old) (E.view ends.new) }
         ensures visited { IfOk result (λ any. Visited inputs.now outputs.now
@@ -542,14 +529,8 @@ impl<W: Worker> Node<W> {
         requires short { length flats.now ≤ 64 }
         requires empty { out.old.items ≡ [] }
         ensures room { result ≡ true → length out.new.items < 64 }
-        ensures ended { result ≡ true → (items : List Signal) ×
-            (flat_signals flats.now ≡ items ++ stop ∷ []) ×
-            PassedOn ⟦<Node<W> as Transducer>⟧.behaviour
-            (⟦<Node<W> as Transducer>⟧.state self.now) items
-            (⟦<Node<W> as Transducer>⟧.state self.now) (flat_signals out.new.items) }
-        ensures all { result ≡ false → PassedOn ⟦<Node<W> as Transducer>⟧.behaviour
-            (⟦<Node<W> as Transducer>⟧.state self.now) (flat_signals flats.now)
-            (⟦<Node<W> as Transducer>⟧.state self.now) (flat_signals out.new.items) }
+        ensures ended { result ≡ true → PassesToEnd W.Worker self.now flats.now out.new.items }
+        ensures all { result ≡ false → PassesAll W.Worker self.now flats.now out.new.items }
     {
         for flat in flats {
             if flat.is_end() {
@@ -565,11 +546,8 @@ impl<W: Worker> Node<W> {
     // Passes the end on: it goes to each output, and to `out`, where there is one.
     fn pass_end(&mut self, out: &mut Block)
         requires { length out.old.items < 64 }
-        ensures state { ⟦<Node<W> as Transducer>⟧.state self.new ≡ node_state
-            (W.state self.old.worker) (Ending (W.machine.outputs (W.state self.old.worker).0))
-            self.old.at }
-        ensures out { out.new.items ≡ out.old.items ++
-            cond (nat_lt 0 (W.machine.outputs (W.state self.old.worker).0)) (Flat.End ∷ []) [] }
+        ensures state { EndsAll W.Worker self.old self.new }
+        ensures out { out.new.items ≡ out.old.items ++ end_written W.Worker self.old }
     {
         let outputs = self.worker.outputs();
         self.phase = Phase::Ending(outputs);

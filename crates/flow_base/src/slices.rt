@@ -1,13 +1,14 @@
 // What a worker is shown of its inputs, where it puts what it writes, and how far it went.
 
-ghost use Rattle.std.specs.Prelude.{◌≡◌, ◌<◌, ◌≤◌, ℕ, true, List, [], length, take};
+ghost use Rattle.std.specs.Prelude.{◌≡◌, ◌<◌, ◌≤◌, ℕ, true, List, [], length};
 ghost use Rattle.std.specs.List.{All};
 ghost use mathlib.Core.List.{IsPrefix};
 ghost use Rattle.flow_messages.specs.Blocks.{unit_signals, flag_signals, int_signals};
-ghost use Rattle.flow_messages.specs.Ends.{SameEnds, held, TakenAll, PutAll};
+ghost use Rattle.flow_messages.specs.Ends.{SameEnds, held};
 ghost use Rattle.flow_messages.specs.Kinds.{TakesKind};
 ghost use Rattle.flow_base.specs.Along.{AreApart, HasRoom, PutOnEach, shown_signals, written_signals};
-ghost use Rattle.flow_base.specs.Visits.{edge_of, LeavesAlone, TakeKinds};
+ghost use Rattle.flow_base.specs.Visits.{edge_of, LeavesAlone};
+ghost use Rattle.flow_base.specs.OnPorts.{FitsAt, IsLower, PutFrom, SkippedAt, TakeKindsOf, coming_at, room_at};
 
 use crate::worker::Worker;
 use flow_messages::{Ends, Kind};
@@ -139,8 +140,7 @@ pub(crate) fn shown_at<'e, E: Ends>(
     kind: Kind,
 ) -> Shown<'e>
     requires { All (λ e. (E.view ends.now).reads e ≡ true) inputs.now }
-    ensures shown { IsPrefix (shown_signals result)
-        ((E.view ends.now).coming (edge_of inputs.now port)) }
+    ensures shown { IsPrefix (shown_signals result) (coming_at (E.view ends.now) inputs.now port) }
     ensures none { length inputs.now ≤ port → shown_signals result ≡ [] }
 {
     if port >= inputs.len() {
@@ -156,8 +156,7 @@ pub(crate) fn skip_at<E: Ends>(ends: &mut E, inputs: &[usize], port: usize, coun
     requires there { 0 < count → port < length inputs.now }
     requires certain { count ≤ held (E.view ends.old) (edge_of inputs.now port) }
     ensures same { E.same ends.old ends.new }
-    ensures taken { TakenAll (E.view ends.old) (edge_of inputs.now port)
-        (take count ((E.view ends.old).coming (edge_of inputs.now port))) (E.view ends.new) }
+    ensures taken { SkippedAt inputs.now port count (E.view ends.old) (E.view ends.new) }
 {
     if count > 0 {
         ends.skip(inputs[port], count);
@@ -172,8 +171,7 @@ fn put_on<E: Ends>(ends: &mut E, edge: usize, kind: Kind, block: &Written, moved
     requires room { HasRoom moved ((E.view ends.old).room edge) }
     requires places { HasRoom moved 256 }
     ensures same { E.same ends.old ends.new }
-    ensures put { PutAll (E.view ends.old) edge (written_signals block.now moved kind)
-        (E.view ends.new) }
+    ensures put { PutFrom block.now moved kind edge (E.view ends.old) (E.view ends.new) }
 {
     match kind {
         Kind::Unit => ends.put_units(edge, moved.units),
@@ -193,11 +191,10 @@ pub(crate) fn put_on_each<W: Worker, E: Ends>(
     moved: Moved,
 )
     requires writes { All (λ e. (E.view ends.old).writes e ≡ true) outputs.now }
-    requires kinds { TakeKinds outputs.now (W.machine.kind_out (W.state worker.now).0)
-        (E.view ends.old) }
+    requires kinds { TakeKindsOf W.machine (W.state worker.now) outputs.now (E.view ends.old) }
     requires apart { AreApart outputs.now }
     requires room { (q : ℕ) → q < length outputs.now →
-        HasRoom moved ((E.view ends.old).room (edge_of outputs.now q)) }
+        FitsAt (E.view ends.old) outputs.now q moved }
     requires places { HasRoom moved 256 }
     ensures same { E.same ends.old ends.new }
     ensures put { PutOnEach outputs.now (length outputs.now)
@@ -216,9 +213,8 @@ pub(crate) fn least_space<E: Ends>(ends: &mut E, outputs: &[usize]) -> usize
     ensures same { E.same ends.old ends.new }
     ensures ends { SameEnds (E.view ends.old) (E.view ends.new) }
     ensures room { (q : ℕ) → q < length outputs.now →
-        result ≤ (E.view ends.new).room (edge_of outputs.now q) }
-    ensures alone { (inputs : List ℕ) →
-        LeavesAlone inputs outputs.now (E.view ends.old) (E.view ends.new) }
+        result ≤ room_at (E.view ends.new) outputs.now q }
+    ensures alone { (ins : List ℕ) → LeavesAlone ins outputs.now (E.view ends.old) (E.view ends.new) }
 {
     let mut least = usize::MAX;
     for port in 0..outputs.len() {
@@ -231,8 +227,7 @@ pub(crate) fn least_space<E: Ends>(ends: &mut E, outputs: &[usize]) -> usize
 // joined in their order.
 #[inline(always)]
 pub(crate) fn rise(edges: &[usize]) -> bool
-    ensures { result ≡ true → (p q : ℕ) → p < q → q < length edges.now →
-        edge_of edges.now p < edge_of edges.now q }
+    ensures { result ≡ true → (p q : ℕ) → p < q → q < length edges.now → IsLower edges.now p q }
 {
     for port in 1..edges.len() {
         if edges[port] <= edges[port - 1] {

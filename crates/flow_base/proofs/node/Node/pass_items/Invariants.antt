@@ -1,4 +1,4 @@
-use Rattle.std.proofs.Common.{◌≡◌, ◌≤◌, length, take}
+use Rattle.std.proofs.Common.{◌≤◌, length, take}
 use Rattle.flow_messages.specs.Flats.{flat_signals}
 use Rattle.flow_base.specs.Members.{node_of}
 use Rattle.flow_base.specs.Passing.{PassedOn}

@@ -1,5 +1,5 @@
-use Rattle.std.proofs.Common.{◌≡◌, true, List, [], ◌∷◌, ◌++◌, refl, sym, ◌∙◌, ap, subst}
-use Rattle.flow_messages.specs.Signals.{Signal, stop}
+use Rattle.std.proofs.Common.{◌≡◌, true, [], ◌∷◌, ◌++◌, refl, sym, ◌∙◌, ap, subst}
+use Rattle.flow_messages.specs.Signals.{stop}
 use Rattle.flow_messages.specs.Flats.{flat_signals}
 use Rattle.flow_base.specs.Members.{node_of}
 use Rattle.flow_base.specs.Passing.{PassedOn}

@@ -1,0 +1,50 @@
+-- Where a node stands, and what its calls leave.
+use Rattle.std.specs.Prelude.{◌≡◌, ℕ, cond, nat_lt, List, [], ◌∷◌, ◌++◌}
+use Rattle.flow_messages.specs.Ends.{View}
+use Rattle.flow_messages.specs.Flats.{flat_signals}
+use Rattle.flow_messages.specs.Signals.{Signal, signal_of, stop}
+use Rattle.flow_messages.specs.declared.flat.Flat.{Flat}
+use Rattle.flow_messages.specs.declared.flat.Flat.TheVariants.{End as EndFlat}
+use Rattle.flow_messages.specs.declared.message.Msg.{Msg}
+use Rattle.flow_base.specs.Nodes.{NodeState, behaviour_of, node_state}
+use Rattle.flow_base.specs.Passing.{PassedOn}
+use Rattle.flow_base.specs.Visits.{IsPlaced}
+use Rattle.flow_base.specs.declared.node.Node.{Node}
+use Rattle.flow_base.specs.declared.node.Phase.TheVariants.{Ending}
+use Rattle.flow_base.specs.declared.worker.Worker.{Ghosts}
+
+module _ {W : Type 0} (w : Ghosts W) where
+  -- what the laws of the node see of it
+  abbrev pub standing : Node W → NodeState (w.Parameters × w.State)
+  standing n = node_state (w.state n.worker) n.phase n.at
+
+  -- these are the edges at the ports of the node, and their ends are there
+  abbrev pub NodeIsPlaced : List ℕ → List ℕ → Node W → View → Type 0
+  NodeIsPlaced inputs outputs n v = IsPlaced (behaviour_of w.machine) inputs outputs (standing n) v
+
+  -- the node is where it was
+  abbrev pub StandsStill : Node W → Node W → Type 0
+  StandsStill n t = standing t ≡ standing n
+
+  -- the node read the message
+  abbrev pub NodeReads : Node W → Msg → Node W → Type 0
+  NodeReads n message t = standing t ≡ (behaviour_of w.machine).process.read (standing n) (signal_of message)
+
+  -- the node has read the end of its input and written that of each output
+  abbrev pub EndsAll : Node W → Node W → Type 0
+  EndsAll n t = standing t ≡ node_state (w.state n.worker) (Ending (w.machine.outputs (w.state n.worker).0)) n.at
+
+  -- an end, where there is an output
+  abbrev pub end_written : Node W → List Flat
+  end_written n = cond (nat_lt 0 (w.machine.outputs (w.state n.worker).0)) (EndFlat ∷ []) []
+
+  -- the node passed all of these on, and is where it was
+  abbrev pub PassesAll : Node W → List Flat → List Flat → Type 0
+  PassesAll n flats out = PassedOn (behaviour_of w.machine) (standing n) (flat_signals flats) (standing n) (flat_signals out)
+
+  -- the last of these is an end; the node passed those before it on, and is where it was
+  abbrev pub PassesToEnd : Node W → List Flat → List Flat → Type 0
+  PassesToEnd n flats out =
+      (items : List Signal)
+      × (flat_signals flats ≡ items ++ stop ∷ [])
+      × PassedOn (behaviour_of w.machine) (standing n) items (standing n) (flat_signals out)
