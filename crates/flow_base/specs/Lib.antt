@@ -31,4 +31,5 @@ pub mod Following
 pub mod Along
 pub mod Walks
 pub mod OnPorts
+pub mod Calls
 pub mod Standing

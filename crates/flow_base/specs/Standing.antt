@@ -7,7 +7,7 @@ use Rattle.flow_messages.specs.declared.flat.Flat.{Flat}
 use Rattle.flow_messages.specs.declared.flat.Flat.TheVariants.{End as EndFlat}
 use Rattle.flow_messages.specs.declared.message.Msg.{Msg}
 use Rattle.flow_base.specs.Nodes.{NodeState, behaviour_of, node_state}
-use Rattle.flow_base.specs.Passing.{PassedOn}
+use Rattle.flow_base.specs.Passing.{MayCome, PassedOn}
 use Rattle.flow_base.specs.Visits.{IsPlaced}
 use Rattle.flow_base.specs.declared.node.Node.{Node}
 use Rattle.flow_base.specs.declared.node.Phase.TheVariants.{Ending}
@@ -38,9 +38,17 @@ module _ {W : Type 0} (w : Ghosts W) where
   abbrev pub end_written : Node W → List Flat
   end_written n = cond (nat_lt 0 (w.machine.outputs (w.state n.worker).0)) (EndFlat ∷ []) []
 
+  -- each of these is an end or an item of the kind that the node first reads, and an end is the last
+  abbrev pub MayComeTo : Node W → List Flat → Type 0
+  MayComeTo n flats = MayCome (w.machine.kind_in (w.state n.worker).0 0) (flat_signals flats)
+
+  -- the node passed these on
+  abbrev pub PassesOn : Node W → List Flat → Node W → List Flat → Type 0
+  PassesOn n flats t out = PassedOn (behaviour_of w.machine) (standing n) (flat_signals flats) (standing t) (flat_signals out)
+
   -- the node passed all of these on, and is where it was
   abbrev pub PassesAll : Node W → List Flat → List Flat → Type 0
-  PassesAll n flats out = PassedOn (behaviour_of w.machine) (standing n) (flat_signals flats) (standing n) (flat_signals out)
+  PassesAll n flats out = PassesOn n flats n out
 
   -- the last of these is an end; the node passed those before it on, and is where it was
   abbrev pub PassesToEnd : Node W → List Flat → List Flat → Type 0

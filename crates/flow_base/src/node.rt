@@ -12,7 +12,7 @@ ghost use Rattle.flow_base.specs.Following.{node_passes};
 ghost use Rattle.flow_base.specs.Along.{AreApart};
 ghost use Rattle.flow_base.specs.Visits.{WentOn, Visited, BrokeOff};
 ghost use Rattle.flow_base.specs.Walks.{Walk};
-ghost use Rattle.flow_base.specs.Standing.{EndsAll, NodeIsPlaced, NodeReads, PassesAll, PassesToEnd, StandsStill, end_written};
+ghost use Rattle.flow_base.specs.Standing.{EndsAll, MayComeTo, NodeIsPlaced, NodeReads, PassesAll, PassesOn, PassesToEnd, StandsStill, end_written, standing};
 ghost use Rattle.flow_base.specs.declared.node.Phase.TheVariants.{Working, Ending};
 
 use crate::certain::{look_for_messages, put_in_space};
@@ -510,8 +510,7 @@ impl<W: Worker> Node<W> {
 
     // Whether it passes messages on from here.
     fn may_pass(&self) -> bool
-        ensures exact { result ≡ node_passes W.machine W.passes
-            (⟦<Node<W> as Transducer>⟧.state self.now) }
+        ensures exact { result ≡ node_passes W.machine W.passes (standing W.Worker self.now) }
         ensures one { result ≡ true → W.machine.inputs (W.state self.now.worker).0 ≡ 1 }
     {
         matches!(self.phase, Phase::Working)
@@ -522,10 +521,8 @@ impl<W: Worker> Node<W> {
     // Passes these items on, up to an end: what it writes to each output goes to `out`, and it stays as it is. Whether an end
     // came.
     fn pass_items(&self, flats: &[Flat], out: &mut Block) -> bool
-        requires passes { node_passes W.machine W.passes
-            (⟦<Node<W> as Transducer>⟧.state self.now) ≡ true }
-        requires come { MayCome (W.machine.kind_in (W.state self.now.worker).0 0)
-            (flat_signals flats.now) }
+        requires passes { node_passes W.machine W.passes (standing W.Worker self.now) ≡ true }
+        requires come { MayComeTo W.Worker self.now flats.now }
         requires short { length flats.now ≤ 64 }
         requires empty { out.old.items ≡ [] }
         ensures room { result ≡ true → length out.new.items < 64 }
@@ -593,19 +590,12 @@ impl<W: Worker> Transducer for Node<W> {
 
     // The worker is after each item where it was before.
     fn pass(&mut self, block: &Block, out: &mut Block) -> bool
-        requires { MayCome (W.machine.kind_in (W.state self.old.worker).0 0)
-            (flat_signals block.now.items) }
-        ensures passed { IsTrue result → PassedOn (behaviour_of W.machine)
-            (node_state (W.state self.old.worker) self.old.phase self.old.at)
-            (flat_signals block.now.items)
-            (node_state (W.state self.new.worker) self.new.phase self.new.at)
-            (flat_signals out.new.items) }
-        ensures kept { result ≡ false →
-            node_state (W.state self.new.worker) self.new.phase self.new.at ≡
-            node_state (W.state self.old.worker) self.old.phase self.old.at }
+        requires { MayComeTo W.Worker self.old block.now.items }
+        ensures passed { IsTrue result →
+            PassesOn W.Worker self.old block.now.items self.new out.new.items }
+        ensures kept { result ≡ false → StandsStill W.Worker self.old self.new }
         ensures untouched { result ≡ false → out.new.items ≡ out.old.items }
-        ensures exact { result ≡ node_passes W.machine W.passes
-            (node_state (W.state self.old.worker) self.old.phase self.old.at) }
+        ensures exact { result ≡ node_passes W.machine W.passes (standing W.Worker self.old) }
     {
         if !self.may_pass() {
             return false;

@@ -32,11 +32,11 @@ pub struct Port {
 pub trait Transducer {
     ghost use Rattle.std.specs.Prelude.{◌≡◌, ◌<◌, ℕ, false, IsTrue, IfOk, OnOk, OnErr, IsOk};
     ghost use Rattle.kahn.specs.declared.want.Want.TheVariants.{Read};
-    ghost use Rattle.flow_messages.specs.Signals.{signal_of};
     ghost use Rattle.flow_messages.specs.Ends.{SameEnds};
     ghost use Rattle.flow_base.specs.Transducers.{Behaviour, BehaviourLaws, IsWrite, ports_on, kind_on};
     ghost use Rattle.flow_messages.specs.Flats.{flat_signals};
-    ghost use Rattle.flow_base.specs.Passing.{MayCome, PassedOn};
+    ghost use Rattle.flow_base.specs.Passing.{MayCome};
+    ghost use Rattle.flow_base.specs.Calls.{ReadsMessage, WritesMessage, PassedBlock};
     ghost use Rattle.flow_base.specs.Visits.{IsPlaced, Visited, BrokeOff};
 
     /// What its laws see of it.
@@ -89,17 +89,14 @@ pub trait Transducer {
     /// then the transducer is unchanged, and the message is lost.
     fn give(&mut self, port: usize, message: Msg) -> Result<(), AllocError>
         requires { behaviour.process.want (state self.old) ≡ Read port }
-        ensures ok { OnOk result (state self.new ≡
-            behaviour.process.read (state self.old) (signal_of message)) }
+        ensures ok { OnOk result (ReadsMessage behaviour (state self.old) message (state self.new)) }
         ensures err { OnErr result (state self.new ≡ state self.old) }
         ensures sure { behaviour.takes_memory (state self.old) ≡ false → IsOk result };
 
     /// The message that it wanted to write. An error where memory was refused; then the transducer is unchanged.
     fn emit(&mut self) -> Result<Msg, AllocError>
         requires { IsWrite (behaviour.process.want (state self.old)) }
-        ensures ok { IfOk result (λ message. (signal_of message ≡
-            behaviour.process.written (state self.old)) ×
-            (state self.new ≡ behaviour.process.wrote (state self.old))) }
+        ensures ok { IfOk result (λ m. WritesMessage behaviour (state self.old) m (state self.new)) }
         ensures err { OnErr result (state self.new ≡ state self.old) }
         ensures sure { behaviour.takes_memory (state self.old) ≡ false → IsOk result };
 
@@ -110,8 +107,8 @@ pub trait Transducer {
     /// might take some, the answer is false.
     fn pass(&mut self, block: &Block, out: &mut Block) -> bool
         requires { MayCome (behaviour.kind_in (state self.old) 0) (flat_signals block.now.items) }
-        ensures passed { IsTrue result → PassedOn behaviour (state self.old)
-            (flat_signals block.now.items) (state self.new) (flat_signals out.new.items) }
+        ensures passed { IsTrue result →
+            PassedBlock behaviour state self.old block.now self.new out.new }
         ensures kept { result ≡ false → state self.new ≡ state self.old }
         ensures untouched { result ≡ false → out.new.items ≡ out.old.items }
     {

@@ -62,17 +62,17 @@ impl From<AllocError> for Stop {
 pub trait Worker {
     ghost use Rattle.std.specs.Prelude.{◌≤◌, ℕ, Bool, true};
     ghost use Rattle.flow_base.specs.Along.{MovesAlong};
-    ghost use Rattle.flow_messages.specs.Cells.{cell_of};
     ghost use Rattle.flow_messages.specs.Signals.{signal_of, is_stop};
     ghost use Rattle.flow_messages.specs.Flats.{message_of};
     ghost use Rattle.flow_messages.specs.Kinds.{fits};
     ghost use Rattle.flow_base.specs.Following.{Follows};
     ghost use Rattle.flow_messages.specs.Ends.{SameEnds};
     ghost use Rattle.flow_base.specs.Nodes.{behaviour_of, node_state};
-    ghost use Rattle.flow_base.specs.Visits.{PortsHaveEdges, TakeKinds, Went};
+    ghost use Rattle.flow_base.specs.Visits.{TakeKinds, Went};
     ghost use Rattle.flow_base.specs.declared.node.Phase.TheVariants.{Working};
-    ghost use Rattle.flow_base.specs.Workers.{Takes, IsReading, IsWriting};
-    ghost use Rattle.flow_base.specs.Machines.{Machine, MachineLaws, move_of, ask_of, state_after_read, written_cell, state_after_write, with_parameters};
+    ghost use Rattle.flow_base.specs.Workers.{IsReading, IsWriting};
+    ghost use Rattle.flow_base.specs.Calls.{GivesItem, HasEdges, TakesItem};
+    ghost use Rattle.flow_base.specs.Machines.{Machine, MachineLaws, move_of, ask_of};
     ghost use Rattle.flow_base.specs.declared.worker.Stop.TheVariants.{OutOfMemory};
 
     /// What stays as it is from one instance to the next.
@@ -115,21 +115,14 @@ pub trait Worker {
     /// does but memory was refused: a fault is never answered as want of memory. In both the worker is unchanged.
     fn take(&mut self, item: Item) -> Result<(), Stop>
         requires { IsReading (ask_of (move_of machine (state self.old))) }
-        ensures takes { Takes (with_parameters (state self.old).0
-            (state_after_read (move_of machine (state self.old)) (cell_of item)))
-            (state self.old) result (state self.new) }
+        ensures takes { TakesItem machine (state self.old) item result (state self.new) }
         ensures sure { machine.takes_memory (state self.old).1 ≡ false →
             result ≡ Err OutOfMemory → ⊥ };
 
     /// Gives the item that it wanted to write. An error where memory was refused; then the worker is unchanged.
     fn give(&mut self) -> Result<Item, AllocError>
         requires { IsWriting (ask_of (move_of machine (state self.old))) }
-        ensures ok { IfOk result (λ item.
-            (cell_of item ≡ written_cell (move_of machine (state self.old))) ×
-            (state self.new ≡ (
-              (state self.old).0,
-              state_after_write (state self.old).1 (move_of machine (state self.old)),
-            ))) }
+        ensures ok { IfOk result (λ item. GivesItem machine (state self.old) item (state self.new)) }
         ensures err { OnErr result (state self.new ≡ state self.old) }
         ensures sure { machine.takes_memory (state self.old).1 ≡ false → IsOk result };
 
@@ -182,8 +175,7 @@ pub trait Worker {
         ends: &mut E,
         most: usize,
     ) -> usize
-        requires wired { PortsHaveEdges inputs.now outputs.now (machine.inputs (state self.old).0)
-            (machine.outputs (state self.old).0) (E.view ends.old) }
+        requires wired { HasEdges machine (state self.old) inputs.now outputs.now (E.view ends.old) }
         requires kinds { TakeKinds outputs.now (machine.kind_out (state self.old).0)
             (E.view ends.old) }
         ensures same { E.same ends.old ends.new }
