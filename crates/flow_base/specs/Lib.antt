@@ -32,4 +32,5 @@ pub mod Along
 pub mod Walks
 pub mod OnPorts
 pub mod Calls
+pub mod Impls
 pub mod Standing

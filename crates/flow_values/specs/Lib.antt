@@ -13,3 +13,9 @@ pub mod TabBlocks
 pub mod laws
 pub mod ValueNodes
 pub mod Rows
+pub mod VectorsRead
+pub mod IndexSteps
+pub mod Growths
+pub mod PrintSteps
+pub mod SeqSteps
+pub mod TabSteps

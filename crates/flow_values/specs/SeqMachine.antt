@@ -1,6 +1,6 @@
 -- The elements of each vector as a sequence: the machine. Its parameter is the type of the elements, and its state the
 -- items that are due; with none of them a vector may come.
-use Rattle.std.specs.Prelude.{ℕ, zero, true, false, not, Bool, List, [], ◌∷◌, Option, Some, None, cond, drop, length, Result, Ok, Err}
+use Rattle.std.specs.Prelude.{ℕ, ◌+◌, ◌*◌, zero, true, false, not, Bool, List, [], ◌∷◌, Option, Some, None, cond, drop, length, Result, Ok, Err}
 use Rattle.snesl_data.specs.declared.fault.FaultKind.{FaultKind}
 use Rattle.snesl_data.specs.declared.fault.FaultKind.TheVariants.{Shape}
 use Rattle.snesl_data.specs.Types.{Ty, bool, seq}
@@ -9,6 +9,7 @@ use Rattle.snesl_data.specs.declared.datum.Elements.{Elements}
 use Rattle.flow_messages.specs.Cells.{Cell, flag, datum}
 use Rattle.flow_messages.specs.declared.message.Kind.TheVariants.{Vec as VecKind}
 use Rattle.flow_base.specs.Machines.{Move, begins, gives, on_kind, Machine}
+use Rattle.flow_base.specs.declared.slices.Moved.{Moved}
 use Rattle.flow_values.specs.Shapes.{all_are, kinds_of, kind_at}
 use Rattle.flow_values.specs.Flats.{width}
 use Rattle.flow_values.specs.Dues.{DueCell, dues_of, segment_dues, output_of, DuesOfKind, DuesInRange}
@@ -43,6 +44,11 @@ left_dues item (Some elements) place = segment_dues item 0 (drop place (entries 
 abbrev pub writes_such : Ty → Option Elements → Bool
 writes_such item None = true
 writes_such item (Some elements) = all_are item (elements_of elements)
+
+-- so many rounds, each a flag and an integer, and so many flags more
+abbrev pub rounds_moved : ℕ → ℕ → Moved
+rounds_moved rounds ends =
+    record { first = 0; second = 0; units = 0; flags = rounds + ends; ints = rounds; steps = 2 * rounds + ends }
 
 abbrev pub seq_machine : Machine Ty (List DueCell)
 seq_machine = record {

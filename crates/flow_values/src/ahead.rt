@@ -4,9 +4,9 @@ ghost use Rattle.std.specs.Prelude.{◌≡◌, ◌+◌, ◌++◌, [], ◌∷◌,
 ghost use Rattle.snesl_data.specs.Types.{ty_of, seq};
 ghost use Rattle.flow_messages.specs.Cells.{cell_of};
 ghost use Rattle.flow_values.specs.Places.{PortsFit};
-ghost use Rattle.flow_values.specs.PrintMachine.{closing_brackets, entered_value, next};
-ghost use Rattle.flow_values.specs.PrintMachine as machine;
-ghost use Rattle.flow_values.specs.Aheads.{pending_of, stack, LeadsAhead, Finds};
+ghost use Rattle.flow_values.specs.PrintMachine.{closing_brackets, next};
+ghost use Rattle.flow_values.specs.Aheads.{pending_of, LeadsAhead, Finds};
+ghost use Rattle.flow_values.specs.PrintSteps.{ElementIsAhead, Says, entered_item};
 
 use crate::pending::{Flags, Pending, Place};
 use crate::shapes::{are_elements, edge_count, is_typed};
@@ -75,7 +75,7 @@ impl Ahead {
     }
 
     fn say(&mut self, bytes: &[u8]) -> Result<(), AllocError>
-        ensures text { OnOk result (self.new.text.items ≡ self.old.text.items ++ bytes.now) }
+        ensures text { OnOk result (Says self.old bytes.now self.new) }
         ensures pending { self.new.pending.items ≡ self.old.pending.items }
     {
         self.text.extend_from_slice(bytes)
@@ -83,8 +83,7 @@ impl Ahead {
 
     // The last text of a value, and the brackets closed after it.
     fn finish(&mut self, bytes: &[u8], brackets: usize) -> Result<(), AllocError>
-        ensures text { OnOk result (self.new.text.items ≡
-            self.old.text.items ++ (bytes.now ++ closing_brackets brackets)) }
+        ensures text { OnOk result (Says self.old (bytes.now ++ closing_brackets brackets) self.new) }
         ensures pending { self.new.pending.items ≡ self.old.pending.items }
     {
         self.text.extend_from_slice(bytes)?;
@@ -104,12 +103,8 @@ impl Ahead {
         brackets: usize,
     ) -> Result<(), AllocError>
         requires { PortsFit (seq (ty_of item.now)) port brackets }
-        ensures text { OnOk result (self.new.text.items ≡ self.old.text.items ++ bytes.now) }
-        ensures pending { OnOk result ((after : List machine.Pending) →
-            stack self.new.pending.items after ≡
-            machine.whole false (ty_of item.now) (port + 1) 0 ∷
-            machine.further (ty_of item.now) port brackets ∷
-            stack self.old.pending.items after) }
+        ensures text { OnOk result (Says self.old bytes.now self.new) }
+        ensures pending { OnOk result (ElementIsAhead self.old item.now port brackets self.new) }
     {
         self.say(bytes)?;
         let further = Flags {
@@ -137,8 +132,7 @@ impl Ahead {
         item: &Item,
     ) -> Result<(), Stop>
         requires { PortsFit (ty_of ty.now) port brackets }
-        ensures { LeadsAhead (entered_value (ty_of ty.now) port brackets (cell_of item.now))
-            result self.old self.new }
+        ensures { LeadsAhead (entered_item ty.now port brackets item.now) result self.old self.new }
     {
         match (ty, item) {
             (Ty::Int, Item::Int(number)) => {

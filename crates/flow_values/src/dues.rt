@@ -5,7 +5,8 @@ ghost use Rattle.snesl_data.specs.Types.{ty_of, seq};
 ghost use Rattle.snesl_data.specs.Values.{value_of, values_of, a_vec, elements_of};
 ghost use Rattle.flow_values.specs.Shapes.{is_a, all_are};
 ghost use Rattle.flow_values.specs.Flats.{width};
-ghost use Rattle.flow_values.specs.Dues.{due, due_cell, dues_of, segment_dues, output_of};
+ghost use Rattle.flow_values.specs.Dues.{due, output_of};
+ghost use Rattle.flow_values.specs.Growths.{DuesGrow, all_dues, value_dues};
 ghost use Rattle.flow_messages.specs.Cells.{cell_of, datum};
 
 use crate::shapes::edge_count;
@@ -33,8 +34,7 @@ impl Due {
 
 // Adds an item.
 fn add(dues: &mut VecDeque<Due>, port: usize, item: Item) -> Result<(), AllocError>
-    ensures { OnOk result (map due_cell dues.new.items ≡
-        map due_cell dues.old.items ++ due port (cell_of item) ∷ []) }
+    ensures { OnOk result (DuesGrow dues.old.items (due port (cell_of item) ∷ []) dues.new.items) }
 {
     dues.push_back(Due { port, item })?;
     Ok(())
@@ -72,8 +72,8 @@ pub fn add_value(
 ) -> Result<(), AllocError>
     requires fits { port + width (ty_of ty.now) < 2 ^ 64 }
     requires of_type { is_a (ty_of ty.now) (value_of datum.now) ≡ true }
-    ensures { OnOk result (map due_cell dues.new.items ≡
-        map due_cell dues.old.items ++ dues_of (ty_of ty.now) port (value_of datum.now)) }
+    ensures { OnOk result (DuesGrow dues.old.items (value_dues ty.now port datum.now)
+        dues.new.items) }
 {
     match (ty, datum) {
         (Ty::Int, Datum::Int(number)) => add(dues, port, Item::Int(*number)),
@@ -102,8 +102,8 @@ fn add_segment(
 ) -> Result<(), AllocError>
     requires fits { port + width (seq (ty_of item.now)) < 2 ^ 64 }
     requires of_type { all_are (ty_of item.now) (values_of (map value_of all.now)) ≡ true }
-    ensures { OnOk result (map due_cell dues.new.items ≡
-        map due_cell dues.old.items ++ segment_dues (ty_of item.now) port (map value_of all.now)) }
+    ensures { OnOk result (DuesGrow dues.old.items (all_dues item.now port all.now)
+        dues.new.items) }
 {
     for datum in all {
         add(dues, port, Item::Bool(false))?;

@@ -2,20 +2,15 @@
 
 ghost use Rattle.std.specs.Prelude.{◌≡◌, ◌<◌, ◌≤◌, ℕ, pos, [], ◌∷◌, length, true, option_map, IfOk, IfSome, OnErr, IsSome, false};
 ghost use Rattle.std.specs.List.{All};
-ghost use mathlib.Core.List.{IsPrefix};
 ghost use Rattle.snesl_data.specs.Types.{Ty as ElementType, ty_of};
 ghost use Rattle.snesl_data.specs.Values.{value_of, a_vec, elements_of};
 ghost use Rattle.flow_messages.specs.Cells.{cell_of, datum};
 ghost use Rattle.flow_messages.specs.Ends.{SameEnds};
-ghost use Rattle.flow_messages.specs.Signals.{carry};
-ghost use Rattle.flow_base.specs.Nodes.{behaviour_of, node_state};
-ghost use Rattle.flow_base.specs.Visits.{edge_of, PortsHaveEdges, TakeKinds, Went};
-ghost use Rattle.flow_base.specs.declared.node.Phase.TheVariants.{Working};
 ghost use Rattle.flow_values.specs.Shapes.{kinds_of, kind_at};
-ghost use Rattle.flow_values.specs.Flats.{width};
 ghost use Rattle.flow_values.specs.Rows.{element_at};
 ghost use Rattle.flow_values.specs.IndexMachine.{index_state, index_machine, writing, holds_such};
-ghost use Rattle.flow_values.specs.IndexPairs.{ScalarAt, PairShown};
+ghost use Rattle.flow_values.specs.IndexPairs.{ScalarAt};
+ghost use Rattle.flow_values.specs.VectorsRead.{VectorComes};
 
 use crate::dues::{Due, add_value};
 use crate::shapes::{add_types, are_elements, kind_at, kinds};
@@ -53,6 +48,8 @@ pub struct Index {
 }
 
 impl Index {
+    ghost use Rattle.flow_values.specs.IndexSteps.{IndexHasEdges, IndexTakesKinds, IndexWent, PairComes};
+
     /// A worker for vectors of elements of this type, before its first vector. Its only error is that memory was
     /// refused.
     pub fn new(alloc: Global, element: Ty) -> Result<Index, AllocError>
@@ -78,9 +75,8 @@ impl Index {
     fn element_shown<E: Ends>(&self, inputs: &[usize], ends: &E) -> Option<Item>
         requires ports { 1 < length inputs.now }
         requires reads { All (λ e. (E.view ends.now).reads e ≡ true) inputs.now }
-        ensures { IfSome result (λ item. PairShown (ty_of self.now.element)
-            ((E.view ends.now).coming (edge_of inputs.now 0))
-            ((E.view ends.now).coming (edge_of inputs.now 1)) (cell_of item)) }
+        ensures { IfSome result (λ item.
+            PairComes self.now.element (E.view ends.now) inputs.now item) }
     {
         let Some(all) = vector_shown(ends, inputs[0]) else {
             return None;
@@ -107,16 +103,13 @@ impl Index {
     fn pair_on<E: Ends>(&self, inputs: &[usize], outputs: &[usize], ends: &mut E) -> usize
         requires between { index_state self.now.held self.now.dues.items ≡ writing [] }
         requires some { 0 < length outputs.now }
-        requires wired { PortsHaveEdges inputs.now outputs.now 2 (width (ty_of self.now.element))
+        requires wired { IndexHasEdges self.now.element inputs.now outputs.now
             (E.view ends.old) }
-        requires kinds { TakeKinds outputs.now (kind_at (kinds_of (ty_of self.now.element)))
-            (E.view ends.old) }
+        requires kinds { IndexTakesKinds self.now.element outputs.now (E.view ends.old) }
         ensures same { E.same ends.old ends.new }
         ensures ends { SameEnds (E.view ends.old) (E.view ends.new) }
         ensures within { result ≤ 3 }
-        ensures went { (at : ℕ) → Went inputs.now outputs.now (behaviour_of index_machine)
-            (node_state (⟦<Index as Worker>⟧.state self.now) Working at) (E.view ends.old)
-            (node_state (⟦<Index as Worker>⟧.state self.now) Working at) (E.view ends.new)
+        ensures went { IndexWent E.Ends inputs.now outputs.now self.now ends.old ends.new
             result }
     {
         if !ends.room(outputs[0]) {
@@ -142,16 +135,13 @@ impl Index {
     ) -> usize
         requires between { index_state self.now.held self.now.dues.items ≡ writing [] }
         requires some { 0 < length outputs.now }
-        requires wired { PortsHaveEdges inputs.now outputs.now 2 (width (ty_of self.now.element))
+        requires wired { IndexHasEdges self.now.element inputs.now outputs.now
             (E.view ends.old) }
-        requires kinds { TakeKinds outputs.now (kind_at (kinds_of (ty_of self.now.element)))
-            (E.view ends.old) }
+        requires kinds { IndexTakesKinds self.now.element outputs.now (E.view ends.old) }
         ensures same { E.same ends.old ends.new }
         ensures ends { SameEnds (E.view ends.old) (E.view ends.new) }
         ensures within { result ≤ most }
-        ensures went { (at : ℕ) → Went inputs.now outputs.now (behaviour_of index_machine)
-            (node_state (⟦<Index as Worker>⟧.state self.now) Working at) (E.view ends.old)
-            (node_state (⟦<Index as Worker>⟧.state self.now) Working at) (E.view ends.new)
+        ensures went { IndexWent E.Ends inputs.now outputs.now self.now ends.old ends.new
             result }
     {
         let mut made = 0;
@@ -170,8 +160,7 @@ impl Index {
 #[inline(always)]
 fn vector_shown<E: Ends>(ends: &E, edge: usize) -> Option<&Elements>
     requires { (E.view ends.now).reads edge ≡ true }
-    ensures { IfSome result (λ all. IsPrefix (carry (datum (a_vec (elements_of all.now))) ∷ [])
-        ((E.view ends.now).coming edge)) }
+    ensures { IfSome result (λ all. VectorComes (E.view ends.now) edge all.now) }
 {
     match ends.front(edge) {
         Some(Msg::Item(Item::Vec(all))) => Some(all),
@@ -216,7 +205,7 @@ fn scalar_at(all: &Elements, place: usize) -> Option<Item>
 
 // A copy of the element at this index, counted from 0, where there is one. Memory is refused only there.
 fn element_at(alloc: Global, all: &Elements, index: i128) -> Result<Option<Datum>, AllocError>
-    ensures ok { IfOk result (λ found. option_map value_of found ≡
+    ensures ok { IfOk result (λ d. option_map value_of d ≡
         element_at (elements_of all.now) index) }
     ensures err { OnErr result (IsSome (element_at (elements_of all.now) index)) }
 {

@@ -2,11 +2,9 @@
 
 ghost use Rattle.std.specs.Prelude.{◌≡◌, false, [], ◌∷◌, ◌++◌, List, IfOk, OnOk, OnErr, IsOk};
 ghost use Rattle.snesl_data.specs.Types.{ty_of};
-ghost use Rattle.flow_messages.specs.Cells.{cell_of};
-ghost use Rattle.flow_messages.specs.Signals.{signal_of};
 ghost use Rattle.flow_values.specs.Shapes.{kinds_of};
-ghost use Rattle.flow_values.specs.PrintMachine.{print_opening, print_behaviour, print_reading, went_on};
-ghost use Rattle.flow_values.specs.Aheads.{stack, where_led, LooksAhead};
+ghost use Rattle.flow_values.specs.PrintMachine.{print_opening, print_behaviour};
+ghost use Rattle.flow_base.specs.Impls.{KeepsState, StandsAsOpened, WritesAs, takes_memory_at};
 ghost use Rattle.flow_values.specs.laws.Print.{PrintsText};
 
 use crate::ahead::Ahead;
@@ -43,6 +41,8 @@ pub struct Print {
 }
 
 impl Print {
+    ghost use Rattle.flow_values.specs.PrintSteps.{PrintAdvances, PrintLooksAhead};
+
     /// Before the value. Its faults are at this place, a byte offset in the program text. Its only error is that memory
     /// was refused.
     pub fn new(alloc: Global, ty: Ty, at: usize) -> Result<Print, AllocError>
@@ -86,9 +86,7 @@ impl Print {
     // What comes in place of what is to be read next, where this is its next item. `Shape` where it is not.
     fn ahead(&self, item: &Item) -> Result<Ahead, Stop>
         requires { self.now.stuck ≡ false }
-        ensures { let state = ⟦<Print as Transducer>⟧.state self.now in
-            LooksAhead (where_led state.step state (cell_of item.now))
-            self.now.pending.items self.now.text.items result }
+        ensures { PrintLooksAhead self.now item.now result }
     {
         match self.pending.last() {
             Some(pending) => {
@@ -105,13 +103,8 @@ impl Print {
     // What was to be read next is done, and this comes in its place.
     fn advance(&mut self, ahead: Ahead) -> Result<(), AllocError>
         requires { self.old.stuck ≡ false }
-        ensures ok { OnOk result ((rest : List Pending) (first : Pending) → self.old.pending.items ≡
-            rest ++ first ∷ [] → ⟦<Print as Transducer>⟧.state self.new ≡
-            went_on (⟦<Print as Transducer>⟧.state self.old)
-            (Some (print_reading (stack ahead.pending.items (stack rest []))
-            (self.old.text.items ++ ahead.text.items)))) }
-        ensures err { OnErr result (⟦<Print as Transducer>⟧.state self.new ≡
-            ⟦<Print as Transducer>⟧.state self.old) }
+        ensures ok { OnOk result (PrintAdvances self.old ahead self.new) }
+        ensures err { OnErr result (KeepsState ⟦<Print as Transducer>⟧ self.old self.new) }
     {
         let mut pending = ahead.pending;
         self.pending.reserve(pending.len())?;
@@ -206,14 +199,9 @@ impl Transducer for Print {
     }
 
     fn emit(&mut self) -> Result<Msg, AllocError>
-        ensures ok { IfOk result (λ message. (signal_of message ≡
-            print_behaviour.process.written (⟦<Print as Transducer>⟧.state self.old)) ×
-            (⟦<Print as Transducer>⟧.state self.new ≡
-            print_behaviour.process.wrote (⟦<Print as Transducer>⟧.state self.old))) }
-        ensures err { OnErr result (⟦<Print as Transducer>⟧.state self.new ≡
-            ⟦<Print as Transducer>⟧.state self.old) }
-        ensures sure { print_behaviour.takes_memory (⟦<Print as Transducer>⟧.state self.old) ≡
-            false → IsOk result }
+        ensures ok { IfOk result (λ m. WritesAs ⟦<Print as Transducer>⟧ self.old m self.new) }
+        ensures err { OnErr result (KeepsState ⟦<Print as Transducer>⟧ self.old self.new) }
+        ensures sure { takes_memory_at ⟦<Print as Transducer>⟧ self.old ≡ false → IsOk result }
     {
         Ok(Msg::End)
     }
@@ -222,7 +210,6 @@ impl Transducer for Print {
 /// A law and no code to run: where a transducer has ended that was opened as this one, it read one value of its type, and
 /// its text is the text of that value.
 pub fn prints_text(opened: &Print)
-    requires { print_behaviour.opening (⟦<Print as Transducer>⟧.state opened.now) ≡
-        ⟦<Print as Transducer>⟧.state opened.now }
+    requires { StandsAsOpened ⟦<Print as Transducer>⟧ opened.now }
     ensures { PrintsText (⟦<Print as Transducer>⟧.state opened.now) }
 {}

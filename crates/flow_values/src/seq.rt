@@ -4,10 +4,10 @@ ghost use Rattle.std.specs.Prelude.{◌≡◌, ◌+◌, ◌*◌, ◌^◌, ◌<�
 ghost use Rattle.snesl_data.specs.Types.{Ty as ElementType, ty_of, int, seq};
 ghost use Rattle.snesl_data.specs.Values.{an_int};
 ghost use Rattle.flow_messages.specs.Cells.{cell_of};
-ghost use Rattle.flow_base.specs.Machines.{move_of, written_cell, state_after_write};
+ghost use Rattle.flow_base.specs.Impls.{GivesAs};
 ghost use Rattle.flow_values.specs.Shapes.{kinds_of};
 ghost use Rattle.flow_values.specs.Dues.{DueCell, due_cell, segment_dues};
-ghost use Rattle.flow_values.specs.SeqMachine.{seq_machine, seq_takes_memory, left_dues, writes_such};
+ghost use Rattle.flow_values.specs.SeqMachine.{rounds_moved, seq_machine, seq_takes_memory, left_dues, writes_such};
 
 use crate::dues::{Due, add_value};
 use crate::shapes::{add_kinds, add_types, kind_at};
@@ -62,14 +62,7 @@ fn put_elements(ints: &[i64], block: &mut Written)
 #[inline(always)]
 fn wrote(rounds: usize, ends: usize) -> Moved
     requires { 2 * rounds + ends < 2 ^ 64 }
-    ensures { result ≡ record {
-      first = 0;
-      second = 0;
-      units = 0;
-      flags = rounds + ends;
-      ints = rounds;
-      steps = 2 * rounds + ends;
-    } }
+    ensures { result ≡ rounds_moved rounds ends }
 {
     Moved {
         first: 0,
@@ -82,6 +75,8 @@ fn wrote(rounds: usize, ends: usize) -> Moved
 }
 
 impl Seq {
+    ghost use Rattle.flow_values.specs.SeqSteps.{IntsAreLeft};
+
     /// A worker for vectors of elements of this type, before its first vector. Its only error is that memory was
     /// refused.
     pub fn new(alloc: Global, element: Ty) -> Result<Seq, AllocError>
@@ -110,9 +105,7 @@ impl Seq {
         ensures none { IfSome result (λ _. self.now.dues.items ≡ []) }
         ensures element { IfSome result (λ _. ty_of self.now.element ≡ int) }
         ensures fits { IfSome result (λ ints. self.now.begun + length ints.now < 2 ^ 64) }
-        ensures left { IfSome result (λ ints. (n : ℕ) →
-            left_dues int self.now.vector (self.now.begun + n) ≡
-            segment_dues int 0 (map an_int (drop n ints.now))) }
+        ensures left { IfSome result (λ ints. (n : ℕ) → IntsAreLeft self.now ints.now n) }
     {
         let Some(elements) = &self.vector else {
             return None;
@@ -131,13 +124,7 @@ impl Seq {
     fn flag(&mut self) -> Result<Item, AllocError>
         requires none { self.old.dues.items ≡ [] }
         requires some { IsSome self.old.vector }
-        ensures ok { IfOk result (λ item.
-            (cell_of item ≡ written_cell (move_of seq_machine (⟦<Seq as Worker>⟧.state self.old))) ×
-            (⟦<Seq as Worker>⟧.state self.new ≡ (
-              ty_of self.old.element,
-              state_after_write (⟦<Seq as Worker>⟧.state self.old).1
-                  (move_of seq_machine (⟦<Seq as Worker>⟧.state self.old)),
-            ))) }
+        ensures ok { IfOk result (λ item. GivesAs ⟦<Seq as Worker>⟧ self.old item self.new) }
         ensures err { OnErr result (⟦<Seq as Worker>⟧.state self.new ≡
             ⟦<Seq as Worker>⟧.state self.old) }
         ensures sure { seq_takes_memory (⟦<Seq as Worker>⟧.state self.old).1 ≡ false →

@@ -4,7 +4,8 @@ ghost use Rattle.std.specs.Prelude.{◌≡◌, ◌<◌, ◌^◌, ◌++◌, map, 
 ghost use Rattle.snesl_data.specs.Types.{ty_of};
 ghost use Rattle.snesl_data.specs.Values.{value_of, values_of, elements_of};
 ghost use Rattle.flow_messages.specs.Cells.{cell_of};
-ghost use Rattle.flow_values.specs.Shapes.{is_a, all_are, is_int_type, is_bool_type, ShapesAreTested, kinds_of, kind_at, kept_type, kept_types, shared_type};
+ghost use Rattle.flow_values.specs.Shapes.{is_a, all_are, is_int_type, is_bool_type, ShapesAreTested, kinds_of, kind_at, kept_type, shared_type};
+ghost use Rattle.flow_values.specs.Growths.{TypesGrow};
 ghost use Rattle.flow_values.specs.Flats.{width};
 ghost use Rattle.flow_values.specs.Parts.{part_fits};
 
@@ -110,8 +111,7 @@ pub fn add_kinds(all: &mut Vec<Kind>, ty: &Ty) -> Result<(), AllocError>
 /// Of each edge of the type, in order, the type of the elements of the vectors on it, as far as `kept_type` keeps one. Its
 /// only error is that memory was refused.
 pub fn add_types(all: &mut Vec<Option<Arc<Ty>>>, alloc: Global, ty: &Ty) -> Result<(), AllocError>
-    ensures { OnOk result (map shared_type all.new.items ≡
-        map shared_type all.old.items ++ kept_types (ty_of ty.now)) }
+    ensures { OnOk result (TypesGrow all.old.items ty.now all.new.items) }
 {
     match ty {
         Ty::Int | Ty::Bool => all.push(None)?,

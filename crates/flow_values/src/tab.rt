@@ -12,7 +12,9 @@ ghost use Rattle.flow_values.specs.Shapes.{kinds_of};
 ghost use Rattle.flow_values.specs.Parts.{built, PartsFit};
 ghost use Rattle.flow_base.specs.Machines.{state_after_item, with_parameters};
 ghost use Rattle.flow_values.specs.TabMachine.{TabState, start, tab_state, staged, flag_taking, grown, item_given, item_port, MakesDatum};
-ghost use Rattle.flow_values.specs.TabBlocks.{AddsScalars, AwaitsFlag};
+ghost use Rattle.flow_values.specs.TabBlocks.{AwaitsFlag};
+ghost use Rattle.flow_values.specs.Growths.{AddsShown, ElementsGrow};
+ghost use Rattle.flow_values.specs.VectorsRead.{FitType};
 
 use crate::shapes::{add_kinds, are_elements, is_typed, kept_type, kind_at, part_fits};
 use flow_base::{Ask, Moved, Shown, Stop, Worker, Written};
@@ -69,6 +71,8 @@ enum Stage {
 }
 
 impl Tab {
+    ghost use Rattle.flow_values.specs.TabSteps.{TabCloses, TabTakesItem, flag_leads, tab_stage};
+
     /// A worker for elements of this type, before its first sequence. Its only error is that memory was refused.
     pub fn new(alloc: Global, element: Ty) -> Result<Tab, AllocError>
         ensures { IfOk result (λ worker. ⟦<Tab as Worker>⟧.state worker ≡ (ty_of element, start)) }
@@ -102,8 +106,8 @@ impl Tab {
 
     // The type of its elements, shared, where it is kept. Its only error is that too many share it.
     fn known(&self) -> Result<Option<Arc<Ty>>, AllocError>
-        ensures { IfOk result (λ of. (vs : Values) →
-            all_are (ty_of self.now.element) vs ≡ true → are_as_known of vs ≡ true) }
+        ensures { IfOk result (λ t. (v : Values) → FitType self.now.element v →
+            are_as_known t v ≡ true) }
     {
         match &self.of {
             Some(of) if of.is(&self.element) => Ok(Some(Arc::try_clone(of)?)),
@@ -113,8 +117,7 @@ impl Tab {
 
     // Where a flag leads.
     fn at_flag(&self, item: &Item) -> Result<Stage, FaultKind>
-        ensures { (es : List Value) → staged es result ≡
-            state_after_item (flag_taking (ty_of self.now.element) es) (cell_of item.now) }
+        ensures { (es : List Value) → staged es result ≡ flag_leads self.now.element es item.now }
     {
         let Item::Bool(end) = item else {
             return Err(FaultKind::Shape);
@@ -133,8 +136,8 @@ impl Tab {
     #[inline(always)]
     fn awaits_flag(&mut self) -> bool
         ensures same { ⟦<Tab as Worker>⟧.state self.new ≡ ⟦<Tab as Worker>⟧.state self.old }
-        ensures awaits { result ≡ true → AwaitsFlag (⟦<Tab as Worker>⟧.state self.new).1
-            (built_in self.new.elements) }
+        ensures awaits { result ≡ true →
+            AwaitsFlag (tab_stage self.new) (built_in self.new.elements) }
     {
         match self.stage {
             Stage::Start => {
@@ -149,10 +152,7 @@ impl Tab {
     // Where all items of the next element are there, adds the element.
     fn close(&mut self) -> Result<(), Stop>
         requires { self.old.stage ≡ Stage.Item }
-        ensures state { Takes (with_parameters (ty_of self.old.element)
-            (grown (ty_of self.old.element) (built_in self.old.elements)
-            (map cell_of self.old.items.items))) (⟦<Tab as Worker>⟧.state self.old) result
-            (⟦<Tab as Worker>⟧.state self.new) }
+        ensures state { TabCloses self.old result self.new }
         ensures items { self.new.items.items ≡ self.old.items.items }
     {
         if self.items.len() < self.kinds.len() - 1 {
@@ -173,10 +173,7 @@ impl Tab {
     // Takes the next item of an element.
     fn take_item(&mut self, item: Item) -> Result<(), Stop>
         requires { self.old.stage ≡ Stage.Item }
-        ensures { Takes (with_parameters (ty_of self.old.element)
-            (item_given (ty_of self.old.element) (built_in self.old.elements)
-            (map cell_of self.old.items.items) (cell_of item)))
-            (⟦<Tab as Worker>⟧.state self.old) result (⟦<Tab as Worker>⟧.state self.new) }
+        ensures { TabTakesItem self.old item result self.new }
     {
         if self.item_port() == 0 || !part_fits(&self.element, self.items.len(), &item) {
             return Err(Stop::Faulted(FaultKind::Shape));
@@ -224,8 +221,8 @@ fn end_behind(flags: &[bool], elements: usize, most: usize) -> bool
 #[inline(always)]
 fn push_ints(elements: &mut Builder, alloc: Global, ints: &[i64]) -> usize
     ensures within { result ≤ length ints.now }
-    ensures added { built_in elements.new ≡
-        built_in elements.old ++ map an_int (take result ints.now) }
+    ensures added { ElementsGrow elements.old (map an_int (take result ints.now))
+        elements.new }
 {
     for place in 0..ints.len() {
         let datum = Datum::Int(ints[place] as i128);
@@ -240,8 +237,8 @@ fn push_ints(elements: &mut Builder, alloc: Global, ints: &[i64]) -> usize
 #[inline(always)]
 fn push_truths(elements: &mut Builder, alloc: Global, truths: &[bool]) -> usize
     ensures within { result ≤ length truths.now }
-    ensures added { built_in elements.new ≡
-        built_in elements.old ++ map a_bool (take result truths.now) }
+    ensures added { ElementsGrow elements.old (map a_bool (take result truths.now))
+        elements.new }
 {
     for place in 0..truths.len() {
         let datum = Datum::Bool(truths[place]);
@@ -263,8 +260,7 @@ fn push_shown(
 ) -> usize
     ensures within { result ≤ most }
     ensures shown { result ≤ length (shown_signals shown.entry) }
-    ensures added { AddsScalars (ty_of of.now) (take result (shown_signals shown.entry))
-        (built_in elements.old) (built_in elements.new) }
+    ensures added { AddsShown of.now result shown.entry elements.old elements.new }
 {
     match of {
         Ty::Int => {

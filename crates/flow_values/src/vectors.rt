@@ -5,6 +5,7 @@ ghost use Rattle.snesl_data.specs.Types.{ty_of};
 ghost use Rattle.snesl_data.specs.Values.{Values, a_vec, elements_of};
 ghost use Rattle.flow_messages.specs.Cells.{cell_of, datum};
 ghost use Rattle.flow_values.specs.Shapes.{all_are};
+ghost use Rattle.flow_values.specs.VectorsRead.{FailType, IsVector};
 
 use crate::shapes::{are_elements, is_typed};
 use flow_messages::Item;
@@ -17,8 +18,8 @@ pub fn vector_in(element: &Ty, item: Item) -> Result<Elements, FaultKind>
     ensures vector { IfOk result (λ all. cell_of item ≡ datum (a_vec (elements_of all))) }
     ensures of_type { IfOk result (λ all. all_are (ty_of element.now) (elements_of all) ≡ true) }
     ensures kind { IfErr result (λ kind. kind ≡ FaultKind.Shape) }
-    ensures none { OnErr result ((vs : Values) → cell_of item ≡ datum (a_vec vs) →
-        all_are (ty_of element.now) vs ≡ false) }
+    ensures none { OnErr result ((vs : Values) → IsVector item vs →
+        FailType element.now vs) }
 {
     match item {
         Item::Vec(all) => {

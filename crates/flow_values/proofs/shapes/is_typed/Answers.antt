@@ -2,7 +2,6 @@ use Rattle.std.proofs.Common.{◌≡◌, ◌∙◌, true, sym, ap}
 use Rattle.std.specs.Arc.{arc_value}
 use Rattle.snesl_data.specs.Types.{ty_of, is_same}
 use Rattle.snesl_data.specs.Values.{elements_of}
-use Rattle.flow_messages.specs.Shapes.{all_are}
 use Rattle.flow_values.proofs.Known.{as_same}
 use Rattle.flow_values.proofs.shapes.is_typed.Goals as goal
 
