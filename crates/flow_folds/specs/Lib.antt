@@ -9,3 +9,5 @@ pub mod Scalars
 pub mod ScanAddBlocks
 pub mod ScanAddMachine
 pub mod laws
+pub mod ReduceSteps
+pub mod ScanAddSteps

@@ -3,7 +3,8 @@
 ghost use Rattle.std.specs.Prelude.{◌≡◌, ◌≤◌, ◌<◌, ℕ, true, false, [], length, take, get_or, int_lt, if◌then◌else◌, Some, IfSome, Ok};
 ghost use Rattle.flow_messages.specs.declared.message.Kind.TheVariants.{Int as IntKind};
 ghost use Rattle.flow_folds.specs.ReduceMachine.{reduced_kind};
-ghost use Rattle.flow_folds.specs.ReduceBlocks.{reduction_of_ints, stage_of_sum, AwaitsFlag, Reduces, SumsOfSegments};
+ghost use Rattle.flow_folds.specs.ReduceBlocks.{stage_of_sum, AwaitsFlag};
+ghost use Rattle.flow_folds.specs.ReduceSteps.{AddsUpTo, ElementsReduce, HoldsSum, IsGreatest, ReducesFirst, ReducesOn, ReducesTo, SumsFirst};
 ghost use Rattle.snesl_data.specs.declared.dialect.Dialect.{Dialect};
 ghost use Rattle.snesl_operators.specs.declared.operator.Reduction.TheVariants.{Sum as SumOf, Max as MaxOf};
 ghost use Rattle.snesl_operators.specs.declared.scalar.Scalar.TheVariants.{Int as IntScalar};
@@ -127,8 +128,7 @@ fn elements_ahead(flags: &[bool], most: usize) -> usize
 #[inline(always)]
 fn sum_of(dialect: Dialect, total: i128, elements: &[i64]) -> (usize, i128)
     ensures within { result.0 ≤ length elements.now }
-    ensures reduced { reduction_of_ints dialect SumOf (Some (IntScalar total))
-        (take result.0 elements.now) ≡ Ok (Some (IntScalar result.1)) }
+    ensures reduced { AddsUpTo dialect total (take result.0 elements.now) result.1 }
 {
     let mut reached = total;
     for place in 0..elements.len() {
@@ -151,8 +151,7 @@ fn greater(m: i128, n: i128) -> i128
 // The greatest of the elements and of what came before them.
 #[inline(always)]
 fn greatest_of(before: i128, elements: &[i64]) -> i128
-    ensures { (dialect : Dialect) → reduction_of_ints dialect MaxOf (Some (IntScalar before))
-        elements.now ≡ Ok (Some (IntScalar result)) }
+    ensures { (dialect : Dialect) → IsGreatest dialect before elements.now result }
 {
     let mut greatest = before;
     for place in 0..elements.len() {
@@ -184,8 +183,7 @@ fn small_sums_along(
     ensures flags { result.0 ≤ length flags.now }
     ensures elements { result.1 ≤ length elements.now }
     ensures most { result.2 ≤ most }
-    ensures along { SumsOfSegments total (take result.0 flags.now)
-        (take result.1 elements.now) (take result.2 sums.new) result.3 }
+    ensures along { SumsFirst total flags.now elements.now sums.new result }
 {
     let mut reached = total;
     let mut read = 0;
@@ -240,8 +238,7 @@ impl Reduce {
     #[inline(always)]
     fn more_of(&self, so_far: Option<Scalar>, elements: &[i64]) -> (usize, Option<Scalar>)
         ensures within { result.0 ≤ length elements.now }
-        ensures reduced { reduction_of_ints self.now.dialect self.now.reduction so_far
-            (take result.0 elements.now) ≡ Ok result.1 }
+        ensures reduced { ReducesTo self.now so_far (take result.0 elements.now) result.1 }
     {
         match (self.reduction, so_far) {
             (Reduction::Sum, Some(Scalar::Int(total))) => {
@@ -266,8 +263,7 @@ impl Reduce {
     fn elements_along(&self, stage: Stage, flags: &[bool], elements: &[i64]) -> (usize, Stage)
         ensures flags { result.0 ≤ length flags.now }
         ensures elements { result.0 ≤ length elements.now }
-        ensures along { Reduces (self.now.dialect, self.now.reduction) stage
-            (take result.0 flags.now) (take result.0 elements.now) [] result.1 }
+        ensures along { ElementsReduce self.now stage flags.now elements.now result }
     {
         let Some(so_far) = stage.so_far(self.reduction) else {
             return (0, stage);
@@ -305,8 +301,7 @@ impl Reduce {
     #[inline(always)]
     fn small_sum(&self) -> Option<i64>
         ensures sum { IfSome result (λ n. self.now.reduction ≡ SumOf) }
-        ensures so_far { IfSome result (λ n.
-            AwaitsFlag self.now.reduction self.now.stage (Some (IntScalar n))) }
+        ensures so_far { IfSome result (λ n. HoldsSum self.now n) }
     {
         if !matches!(self.reduction, Reduction::Sum) {
             return None;
@@ -336,9 +331,7 @@ impl Reduce {
         ensures elements { result.elements ≤ length elements.now }
         ensures most { result.values ≤ most }
         ensures kind { 0 < result.values → reduced_kind self.now.reduction ≡ IntKind }
-        ensures along { Reduces (self.now.dialect, self.now.reduction) self.now.stage
-            (take result.flags flags.now) (take result.elements elements.now)
-            (take result.values values.new) result.stage }
+        ensures along { ReducesFirst self.now flags.now elements.now values.new result }
     {
         let mut passed = 0;
         let mut read = 0;
@@ -401,9 +394,7 @@ impl Reduce {
         ensures kind { 0 < result.2 → reduced_kind self.old.reduction ≡ IntKind }
         ensures dialect { self.new.dialect ≡ self.old.dialect }
         ensures reduction { self.new.reduction ≡ self.old.reduction }
-        ensures along { Reduces (self.old.dialect, self.old.reduction) self.old.stage
-            (take result.0 flags.now) (take result.1 elements.now)
-            (take result.2 values.new) self.new.stage }
+        ensures along { ReducesOn self.old flags.now elements.now values.new result self.new }
     {
         let Some(total) = self.small_sum() else {
             let reached = self.reductions_along(flags, elements, most, values);

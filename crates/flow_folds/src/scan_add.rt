@@ -4,7 +4,7 @@ ghost use Rattle.std.specs.Prelude.{◌≡◌, ◌≤◌, false, Ok, length, tak
 ghost use Rattle.flow_base.specs.Flags.{F};
 ghost use Rattle.flow_base.specs.Machines.{state_after_read};
 ghost use Rattle.flow_folds.specs.ScanAddMachine.{scan_add_move};
-ghost use Rattle.flow_folds.specs.ScanAddBlocks.{SumsAlong};
+ghost use Rattle.flow_folds.specs.ScanAddSteps.{HoldsLast, SumsFirstAlong};
 ghost use Rattle.flow_folds.specs.declared.scan_add.Stage.TheVariants.{Element};
 
 use flow_base::{Ask, Moved, Shown, Stop, Worker, Written};
@@ -84,9 +84,7 @@ impl ScanAdd {
     // The sum and the last element that an element comes after, where a flag comes next.
     #[inline(always)]
     fn held(&self) -> Option<(i128, i128)>
-        ensures { IfSome result (λ held.
-            state_after_read (scan_add_move self.now.dialect self.now.stage) F ≡
-            Ok (Element held.0 held.1)) }
+        ensures { IfSome result (λ held. HoldsLast self.now held) }
     {
         match self.stage {
             Stage::Start => Some((0, 0)),
@@ -106,14 +104,12 @@ impl ScanAdd {
         elements: &[i64],
         sums: &mut [i64],
     ) -> (usize, usize, Stage)
-        requires flag { state_after_read (scan_add_move self.now.dialect self.now.stage) F ≡
-            Ok (Element held.0 held.1) }
+        requires flag { HoldsLast self.now held }
         requires block { length flags.now ≤ length sums.old }
         ensures flags { result.0 ≤ length flags.now }
         ensures fewer { result.1 ≤ result.0 }
         ensures elements { result.1 ≤ length elements.now }
-        ensures along { SumsAlong self.now.dialect self.now.stage (take result.0 flags.now)
-            (take result.1 elements.now) (take result.1 sums.new) result.2 }
+        ensures along { SumsFirstAlong self.now flags.now elements.now sums.new result }
     {
         let (mut before, mut last) = held;
         let mut stage = self.stage;

@@ -22,7 +22,6 @@ use Rattle.flow_folds.specs.Rows.{Reduced, ReduceRow, reduce_reads, reduce_write
 use Rattle.flow_folds.specs.ReduceMachine.{at_flag, at_element, reduced_kind, reduce_move, OfStage, reduce_in_range, reduce_machine}
 use Rattle.flow_folds.specs.declared.reduce.Stage.{Stage}
 use Rattle.flow_folds.specs.declared.reduce.Stage.TheVariants.{Start, Flag, Element, Value}
-use Rattle.flow_folds.specs.declared.reduce.Reduce.{Reduce}
 
 -- an element of another kind is of another type, and so Shape already
 pub element_is : (dialect : Dialect) (reduction : Reduction) (so_far : Option Scalar) (x : Cell) → state_after_item (on_kind (reduced_kind reduction) (λ x. at_element dialect reduction so_far (scalar_in x))) x ≡ at_element dialect reduction so_far (scalar_in x)

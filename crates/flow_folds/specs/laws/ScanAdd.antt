@@ -18,7 +18,6 @@ use Rattle.flow_folds.specs.Rows.{Scanned, scan_add_reads, scan_add_writes}
 use Rattle.flow_folds.specs.ScanAddMachine.{after_sum, scan_add_move, scan_add_in_range, scan_add_machine}
 use Rattle.flow_folds.specs.declared.scan_add.Stage.{Stage}
 use Rattle.flow_folds.specs.declared.scan_add.Stage.TheVariants.{Start, Flag, Element, Write}
-use Rattle.flow_folds.specs.declared.scan_add.ScanAdd.{ScanAdd}
 
 -- a sum in front of those that come after it
 abbrev and_sums : ℤ → Result (List ℤ) FaultKind → Result (List ℤ) FaultKind
