@@ -15,7 +15,6 @@ use Rattle.flow_base.specs.Machines.{state_after_item}
 use Rattle.flow_base.proofs.Along.{Single, only, ran_as, single_none, single_first, single_second, single_write, single_then}
 use Rattle.flow_scalar.specs.Operands.{operand_in, on_operand}
 use Rattle.flow_folds.specs.Scalars.{cell_of_scalar}
-use Rattle.flow_scalar.specs.declared.binary.Progress.{Progress}
 use Rattle.flow_scalar.specs.declared.binary.Progress.TheVariants.{Start, Left, Value}
 use Rattle.flow_scalar.specs.BinaryMachine.{binary_next, binary_machine}
 use Rattle.flow_scalar.proofs.Leading.{operand_taken}

@@ -1,5 +1,5 @@
 -- Steps of an operator on one scalar, along operands.
-use Rattle.std.proofs.Common.{◌≡◌, ℕ, ℤ, pos, zero, suc, ◌+◌, ◌*◌, ◌<◌, ◌≤◌, Bool, List, [], ◌∷◌, length, take, get_or, slice_index_or, Option, Some, None, Ok, refl, ◌∙◌, ap, subst, arith}
+use Rattle.std.proofs.Common.{◌≡◌, ℕ, ℤ, zero, suc, ◌+◌, ◌*◌, ◌<◌, ◌≤◌, Bool, List, [], ◌∷◌, length, take, get_or, Some, None, Ok, refl, ◌∙◌, ap, subst, arith}
 use Rattle.snesl_data.specs.declared.dialect.Dialect.{Dialect}
 use Rattle.snesl_operators.specs.Operators.{unary_operand, unary_value}
 use Rattle.snesl_operators.specs.Reductions.{and_then}
@@ -11,8 +11,6 @@ use Rattle.flow_messages.specs.Blocks.{flag_signals, int_signals}
 use Rattle.flow_messages.specs.Signals.{Signal, carry}
 use Rattle.flow_base.specs.Along.{written_signals}
 use Rattle.flow_base.specs.Machines.{state_after_item}
-use Rattle.flow_base.specs.declared.slices.Moved.{Moved}
-use Rattle.flow_base.specs.declared.slices.Written.{Written}
 use Rattle.flow_base.proofs.Along.{Single, only, ran_as, single_none, single_first, single_write, single_then}
 use Rattle.flow_scalar.specs.Operands.{operand_in, on_operand}
 use Rattle.flow_folds.specs.Scalars.{kind_of_type, cell_of_scalar}

@@ -14,6 +14,9 @@ pub mod Streams
 pub mod UnaryMachine
 pub mod UnitsOfMachine
 pub mod laws
+pub mod ForkShown
+pub mod ForkSteps
+pub mod Written
 -- what the public clauses cite of the crates below
 pub use Rattle.snesl_data.specs.declared.dialect.Dialect
 pub use Rattle.snesl_operators.specs.declared.operator.BinaryOperator
@@ -44,6 +47,8 @@ pub use Rattle.flow_messages.specs.Ends
 pub use Rattle.flow_base.specs.Computed
 pub use Rattle.flow_base.specs.Visits
 pub use Rattle.flow_base.specs.Workers
+pub use Rattle.flow_base.specs.Calls
+pub use Rattle.flow_base.specs.Impls
 pub use Rattle.flow_folds.specs.declared.length.Count
 pub use Rattle.flow_folds.specs.declared.reduce.Stage as ReduceStage
 pub use Rattle.flow_folds.specs.declared.scan_add.Stage as ScanAddStage

@@ -13,6 +13,7 @@ ghost use Rattle.flow_base.specs.Nodes.{NodeState, behaviour_of, node_state};
 ghost use Rattle.flow_base.specs.Visits.{edge_of, PortsHaveEdges, TakeKinds, Went, Wrote};
 ghost use Rattle.flow_base.specs.declared.node.Phase.TheVariants.{Working};
 ghost use Rattle.flow_scalar.specs.ForkCopies.{Copied};
+ghost use Rattle.flow_scalar.specs.ForkShown.{ItemComes, ItemIsHeld};
 ghost use Rattle.flow_scalar.specs.ForkMachine.{ForkPorts, ForkState, fork_ports, fork_machine, idle, holding};
 
 use flow_base::{Ask, Moved, Shown, Stop, Worker, Written, put_in_space, take_front};
@@ -39,6 +40,8 @@ pub struct Fork {
 }
 
 impl Fork {
+    ghost use Rattle.flow_scalar.specs.ForkSteps.{ForkGave, ForkWent};
+
     /// A worker with so many outputs that reads items of this kind.
     pub fn new(kind: Kind, outputs: usize) -> Fork
         requires { 2 ≤ outputs }
@@ -65,11 +68,7 @@ impl Fork {
         ensures within { result ≤ most }
         ensures ports { self.new.outputs ≡ self.old.outputs }
         ensures kind { self.new.kind ≡ self.old.kind }
-        ensures went { (inputs : List ℕ) → (at : ℕ) →
-            Went inputs outputs.now (behaviour_of fork_machine)
-            (node_state (⟦<Fork as Worker>⟧.state self.old) Working at) (E.view ends.old)
-            (node_state (⟦<Fork as Worker>⟧.state self.new) Working at) (E.view ends.new)
-            result }
+        ensures went { ForkGave E.Ends outputs.now self.old ends.old self.new ends.new result }
     {
         let item = match &self.held {
             None | Some(Item::Vec(_) | Item::Typed(_)) => return 0,
@@ -110,9 +109,7 @@ impl Fork {
         ensures within { result ≤ most }
         ensures ports { self.new.outputs ≡ self.old.outputs }
         ensures kind { self.new.kind ≡ self.old.kind }
-        ensures went { (at : ℕ) → Went inputs.now outputs.now (behaviour_of fork_machine)
-            (node_state (⟦<Fork as Worker>⟧.state self.old) Working at) (E.view ends.old)
-            (node_state (⟦<Fork as Worker>⟧.state self.new) Working at) (E.view ends.new)
+        ensures went { ForkWent E.Ends inputs.now outputs.now self.old ends.old self.new ends.new
             result }
     {
         if most == 0 || self.held.is_some() {
@@ -143,9 +140,7 @@ impl Fork {
         ensures same { E.same ends.old ends.new }
         ensures ends { SameEnds (E.view ends.old) (E.view ends.new) }
         ensures within { result ≤ most }
-        ensures went { (at : ℕ) → Went inputs.now outputs.now (behaviour_of fork_machine)
-            (node_state (⟦<Fork as Worker>⟧.state self.old) Working at) (E.view ends.old)
-            (node_state (⟦<Fork as Worker>⟧.state self.new) Working at) (E.view ends.new)
+        ensures went { ForkWent E.Ends inputs.now outputs.now self.old ends.old self.new ends.new
             result }
     {
         let mut made = 0;
@@ -240,11 +235,8 @@ fn put_copy<E: Ends>(ends: &mut E, edge: usize, item: &Item)
 #[inline(always)]
 fn item_shown<E: Ends>(ends: &E, edge: usize, kind: Kind) -> Option<Item>
     requires { (E.view ends.now).reads edge ≡ true }
-    ensures first { IfSome result (λ x.
-        IsPrefix (carry (cell_of x) ∷ []) ((E.view ends.now).coming edge)) }
-    ensures leads { IfSome result (λ x. (others : ℕ) →
-        Leads (on_kind kind (λ y. Ok (holding y others))) (carry (cell_of x))
-        (holding (cell_of x) others)) }
+    ensures first { IfSome result (λ x. ItemComes (E.view ends.now) edge x) }
+    ensures leads { IfSome result (λ x. (others : ℕ) → ItemIsHeld kind x others) }
 {
     match kind {
         Kind::Unit => {

@@ -2,6 +2,7 @@
 
 ghost use Rattle.std.specs.Prelude.{◌≡◌, ◌+ℤ◌, ◌≤ℤ◌, ◌+◌, ◌<◌, ◌≤◌, ◌++◌, pos, false, get_or, length, replicate, take, IfSome};
 ghost use Rattle.flow_scalar.specs.IotaMachine.{number_after, numbers_from};
+ghost use Rattle.flow_scalar.specs.Written.{FilledBehind};
 
 use flow_base::{Ask, Moved, Shown, Stop, Worker, Written};
 use flow_messages::{Flat, Item, Kind};
@@ -80,10 +81,10 @@ fn put_numbers(
     requires ints { ints + room ≤ 256 }
     ensures room { result ≤ room }
     ensures below { 0 < result → (next +ℤ pos result) ≤ℤ end }
-    ensures flags { take (flags + result) block.new.flags ≡
-        take flags block.old.flags ++ replicate result false }
-    ensures ints { take (ints + result) block.new.ints ≡
-        take ints block.old.ints ++ numbers_from next result }
+    ensures flags { FilledBehind flags result block.old.flags (replicate result false)
+        block.new.flags }
+    ensures ints { FilledBehind ints result block.old.ints (numbers_from next result)
+        block.new.ints }
 {
     let (Ok(first), Ok(last)) = (i64::try_from(next), i64::try_from(end)) else {
         return 0;

@@ -3,6 +3,7 @@
 ghost use Rattle.std.specs.Prelude.{◌≡◌, true, false, IfOk, OnErr, IsOk};
 ghost use Rattle.flow_base.specs.Along.{shown_signals};
 ghost use Rattle.flow_scalar.specs.SinkShown.{CountOf};
+ghost use Rattle.flow_scalar.specs.Written.{SinkGives};
 
 use flow_base::{Ask, Moved, Shown, Stop, Worker, Written};
 use flow_messages::{Flat, Item, Kind};
@@ -96,8 +97,7 @@ impl Worker for Sink {
 
     // It has no output, so that nobody asks for this.
     fn give(&mut self) -> Result<Item, AllocError>
-        ensures ok { IfOk result (λ item. (cell_of item ≡
-            written_cell (sink_machine.move self.old.kind tt)) × (self.new ≡ self.old)) }
+        ensures ok { IfOk result (λ item. SinkGives self.old item self.new) }
         ensures err { OnErr result (self.new ≡ self.old) }
         ensures sure { sink_machine.takes_memory tt ≡ false → IsOk result }
     {

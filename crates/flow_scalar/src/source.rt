@@ -5,8 +5,9 @@ ghost use Rattle.std.specs.List.{slice_get};
 ghost use Rattle.snesl_data.specs.declared.dialect.Dialect.{Dialect};
 ghost use Rattle.flow_messages.specs.Cells.{cell_of, is_of};
 ghost use Rattle.flow_messages.specs.Signals.{signal_of};
-ghost use Rattle.flow_base.specs.Ranges.{AllOf, SignalsInRange};
-ghost use Rattle.flow_base.specs.Transducers.{closed};
+ghost use Rattle.flow_base.specs.Ranges.{AllOf};
+ghost use Rattle.flow_base.specs.Impls.{KeepsState, ReadsAs, takes_memory_at};
+ghost use Rattle.flow_scalar.specs.Written.{SourceInRange, StreamInRange};
 ghost use Rattle.flow_scalar.specs.Streams.{stream_kind, stream_cells, items_of};
 ghost use Rattle.flow_scalar.specs.SourceBehaviour.{is_vector, source_opening, source_behaviour};
 
@@ -43,7 +44,7 @@ impl Stream {
     // An item that carries the same as the one at this index, counted from 0, or `None` past the last. Its only error is
     // that too many share a vector.
     fn item(&self, index: usize) -> Result<Option<Item>, AllocError>
-        ensures ok { IfOk result (λ item. option_map cell_of item ≡
+        ensures ok { IfOk result (λ x. option_map cell_of x ≡
             slice_get (stream_cells self.now) index) }
         ensures within { IfOk result (λ item. IsSome item → index < usize.MAX) }
         ensures scalar { is_vector (slice_get (stream_cells self.now) index) ≡ false → IsOk result }
@@ -92,9 +93,7 @@ impl Source {
     pub fn new(stream: Stream) -> Source
         ensures state { ⟦<Source as Transducer>⟧.state result ≡ source_opening (items_of stream) }
         ensures of_kind { AllOf (stream_kind stream) (stream_cells stream) }
-        ensures in_range { (dialect : Dialect) → SignalsInRange dialect
-            (closed (stream_cells stream)) →
-            source_behaviour.in_range dialect (source_opening (items_of stream)) }
+        ensures in_range { (d : Dialect) → StreamInRange d stream → SourceInRange d stream }
     {
         Source {
             stream,
@@ -136,13 +135,9 @@ impl Transducer for Source {
     }
 
     fn give(&mut self, _port: usize, message: Msg) -> Result<(), AllocError>
-        ensures ok { OnOk result (⟦<Source as Transducer>⟧.state self.new ≡
-            source_behaviour.process.read (⟦<Source as Transducer>⟧.state self.old)
-            (signal_of message)) }
-        ensures err { OnErr result (⟦<Source as Transducer>⟧.state self.new ≡
-            ⟦<Source as Transducer>⟧.state self.old) }
-        ensures sure { source_behaviour.takes_memory (⟦<Source as Transducer>⟧.state self.old) ≡
-            false → IsOk result }
+        ensures ok { OnOk result (ReadsAs ⟦<Source as Transducer>⟧ self.old message self.new) }
+        ensures err { OnErr result (KeepsState ⟦<Source as Transducer>⟧ self.old self.new) }
+        ensures sure { takes_memory_at ⟦<Source as Transducer>⟧ self.old ≡ false → IsOk result }
     {
         Ok(())
     }

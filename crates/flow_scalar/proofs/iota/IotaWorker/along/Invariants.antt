@@ -1,4 +1,4 @@
-use Rattle.std.proofs.Common.{ℕ, ◌-◌, ◌≤◌, length}
+use Rattle.std.proofs.Common.{◌-◌, ◌≤◌, length}
 use Rattle.flow_scalar.proofs.IotaBlocks.{Rounds}
 use Rattle.flow_scalar.proofs.iota.IotaWorker.along.Given as goal
 
