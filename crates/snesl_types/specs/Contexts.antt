@@ -24,6 +24,10 @@ bound bytes t = record { bytes = bytes; binding = open_to t }
 abbrev pub names_context : List InputDeclaration → Context
 names_context = map (λ declaration. bound declaration.0 declaration.1)
 
+-- their types
+abbrev pub declared_types : List InputDeclaration → List Ty
+declared_types declarations = map (λ declaration. declaration.1) declarations
+
 -- the innermost binding of a name
 abbrev pub found : List ℕ → Context → Option Binding
 found bytes [] = None

@@ -1,5 +1,5 @@
 -- Which types stand where they do not fit, in the scopes that the checker sees.
-use Rattle.std.specs.Prelude.{◌≡◌, ℕ, Bool, true, false, List, [], Result, Ok, Err}
+use Rattle.std.specs.Prelude.{◌≡◌, ℕ, Bool, true, false, List, [], map, Result, Ok, Err}
 use Rattle.snesl_data.specs.declared.dialect.Dialect.{Dialect}
 use Rattle.snesl_data.specs.declared.refusal.Refusal.{Refusal}
 use Rattle.snesl_data.specs.declared.refusal.Refusal.TheVariants.{Mismatch}
@@ -7,13 +7,24 @@ use Rattle.snesl_data.specs.declared.ty.Ty.{Ty as TyTree}
 use Rattle.snesl_data.specs.Types.{Ty, seq}
 use Rattle.snesl_values.specs.Inputs.{InputDeclaration}
 use Rattle.snesl_tree.specs.Tree.{Tree, Trees, Binders, Condition, always, only_where, binding, each, TypeTree, DeclarationTree}
+use Rattle.snesl_tree.specs.declared.declaration.Declaration.{Declaration}
+use Rattle.snesl_tree.specs.declared.declaration.Function.{Function as WrittenFunction}
+use Rattle.snesl_tree.specs.declared.expr.Binder.{Binder}
+use Rattle.snesl_tree.specs.declared.expr.Expr.{Expr}
 use Rattle.snesl_tree.specs.declared.span.Span.{Span}
+use Rattle.snesl_tree.specs.View.{tree_of, binders_of, type_tree, typed_of, declaration_of}
+use Rattle.snesl_grammar.specs.declared.program.Program.{Program}
+use Rattle.snesl_grammar.specs.Spelled.{program_with}
+use Rattle.snesl_grammar.specs.View.{program_of as tree_of_program}
+use Rattle.snesl_types.specs.declared.declarations.Declarations.{Declarations}
+use Rattle.snesl_types.specs.declared.names.Function.{Function}
 use Rattle.snesl_types.specs.declared.names.Scope.{Scope}
 use Rattle.snesl_types.specs.Names.{context_of, signatures_in}
 use Rattle.snesl_types.specs.Contexts.{Context, names_context, Signatures}
 use Rattle.snesl_types.specs.Programs.{Declared, written_type}
+use Rattle.snesl_types.specs.Views.{declared_in}
 use Rattle.snesl_types.specs.Typing.{Types, AllTypes, BindersType}
-use Rattle.snesl_types.specs.Clashes.{Clash, source, body, Misfits, SourceMisfits, Clashes, AnyClashes, ProgramClashes}
+use Rattle.snesl_types.specs.Clashes.{Clash, source, body, Misfits, SourceMisfits, Clashes, AnyClashes, FunctionClashes, ProgramClashes}
 
 -- a rule gives no type
 abbrev pub IsMismatch : Result TyTree Refusal → Type 0
@@ -34,6 +45,10 @@ BodyMisfits dialect text functions context tree written clash =
 
 abbrev pub IsOfAnotherType : Scope → Tree → TypeTree → Clash → Type 0
 IsOfAnotherType scope = BodyMisfits scope.dialect scope.text.now (functions_in scope) (context_names scope)
+
+-- of a function
+abbrev pub BodyMisfitsIn : Scope → WrittenFunction → Clash → Type 0
+BodyMisfitsIn scope written = IsOfAnotherType scope (tree_of written.body) (type_tree written.result)
 
 -- whether it is a sequence's type
 abbrev pub is_sequence : Ty → Bool
@@ -57,6 +72,9 @@ MisfitsIn scope = Misfits scope.dialect scope.text.now (functions_in scope) (con
 -- in a comprehension of these binders and this condition
 abbrev pub ConditionMisfitsIn : Scope → Binders → Condition → Clash → Type 0
 ConditionMisfitsIn scope binders cond clash = (at : ℕ) (within : Tree) → MisfitsIn scope (each at within binders cond) clash
+
+abbrev pub EachMisfitsIn : Scope → List Binder → Condition → Clash → Type 0
+EachMisfitsIn scope binders = ConditionMisfitsIn scope (binders_of binders)
 
 abbrev pub SourceMisfitsIn : Scope → ℕ → Binders → Clash → Type 0
 SourceMisfitsIn scope = SourceMisfits scope.dialect scope.text.now (functions_in scope) (context_names scope)
@@ -88,3 +106,20 @@ ExpressionClashes dialect text declared at tree clash = Clashes dialect text dec
 abbrev pub DeclarationClashes : Dialect → List ℕ → List DeclarationTree → ℕ → Clash → Type 0
 DeclarationClashes dialect text declarations at clash =
     (tree : Tree) → ProgramClashes text (record { dialect = dialect; declarations = declarations; expression = tree }) at clash
+
+-- the same of what the program's data hold: in the final expression, in a function, in declarations, in a program
+abbrev pub FinalClashes : Dialect → List ℕ → Declarations → ℕ → Tree → Clash → Type 0
+FinalClashes dialect text declarations = ExpressionClashes dialect text (declared_in text declarations)
+
+abbrev pub FunctionClashesIn : Dialect → List ℕ → List Function → ℕ → WrittenFunction → Clash → Type 0
+FunctionClashesIn dialect text functions at written =
+    FunctionClashes dialect text (signatures_in text functions) at written.name (map typed_of written.parameters.items) (type_tree written.result) (tree_of written.body)
+
+abbrev pub DeclarationClashesIn : Dialect → List ℕ → List Declaration → ℕ → Clash → Type 0
+DeclarationClashesIn dialect text declarations = DeclarationClashes dialect text (map declaration_of declarations)
+
+abbrev pub WrittenClashes : Dialect → List ℕ → List Declaration → Expr → ℕ → Clash → Type 0
+WrittenClashes dialect text declarations expr = ProgramClashes text (program_with dialect declarations expr)
+
+abbrev pub ProgramClashesIn : Program → ℕ → Clash → Type 0
+ProgramClashesIn program = ProgramClashes program.text.items (tree_of_program program)

@@ -1,5 +1,5 @@
 -- Which programs have a type, and which rule a program violates first.
-use Rattle.std.specs.Prelude.{◌≡◌, ℕ, suc, ◌<◌, ◌≤◌, nat_le, Bool, true, false, ◌&&◌, if◌then◌else◌, List, [], ◌∷◌, ◌++◌, map, Some, None, Result, Ok, Err, ◌⊎◌}
+use Rattle.std.specs.Prelude.{◌≡◌, ℕ, suc, ◌<◌, ◌≤◌, nat_le, Bool, true, false, ◌&&◌, if◌then◌else◌, List, [], ◌∷◌, ◌++◌, Some, None, Result, Ok, Err, ◌⊎◌}
 use Rattle.snesl_data.specs.declared.dialect.Dialect.{Dialect}
 use Rattle.snesl_data.specs.declared.refusal.Refusal.{Refusal}
 use Rattle.snesl_data.specs.declared.refusal.Refusal.TheVariants.{Name, Mismatch, Streamed, TooBig, NoMemory}
@@ -8,7 +8,7 @@ use Rattle.snesl_data.specs.Types.{Ty, int, bool, pair, vec, seq, is_concrete}
 use Rattle.snesl_tree.specs.declared.span.Span.{Span}
 use Rattle.snesl_tree.specs.Spelling.{spelling}
 use Rattle.snesl_tree.specs.Tree.{Tree, TypeTree, int_type, bool_type, pair_type, vector_type, sequence_type, TypedName, DeclarationTree, declares_input, declares_function, ProgramTree}
-use Rattle.snesl_types.specs.Contexts.{names_context, type_in, Signature, Signatures, function_named}
+use Rattle.snesl_types.specs.Contexts.{names_context, declared_types, type_in, Signature, Signatures, function_named}
 use Rattle.snesl_types.specs.Sizes.{BodySizes, is_small, size, greatest_size, greatest_count}
 use Rattle.snesl_types.specs.Ranges.{ProgramInRange}
 use Rattle.snesl_types.specs.Typing.{Types}
@@ -84,7 +84,7 @@ pub data NamesViolate (text : List ℕ) : List InputDeclaration → List TypedNa
 abbrev pub signature_of : List ℕ → Span → List InputDeclaration → Ty → Signature
 signature_of text place parameters result = record {
   bytes = spelling text place;
-  parameters = map (λ parameter. parameter.1) parameters;
+  parameters = declared_types parameters;
   result = result;
 }
 

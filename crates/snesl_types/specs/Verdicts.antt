@@ -6,8 +6,11 @@ use Rattle.snesl_data.specs.declared.refusal.Refusal.{Refusal}
 use Rattle.snesl_data.specs.declared.refusal.Refusal.TheVariants.{Name, Mismatch, Streamed, TooBig, NoMemory}
 use Rattle.snesl_values.specs.Inputs.{InputDeclaration}
 use Rattle.snesl_data.specs.Integers.{is_integer}
-use Rattle.snesl_data.specs.Types.{Ty, int, bool, pair, seq, is_same}
+use Rattle.snesl_data.specs.declared.ty.Ty.{Ty as TyTree}
+use Rattle.snesl_data.specs.Types.{Ty, int, bool, pair, seq, is_same, ty_of}
 use Rattle.snesl_tree.specs.declared.operator.Builtin.{Builtin}
+use Rattle.snesl_tree.specs.declared.operator.Operator.{Operator}
+use Rattle.snesl_tree.specs.declared.operator.Prefix.{Prefix}
 use Rattle.snesl_tree.specs.declared.span.Span.{Span}
 use Rattle.snesl_tree.specs.Spelling.{spelling}
 use Rattle.snesl_tree.specs.Tree.{Tree, Trees, Binders, Condition, integer, truth, name, binary, prefix, call, apply, group, pair as pair_tree, binding, choice, literal, filter, each, none, both, none_bound, binder, always, only_where, TypeTree, TypedName, DeclarationTree, declares_input, declares_function, ProgramTree}
@@ -20,6 +23,14 @@ use Rattle.snesl_types.specs.Programs.{Declared, and_then, small_type, written_t
 abbrev pub or_refused : Refusal → Option Ty → Result Ty Refusal
 or_refused refusal None = Err refusal
 or_refused refusal (Some t) = Ok t
+
+-- an operator at operands of these types
+abbrev pub of_operator : ℕ → Operator → Ty → Ty → Result Ty Refusal
+of_operator at operator t u = or_refused (Mismatch at) (operator_result operator t u)
+
+-- a prefix operator at an operand of this type
+abbrev pub of_prefix : ℕ → Prefix → Ty → Result Ty Refusal
+of_prefix at operator t = or_refused (Mismatch at) (prefix_result operator t)
 
 -- what a variable's binding gives
 abbrev pub of_binding : Span → Option Binding → Result Ty Refusal
@@ -51,9 +62,13 @@ abbrev pub of_items : ℕ → List Ty → Result Ty Refusal
 of_items at [] = Err (Mismatch at)
 of_items at (t ∷ ts) = if all_same t ts then Ok (seq t) else Err (Mismatch at)
 
+-- whether the parts of an `if` have types that fit: a truth value, and twice one type
+abbrev pub fit_branches : Ty → Ty → Ty → Bool
+fit_branches t u v = is_same t bool && is_same u v
+
 -- an `if` of these three
 abbrev pub of_choice : ℕ → Ty → Ty → Ty → Result Ty Refusal
-of_choice at t u v = if is_same t bool && is_same u v then Ok u else Err (Mismatch at)
+of_choice at t u v = if fit_branches t u v then Ok u else Err (Mismatch at)
 
 -- a sequence of items of the first type, where the second is that of a condition
 abbrev pub of_filter : ℕ → Ty → Ty → Result Ty Refusal
@@ -88,9 +103,9 @@ abbrev mutual
   rule dialect text functions context (name place) = of_binding place (found (spelling text place) context)
   rule dialect text functions context (binary at operator left right) =
       and_then (both_of (sized (rule dialect text functions context left)) (sized (rule dialect text functions context right)))
-      (λ ts. or_refused (Mismatch at) (operator_result operator ts.0 ts.1))
+      (λ ts. of_operator at operator ts.0 ts.1)
   rule dialect text functions context (prefix at operator operand) =
-      and_then (sized (rule dialect text functions context operand)) (λ t. or_refused (Mismatch at) (prefix_result operator t))
+      and_then (sized (rule dialect text functions context operand)) (of_prefix at operator)
   rule dialect text functions context (call at function arguments) =
       and_then (verdicts dialect text functions context [] arguments) (of_builtin at function)
   rule dialect text functions context (apply place arguments) =
@@ -204,3 +219,7 @@ program_verdict text program =
 abbrev pub IsVerdict : {A B : Type 0} → (A → B) → Result B Refusal → Result A Refusal → Type 0
 IsVerdict view verdict (Ok x) = verdict ≡ Ok (view x)
 IsVerdict view verdict (Err refusal) = (refusal ≡ NoMemory) ⊎ (verdict ≡ Err refusal)
+
+-- the same of a type
+abbrev pub IsType : Result Ty Refusal → Result TyTree Refusal → Type 0
+IsType = IsVerdict ty_of

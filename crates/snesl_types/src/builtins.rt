@@ -3,7 +3,7 @@
 ghost use Rattle.std.specs.Prelude.{◌≡◌, [], ◌∷◌, map};
 ghost use Rattle.snesl_data.specs.Types.{ty_of, int, bool, pair, vec, seq};
 ghost use Rattle.snesl_tree.specs.declared.operator.Builtin.TheVariants.{Tab};
-ghost use Rattle.snesl_types.specs.Verdicts.{IsVerdict, of_builtin};
+ghost use Rattle.snesl_types.specs.Verdicts.{IsType, of_builtin};
 
 use crate::forms::sequence_of;
 use snesl_data::{Refusal, Ty, copy_ty};
@@ -17,7 +17,7 @@ pub(crate) fn builtin_type(
     function: Builtin,
     arguments: &[Ty],
 ) -> Result<Ty, Refusal>
-    ensures { IsVerdict ty_of (of_builtin at function (map ty_of arguments.now)) result }
+    ensures { IsType (of_builtin at function (map ty_of arguments.now)) result }
 {
     match arguments {
         [source, flags] => part_type(alloc, at, function, source, flags),
@@ -37,8 +37,7 @@ fn part_type(
     source: &Ty,
     flags: &Ty,
 ) -> Result<Ty, Refusal>
-    ensures { IsVerdict ty_of (of_builtin at function
-        (ty_of source.now ∷ ty_of flags.now ∷ [])) result }
+    ensures { IsType (of_builtin at function (ty_of source.now ∷ ty_of flags.now ∷ [])) result }
 {
     match (function, source, flags) {
         (Builtin::Part, Ty::Seq(_), Ty::Seq(flag)) if flag.is(&Ty::Bool) => {
@@ -51,7 +50,7 @@ fn part_type(
 
 // A function of an integer.
 fn count_type(alloc: Global, at: usize, function: Builtin) -> Result<Ty, Refusal>
-    ensures { IsVerdict ty_of (of_builtin at function (int ∷ [])) result }
+    ensures { IsType (of_builtin at function (int ∷ [])) result }
 {
     match function {
         Builtin::Iota => sequence_of(alloc, Ty::Int),
@@ -67,8 +66,7 @@ fn component_type(
     first: &Ty,
     second: &Ty,
 ) -> Result<Ty, Refusal>
-    ensures { IsVerdict ty_of (of_builtin at function
-        (pair (ty_of first.now) (ty_of second.now) ∷ [])) result }
+    ensures { IsType (of_builtin at function (pair (ty_of first.now) (ty_of second.now) ∷ [])) result }
 {
     match function {
         Builtin::Fst => Ok(copy_ty(alloc, first)?),
@@ -79,7 +77,7 @@ fn component_type(
 
 // A function of a vector.
 fn vector_type(alloc: Global, at: usize, function: Builtin, item: &Ty) -> Result<Ty, Refusal>
-    ensures { IsVerdict ty_of (of_builtin at function (vec (ty_of item.now) ∷ [])) result }
+    ensures { IsType (of_builtin at function (vec (ty_of item.now) ∷ [])) result }
 {
     match function {
         Builtin::Seq => {
@@ -92,7 +90,7 @@ fn vector_type(alloc: Global, at: usize, function: Builtin, item: &Ty) -> Result
 
 // A function of a sequence.
 fn sequence_type(alloc: Global, at: usize, function: Builtin, item: &Ty) -> Result<Ty, Refusal>
-    ensures { IsVerdict ty_of (of_builtin at function (seq (ty_of item.now) ∷ [])) result }
+    ensures { IsType (of_builtin at function (seq (ty_of item.now) ∷ [])) result }
 {
     match (function, item) {
         (Builtin::Length, _) => Ok(Ty::Int),
@@ -108,7 +106,7 @@ fn sequence_type(alloc: Global, at: usize, function: Builtin, item: &Ty) -> Resu
 
 // A sequence as a vector.
 fn table_type(alloc: Global, at: usize, item: &Ty) -> Result<Ty, Refusal>
-    ensures { IsVerdict ty_of (of_builtin at Tab (seq (ty_of item.now) ∷ [])) result }
+    ensures { IsType (of_builtin at Tab (seq (ty_of item.now) ∷ [])) result }
 {
     if item.concrete() {
         let item = copy_ty(alloc, item)?;

@@ -1,13 +1,10 @@
 // Checking: the type of a program, or the first rule that it violates.
 
 ghost use Rattle.std.specs.Prelude.{◌≡◌, IfOk, IfErr};
-ghost use Rattle.snesl_grammar.specs.View.{program_of as tree_of_program};
-ghost use Rattle.snesl_types.specs.Programs.{HasTyping, HaveOneTyping, HaveSomeTyping, IsFirstViolation, IsMemoryIfTyped};
-ghost use Rattle.snesl_types.specs.Typed.{program_of, typed_inputs, typed_ty};
-ghost use Rattle.snesl_types.specs.Verdicts.{IsVerdict, program_verdict, expression_verdict};
-ghost use Rattle.snesl_types.specs.Views.{declared_in, typing_in};
+ghost use Rattle.snesl_types.specs.Programs.{HaveOneTyping, HaveSomeTyping};
+ghost use Rattle.snesl_types.specs.Typed.{program_of, HasTypingIn, IsFirstViolationIn, IsMemoryIfTypedIn};
+ghost use Rattle.snesl_types.specs.Views.{IsTyping, IsFinalType};
 ghost use Rattle.snesl_tree.specs.View.{tree_of};
-ghost use Rattle.snesl_data.specs.Types.{ty_of};
 
 use crate::declarations::{Declarations, declarations_of, few};
 use crate::expressions::type_of;
@@ -30,14 +27,11 @@ const GREATEST_SIZE: usize = 65_536;
 /// else. `NoMemory` where memory ran out.
 pub fn check(alloc: Global, program: &Program) -> Result<TypedProgram<'_>, Refusal>
     ensures program { IfOk result (λ typed. program_of typed ≡ program.now) }
-    ensures typed { IfOk result (λ typed. HasTyping program.now.text.items
-        (tree_of_program program.now) (typed_inputs typed) (typed_ty typed)) }
-    ensures refused { IfErr result (IsFirstViolation program.now.text.items
-        (tree_of_program program.now)) }
+    ensures typed { IfOk result (HasTypingIn program.now) }
+    ensures refused { IfErr result (IsFirstViolationIn program.now) }
 
     // A program that has a type is refused for want of memory only.
-    ensures accepts { IfErr result (IsMemoryIfTyped program.now.text.items
-        (tree_of_program program.now)) }
+    ensures accepts { IfErr result (IsMemoryIfTypedIn program.now) }
 {
     let (declarations, ty) = typing_of(alloc, program)?;
     Ok(TypedProgram {
@@ -49,8 +43,7 @@ pub fn check(alloc: Global, program: &Program) -> Result<TypedProgram<'_>, Refus
 
 // What a program declares, and its type.
 fn typing_of(alloc: Global, program: &Program) -> Result<(Declarations, Ty), Refusal>
-    ensures { IsVerdict (typing_in program.now.text.items)
-        (program_verdict program.now.text.items (tree_of_program program.now)) result }
+    ensures { IsTyping program.now result }
 {
     if !few(&program.declarations) {
         return Err(Refusal::TooBig);
@@ -79,9 +72,7 @@ fn final_type(
     declarations: &Declarations,
     expr: &Expr,
 ) -> Result<Ty, Refusal>
-    ensures { IsVerdict (λ ty. (declared_in text.now declarations.now, ty_of ty))
-        (expression_verdict dialect text.now (declared_in text.now declarations.now)
-        (tree_of expr.now)) result }
+    ensures { IsFinalType dialect text.now declarations.now (tree_of expr.now) result }
 {
     let names = Names::Declared(&declarations.inputs);
     let scope = Scope {

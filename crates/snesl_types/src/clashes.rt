@@ -1,14 +1,11 @@
 // The types that stand where types do not fit.
 
-ghost use Rattle.std.specs.Prelude.{◌≡◌, ◌<◌, map, length, Ok, None, IfOk, IsSome, IsTrue};
-ghost use Rattle.snesl_grammar.specs.View.{program_of as tree_of_program};
-ghost use Rattle.snesl_tree.specs.Tree.{both, none};
-ghost use Rattle.snesl_tree.specs.View.{tree_of, trees_of, binders_of, type_tree, typed_of, declaration_of as declaration_tree};
-ghost use Rattle.snesl_grammar.specs.Spelled.{program_with};
-ghost use Rattle.snesl_types.specs.Views.{declared_in};
-ghost use Rattle.snesl_types.specs.Clashes.{IsFound, seen_parts, sources, FunctionClashes, ProgramClashes};
-ghost use Rattle.snesl_types.specs.Misfitting.{ClashesIn, AnyClashesIn, ConditionClashesIn, BoundClashesIn, ExpressionClashes, DeclarationClashes, IsOfAnotherType};
-ghost use Rattle.snesl_types.specs.Names.{condition_in, signatures_in};
+ghost use Rattle.std.specs.Prelude.{◌≡◌, ◌<◌, length, Ok, None, IfOk, IsSome, IsTrue};
+ghost use Rattle.snesl_tree.specs.View.{tree_of, trees_of, binders_of};
+ghost use Rattle.snesl_types.specs.Views.{two_trees, three_trees};
+ghost use Rattle.snesl_types.specs.Clashes.{IsFound, seen_parts, sources};
+ghost use Rattle.snesl_types.specs.Misfitting.{ClashesIn, AnyClashesIn, ConditionClashesIn, BoundClashesIn, FinalClashes, FunctionClashesIn, DeclarationClashesIn, WrittenClashes, ProgramClashesIn, BodyMisfitsIn};
+ghost use Rattle.snesl_types.specs.Names.{condition_in};
 
 use crate::declarations::{Declarations, declarations_of, parameters_of, type_written};
 use crate::expressions::{binder_types, type_of};
@@ -61,8 +58,7 @@ pub enum Clash {
 ///
 /// `AllocError` where memory is refused.
 pub fn clash_at(alloc: Global, program: &Program, at: usize) -> Result<Option<Clash>, AllocError>
-    ensures { IsFound (ProgramClashes program.now.text.items
-        (tree_of_program program.now) at) result }
+    ensures { IsFound (ProgramClashesIn program.now at) result }
 {
     let declarations = &program.declarations;
     program_clash(
@@ -84,8 +80,7 @@ fn program_clash(
     expr: &Expr,
     at: usize,
 ) -> Result<Option<Clash>, AllocError>
-    ensures { IsFound (ProgramClashes text.now (program_with dialect declarations.now expr.now) at)
-        result }
+    ensures { IsFound (WrittenClashes dialect text.now declarations.now expr.now at) result }
 {
     for number in 0..declarations.len() {
         let found = declaration_clash(dialect, alloc, text, declarations, number, at);
@@ -109,8 +104,7 @@ fn final_clash(
     expr: &Expr,
     at: usize,
 ) -> Result<Option<Clash>, AllocError>
-    ensures { IsFound (ExpressionClashes dialect text.now (declared_in text.now declared.now) at
-        (tree_of expr.now)) result }
+    ensures { IsFound (FinalClashes dialect text.now declared.now at (tree_of expr.now)) result }
 {
     let names = Names::Declared(&declared.inputs);
     let scope = Scope {
@@ -132,8 +126,7 @@ fn declaration_clash(
     at: usize,
 ) -> Result<Option<Clash>, AllocError>
     requires { number < length declarations.now }
-    ensures { IsFound (DeclarationClashes dialect text.now (map declaration_tree declarations.now)
-        at) result }
+    ensures { IsFound (DeclarationClashesIn dialect text.now declarations.now at) result }
 {
     let Declaration::Function(written) = &declarations[number] else {
         return Ok(None);
@@ -155,9 +148,7 @@ fn function_clash(
     written: &WrittenFunction,
     at: usize,
 ) -> Result<Option<Clash>, AllocError>
-    ensures { IsFound (FunctionClashes dialect text.now (signatures_in text.now functions.now) at
-        written.now.name (map typed_of written.now.parameters.items)
-        (type_tree written.now.result) (tree_of written.now.body)) result }
+    ensures { IsFound (FunctionClashesIn dialect text.now functions.now at written.now) result }
 {
     match parameters_of(alloc, text, &written.parameters) {
         Ok(parameters) => {
@@ -185,8 +176,7 @@ fn body_misfit(
     scope: &Scope<'_>,
     written: &WrittenFunction,
 ) -> Result<Option<Clash>, Refusal>
-    ensures { IsFound (IsOfAnotherType scope.now (tree_of written.now.body)
-        (type_tree written.now.result)) result }
+    ensures { IsFound (BodyMisfitsIn scope.now written.now) result }
 {
     let wanted = type_written(alloc, &written.result)?;
     let found = type_of(alloc, scope, &written.body)?;
@@ -297,8 +287,7 @@ fn two_clash(
     first: &Expr,
     second: &Expr,
 ) -> Result<Option<Clash>, AllocError>
-    ensures { IsFound (AnyClashesIn scope.now at
-        (both (tree_of first.now) (both (tree_of second.now) none))) result }
+    ensures { IsFound (AnyClashesIn scope.now at (two_trees first.now second.now)) result }
 {
     let found = clash_in(alloc, scope, at, first);
     if is_nothing(&found) {
@@ -317,8 +306,7 @@ fn three_clash(
     second: &Expr,
     third: &Expr,
 ) -> Result<Option<Clash>, AllocError>
-    ensures { IsFound (AnyClashesIn scope.now at (both (tree_of first.now)
-        (both (tree_of second.now) (both (tree_of third.now) none)))) result }
+    ensures { IsFound (AnyClashesIn scope.now at (three_trees first.now second.now third.now)) result }
 {
     let found = clash_in(alloc, scope, at, first);
     if is_nothing(&found) {

@@ -1,16 +1,12 @@
 // The declarations of a program.
 
 ghost use Rattle.std.specs.Prelude.{◌≡◌, [], map, IfOk};
-ghost use Rattle.snesl_data.specs.Types.{ty_of};
-ghost use Rattle.snesl_values.specs.Inputs.{declared, declaration_of};
-ghost use Rattle.snesl_tree.specs.Spelling.{spelling};
+ghost use Rattle.snesl_values.specs.Inputs.{declaration_of};
 ghost use Rattle.snesl_tree.specs.View.{tree_of, type_tree, typed_of, declaration_of as declaration_tree};
-ghost use Rattle.snesl_types.specs.Contexts.{function_named as function_among};
-ghost use Rattle.snesl_types.specs.Names.{signature_in, signatures_in, sizes_in};
-ghost use Rattle.snesl_types.specs.Programs.{written_type, are_few, nothing_declared};
-ghost use Rattle.snesl_types.specs.Sizes.{size};
-ghost use Rattle.snesl_types.specs.Verdicts.{IsVerdict, name_verdict, names_verdict, function_verdict, declarations_verdict, capped};
-ghost use Rattle.snesl_types.specs.Views.{declared_in};
+ghost use Rattle.snesl_types.specs.Names.{HasBodySize};
+ghost use Rattle.snesl_types.specs.Programs.{written_type, are_few};
+ghost use Rattle.snesl_types.specs.Verdicts.{IsVerdict, IsType, names_verdict};
+ghost use Rattle.snesl_types.specs.Views.{held_names, name_verdict_in, AreDeclared, IsSignature};
 
 use crate::expressions::type_of;
 use crate::forms::{pair_of, sequence_of, small};
@@ -62,9 +58,7 @@ pub(crate) fn declarations_of(
     text: &[u8],
     declarations: &[Declaration],
 ) -> Result<Declarations, Refusal>
-    ensures { IsVerdict (declared_in text.now)
-        (declarations_verdict dialect text.now nothing_declared
-        (map declaration_tree declarations.now)) result }
+    ensures { AreDeclared dialect text.now declarations.now result }
 {
     let mut inputs = Vec::new(alloc);
     let mut functions = Vec::new(alloc);
@@ -91,12 +85,8 @@ fn function_of(
     functions: &[Function],
     written: &WrittenFunction,
 ) -> Result<Function, Refusal>
-    ensures signature { IsVerdict (signature_in text.now)
-        (function_verdict dialect text.now (signatures_in text.now functions.now) written.now.name
-        (map typed_of written.now.parameters.items) (type_tree written.now.result)
-        (tree_of written.now.body)) result }
-    ensures size { IfOk result (λ function. function.size ≡
-        capped (size text.now (sizes_in text.now functions.now) (tree_of written.now.body))) }
+    ensures signature { IsSignature dialect text.now functions.now written.now result }
+    ensures size { IfOk result (HasBodySize text.now functions.now (tree_of written.now.body)) }
 {
     let name = written.name;
     if function_named(text, name, functions).is_some() {
@@ -130,8 +120,7 @@ pub(crate) fn parameters_of(
     text: &[u8],
     written: &[Typing],
 ) -> Result<Vec<(Vec<u8>, Ty)>, Refusal>
-    ensures { IsVerdict (λ names. declared names.items)
-        (names_verdict text.now [] (map typed_of written.now)) result }
+    ensures { IsVerdict held_names (names_verdict text.now [] (map typed_of written.now)) result }
 {
     let mut names = Vec::new(alloc);
     for typing in written {
@@ -148,8 +137,7 @@ fn named(
     earlier: &[(Vec<u8>, Ty)],
     typing: &Typing,
 ) -> Result<(Vec<u8>, Ty), Refusal>
-    ensures { IsVerdict declaration_of (name_verdict text.now (declared earlier.now)
-        (typed_of typing.now)) result }
+    ensures { IsVerdict declaration_of (name_verdict_in text.now earlier.now typing.now) result }
 {
     let bytes = typing.name.spelled(text);
     if type_in(bytes, earlier).is_some() {
@@ -162,7 +150,7 @@ fn named(
 
 // The type that a written one means.
 pub(crate) fn type_written(alloc: Global, written: &WrittenType) -> Result<Ty, Refusal>
-    ensures { IsVerdict ty_of (written_type (type_tree written.now)) result }
+    ensures { IsType (written_type (type_tree written.now)) result }
 {
     match written {
         WrittenType::Int { .. } => Ok(Ty::Int),

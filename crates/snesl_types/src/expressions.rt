@@ -2,13 +2,10 @@
 
 ghost use Rattle.std.specs.Prelude.{[], map};
 ghost use Rattle.snesl_data.specs.Types.{ty_of};
-ghost use Rattle.snesl_values.specs.Inputs.{declared};
-ghost use Rattle.snesl_tree.specs.Spelling.{spelling};
-ghost use Rattle.snesl_tree.specs.Tree.{binding, choice};
 ghost use Rattle.snesl_tree.specs.View.{tree_of, trees_of, binders_of};
-ghost use Rattle.snesl_types.specs.Contexts.{found, function_named as function_among};
-ghost use Rattle.snesl_types.specs.Verdicts.{IsVerdict, both_of, of_binding, of_function, of_binder};
-ghost use Rattle.snesl_types.specs.Names.{context_of, signatures_in, typed_in, ruled_in, all_typed_in, binders_typed_in, condition_typed_in, condition_in};
+ghost use Rattle.snesl_types.specs.Verdicts.{IsVerdict, IsType, of_binding, of_function, of_binder};
+ghost use Rattle.snesl_types.specs.Names.{typed_in, AreTyped, ruled_in, all_typed_in, binders_typed_in, condition_typed_in, condition_in, binding_in, callee_in};
+ghost use Rattle.snesl_types.specs.Views.{held_types, held_names, binding_of, if_of};
 
 use crate::builtins::builtin_type;
 use crate::forms::{
@@ -23,7 +20,7 @@ use std::alloc::Global;
 // The type of an expression.
 #[cycle(typing)]
 pub(crate) fn type_of(alloc: Global, scope: &Scope<'_>, expr: &Expr) -> Result<Ty, Refusal>
-    ensures { IsVerdict ty_of (typed_in scope.now (tree_of expr.now)) result }
+    ensures { IsType (typed_in scope.now (tree_of expr.now)) result }
 {
     let ty = type_by_rule(alloc, scope, expr)?;
     small(ty)
@@ -32,7 +29,7 @@ pub(crate) fn type_of(alloc: Global, scope: &Scope<'_>, expr: &Expr) -> Result<T
 // The type that the rule of its form gives to an expression, whatever the type's size.
 #[cycle(typing)]
 fn type_by_rule(alloc: Global, scope: &Scope<'_>, expr: &Expr) -> Result<Ty, Refusal>
-    ensures { IsVerdict ty_of (ruled_in scope.now (tree_of expr.now)) result }
+    ensures { IsType (ruled_in scope.now (tree_of expr.now)) result }
 {
     match expr {
         Expr::Integer { value, .. } => {
@@ -133,9 +130,7 @@ fn both_types(
     first: &Expr,
     second: &Expr,
 ) -> Result<(Ty, Ty), Refusal>
-    ensures { IsVerdict (λ types. (ty_of types.0, ty_of types.1))
-        (both_of (typed_in scope.now (tree_of first.now))
-        (typed_in scope.now (tree_of second.now))) result }
+    ensures { AreTyped scope.now (tree_of first.now) (tree_of second.now) result }
 {
     let first = type_of(alloc, scope, first)?;
     let second = type_of(alloc, scope, second)?;
@@ -151,8 +146,7 @@ fn let_type(
     value: &Expr,
     body: &Expr,
 ) -> Result<Ty, Refusal>
-    ensures { IsVerdict ty_of (ruled_in scope.now
-        (binding name.at name (tree_of value.now) (tree_of body.now))) result }
+    ensures { IsType (ruled_in scope.now (binding_of name.at name value.now body.now)) result }
 {
     let value = type_of(alloc, scope, value)?;
     let names = Names::Bound {
@@ -173,8 +167,7 @@ fn if_type(
     positive: &Expr,
     negative: &Expr,
 ) -> Result<Ty, Refusal>
-    ensures { IsVerdict ty_of (ruled_in scope.now
-        (choice at (tree_of condition.now) (tree_of positive.now) (tree_of negative.now))) result }
+    ensures { IsType (ruled_in scope.now (if_of at condition.now positive.now negative.now)) result }
 {
     let condition = type_of(alloc, scope, condition)?;
     let (positive, negative) = both_types(alloc, scope, positive, negative)?;
@@ -188,7 +181,7 @@ fn condition_type(
     scope: &Scope<'_>,
     condition: &Option<Box<Expr>>,
 ) -> Result<Ty, Refusal>
-    ensures { IsVerdict ty_of (condition_typed_in scope.now (condition_in condition.now)) result }
+    ensures { IsType (condition_typed_in scope.now (condition_in condition.now)) result }
 {
     match condition {
         Some(condition) => type_of(alloc, scope, condition),
@@ -203,8 +196,7 @@ pub(crate) fn types_of(
     scope: &Scope<'_>,
     arguments: &[Expr],
 ) -> Result<Vec<Ty>, Refusal>
-    ensures { IsVerdict (λ types. map ty_of types.items)
-        (all_typed_in scope.now [] (trees_of arguments.now)) result }
+    ensures { IsVerdict held_types (all_typed_in scope.now [] (trees_of arguments.now)) result }
 {
     let mut types = Vec::new(alloc);
     for argument in arguments {
@@ -221,8 +213,7 @@ pub(crate) fn binder_types(
     scope: &Scope<'_>,
     binders: &[Binder],
 ) -> Result<Vec<(Vec<u8>, Ty)>, Refusal>
-    ensures { IsVerdict (λ items. declared items.items)
-        (binders_typed_in scope.now [] (binders_of binders.now)) result }
+    ensures { IsVerdict held_names (binders_typed_in scope.now [] (binders_of binders.now)) result }
 {
     let mut items = Vec::new(alloc);
     for binder in binders {
@@ -238,7 +229,7 @@ pub(crate) fn binder_types(
 
 // The type of the elements that a binder over such a source stands for, where its name is not taken.
 fn item_type(alloc: Global, name: Span, taken: bool, source: &Ty) -> Result<Ty, Refusal>
-    ensures { IsVerdict ty_of (of_binder name taken (ty_of source.now)) result }
+    ensures { IsType (of_binder name taken (ty_of source.now)) result }
 {
     match source {
         _ if taken => Err(Refusal::Name(name.at)),
@@ -249,9 +240,7 @@ fn item_type(alloc: Global, name: Span, taken: bool, source: &Ty) -> Result<Ty, 
 
 // The type that a variable stands for.
 fn variable_type(alloc: Global, scope: &Scope<'_>, name: Span) -> Result<Ty, Refusal>
-    ensures { IsVerdict ty_of (of_binding name
-        (found (spelling scope.now.text.now name)
-        (context_of scope.now.text.now scope.now.names.now))) result }
+    ensures { IsType (of_binding name (binding_in scope.now name)) result }
 {
     match look_up(scope.text, name, scope.names, false) {
         Meaning::Unbound => Err(Refusal::Name(name.at)),
@@ -262,9 +251,7 @@ fn variable_type(alloc: Global, scope: &Scope<'_>, name: Span) -> Result<Ty, Ref
 
 // The type of a declared function's result, at arguments of these types.
 fn call_type(alloc: Global, scope: &Scope<'_>, name: Span, types: &[Ty]) -> Result<Ty, Refusal>
-    ensures { IsVerdict ty_of (of_function name (map ty_of types.now)
-        (function_among (spelling scope.now.text.now name)
-        (signatures_in scope.now.text.now scope.now.functions.now))) result }
+    ensures { IsType (of_function name (map ty_of types.now) (callee_in scope.now name)) result }
 {
     match function_named(scope.text, name, scope.functions) {
         None => Err(Refusal::Name(name.at)),

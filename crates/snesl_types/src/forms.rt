@@ -1,14 +1,13 @@
 // The tables of types: what operators, built-in functions and forms take and give.
 
 ghost use Rattle.std.specs.Prelude.{◌≡◌, ◌+◌, ◌<◌, map, Ok, IfSome, IfNone};
-ghost use Rattle.snesl_data.specs.declared.refusal.Refusal.TheVariants.{Mismatch};
 ghost use Rattle.snesl_data.specs.Types.{ty_of, int, bool, pair, vec, seq, is_same};
 ghost use Rattle.snesl_values.specs.Inputs.{declared};
 ghost use Rattle.snesl_tree.specs.View.{binders_of};
-ghost use Rattle.snesl_types.specs.Forms.{operator_result, prefix_result};
+ghost use Rattle.snesl_types.specs.Contexts.{declared_types};
 ghost use Rattle.snesl_types.specs.Programs.{small_type};
 ghost use Rattle.snesl_types.specs.Sizes.{type_size};
-ghost use Rattle.snesl_types.specs.Verdicts.{IsVerdict, or_refused, are_same, all_same as all_are, of_items, of_choice, of_filter, of_each};
+ghost use Rattle.snesl_types.specs.Verdicts.{IsType, of_operator, of_prefix, are_same, all_same as all_are, of_items, of_choice, of_filter, of_each};
 
 use snesl_data::{Refusal, Ty, copy_ty};
 use snesl_tree::{Binder, Operator, Prefix};
@@ -19,7 +18,7 @@ const GREATEST_TYPE_SIZE: usize = 256;
 
 // The type, where it is not too big.
 pub(crate) fn small(ty: Ty) -> Result<Ty, Refusal>
-    ensures { IsVerdict ty_of (small_type (ty_of ty)) result }
+    ensures { IsType (small_type (ty_of ty)) result }
 {
     match room_after(&ty, GREATEST_TYPE_SIZE) {
         Some(_) => Ok(ty),
@@ -51,8 +50,7 @@ pub(crate) fn operator_type(
     left: &Ty,
     right: &Ty,
 ) -> Result<Ty, Refusal>
-    ensures { IsVerdict ty_of (or_refused (Mismatch at)
-        (operator_result operator (ty_of left.now) (ty_of right.now))) result }
+    ensures { IsType (of_operator at operator (ty_of left.now) (ty_of right.now)) result }
 {
     match (left, right) {
         (Ty::Int, Ty::Int) => integers_type(at, operator),
@@ -65,7 +63,7 @@ pub(crate) fn operator_type(
 
 // Of two integers.
 fn integers_type(at: usize, operator: Operator) -> Result<Ty, Refusal>
-    ensures { IsVerdict ty_of (or_refused (Mismatch at) (operator_result operator int int)) result }
+    ensures { IsType (of_operator at operator int int) result }
 {
     match operator {
         Operator::Equal
@@ -86,8 +84,7 @@ fn integers_type(at: usize, operator: Operator) -> Result<Ty, Refusal>
 
 // Of two truth values.
 fn truths_type(at: usize, operator: Operator) -> Result<Ty, Refusal>
-    ensures { IsVerdict ty_of (or_refused (Mismatch at)
-        (operator_result operator bool bool)) result }
+    ensures { IsType (of_operator at operator bool bool) result }
 {
     match operator {
         Operator::Or | Operator::And | Operator::Equal => Ok(Ty::Bool),
@@ -103,8 +100,7 @@ fn append_type(
     item: &Ty,
     other: &Ty,
 ) -> Result<Ty, Refusal>
-    ensures { IsVerdict ty_of (or_refused (Mismatch at)
-        (operator_result operator (seq (ty_of item.now)) (seq (ty_of other.now)))) result }
+    ensures { IsType (of_operator at operator (seq (ty_of item.now)) (seq (ty_of other.now))) result }
 {
     match operator {
         Operator::Append if item.is(other) => {
@@ -117,8 +113,7 @@ fn append_type(
 
 // Of a vector of such items and an integer.
 fn index_type(alloc: Global, at: usize, operator: Operator, item: &Ty) -> Result<Ty, Refusal>
-    ensures { IsVerdict ty_of (or_refused (Mismatch at)
-        (operator_result operator (vec (ty_of item.now)) int)) result }
+    ensures { IsType (of_operator at operator (vec (ty_of item.now)) int) result }
 {
     match operator {
         Operator::Index => Ok(copy_ty(alloc, item)?),
@@ -128,8 +123,7 @@ fn index_type(alloc: Global, at: usize, operator: Operator, item: &Ty) -> Result
 
 // The type of a prefix operator's value.
 pub(crate) fn prefix_type(at: usize, operator: Prefix, operand: &Ty) -> Result<Ty, Refusal>
-    ensures { IsVerdict ty_of (or_refused (Mismatch at)
-        (prefix_result operator (ty_of operand.now))) result }
+    ensures { IsType (of_prefix at operator (ty_of operand.now)) result }
 {
     match (operator, operand) {
         (Prefix::Negate, Ty::Int) => Ok(Ty::Int),
@@ -140,7 +134,7 @@ pub(crate) fn prefix_type(at: usize, operator: Prefix, operand: &Ty) -> Result<T
 
 // The type of a literal of items of these types.
 pub(crate) fn literal_type(alloc: Global, at: usize, types: &[Ty]) -> Result<Ty, Refusal>
-    ensures { IsVerdict ty_of (of_items at (map ty_of types.now)) result }
+    ensures { IsType (of_items at (map ty_of types.now)) result }
 {
     match types {
         [first, others @ ..] if all_same(first, others) => sequence_of(
@@ -165,8 +159,7 @@ fn all_same(ty: &Ty, others: &[Ty]) -> bool
 
 // Whether arguments of these types are what the parameters take.
 pub(crate) fn arguments_fit(types: &[Ty], parameters: &[(Vec<u8>, Ty)]) -> bool
-    ensures { result ≡ are_same (map ty_of types.now)
-        (map (λ parameter. parameter.1) (declared parameters.now)) }
+    ensures { result ≡ are_same (map ty_of types.now) (declared_types (declared parameters.now)) }
 {
     if types.len() != parameters.len() {
         return false;
@@ -186,8 +179,7 @@ pub(crate) fn choice_type(
     positive: Ty,
     negative: &Ty,
 ) -> Result<Ty, Refusal>
-    ensures { IsVerdict ty_of (of_choice at (ty_of condition.now) (ty_of positive)
-        (ty_of negative.now)) result }
+    ensures { IsType (of_choice at (ty_of condition.now) (ty_of positive) (ty_of negative.now)) result }
 {
     if condition.is(&Ty::Bool) && positive.is(negative) {
         Ok(positive)
@@ -198,7 +190,7 @@ pub(crate) fn choice_type(
 
 // The type of a sequence of such items, where the condition is a truth value.
 pub(crate) fn filter_type(alloc: Global, at: usize, item: Ty, condition: &Ty) -> Result<Ty, Refusal>
-    ensures { IsVerdict ty_of (of_filter at (ty_of item) (ty_of condition.now)) result }
+    ensures { IsType (of_filter at (ty_of item) (ty_of condition.now)) result }
 {
     if condition.is(&Ty::Bool) {
         sequence_of(alloc, item)
@@ -215,8 +207,7 @@ pub(crate) fn each_type(
     body: Ty,
     condition: &Ty,
 ) -> Result<Ty, Refusal>
-    ensures { IsVerdict ty_of (of_each at (binders_of binders.now) (ty_of body)
-        (ty_of condition.now)) result }
+    ensures { IsType (of_each at (binders_of binders.now) (ty_of body) (ty_of condition.now)) result }
 {
     match binders {
         [] => Err(Refusal::Mismatch(at)),
@@ -225,13 +216,13 @@ pub(crate) fn each_type(
 }
 
 pub(crate) fn sequence_of(alloc: Global, item: Ty) -> Result<Ty, Refusal>
-    ensures { IsVerdict ty_of (Ok (seq (ty_of item))) result }
+    ensures { IsType (Ok (seq (ty_of item))) result }
 {
     Ok(Ty::Seq(Box::new(alloc, item)?))
 }
 
 pub(crate) fn pair_of(alloc: Global, first: Ty, second: Ty) -> Result<Ty, Refusal>
-    ensures { IsVerdict ty_of (Ok (pair (ty_of first) (ty_of second))) result }
+    ensures { IsType (Ok (pair (ty_of first) (ty_of second))) result }
 {
     Ok(Ty::Pair(Box::new(alloc, first)?, Box::new(alloc, second)?))
 }

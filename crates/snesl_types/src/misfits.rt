@@ -1,13 +1,16 @@
 // The types of the parts of one form, where its rule gives none at them.
 
-ghost use Rattle.std.specs.Prelude.{◌≡◌, ◌&&◌, map, IfOk, IsTrue};
+ghost use Rattle.std.specs.Prelude.{◌≡◌, IfOk, IsTrue};
 ghost use Rattle.snesl_data.specs.Types.{ty_of, bool, is_same};
 ghost use Rattle.snesl_values.specs.Inputs.{declared};
-ghost use Rattle.snesl_tree.specs.Tree.{binary, prefix, call, apply, choice, literal, filter, only_where};
+ghost use Rattle.snesl_tree.specs.Tree.{prefix, call, apply, literal};
 ghost use Rattle.snesl_tree.specs.View.{tree_of, trees_of, binders_of};
 ghost use Rattle.snesl_types.specs.Clashes.{IsFound};
-ghost use Rattle.snesl_types.specs.Misfitting.{IsMismatch, MisfitsIn, ConditionMisfitsIn, SourceMisfitsIn, IsNoSequence, is_sequence};
+ghost use Rattle.snesl_types.specs.Misfitting.{IsMismatch, MisfitsIn, EachMisfitsIn, SourceMisfitsIn, IsNoSequence, is_sequence};
+ghost use Rattle.snesl_types.specs.Contexts.{declared_types};
 ghost use Rattle.snesl_types.specs.Names.{condition_in};
+ghost use Rattle.snesl_types.specs.Verdicts.{fit_branches};
+ghost use Rattle.snesl_types.specs.Views.{held_types, binary_of, if_of, filter_of, only_where_of};
 
 use crate::builtins::builtin_type;
 use crate::clashes::Clash;
@@ -85,8 +88,7 @@ fn operands_misfit(
     left: &Expr,
     right: &Expr,
 ) -> Result<Option<Clash>, Refusal>
-    ensures { IsFound (MisfitsIn scope.now
-        (binary at operator (tree_of left.now) (tree_of right.now))) result }
+    ensures { IsFound (MisfitsIn scope.now (binary_of at operator left.now right.now)) result }
 {
     let first = type_of(alloc, scope, left)?;
     let second = type_of(alloc, scope, right)?;
@@ -157,8 +159,7 @@ fn parameters_misfit(
 
 // The types of parameters, in memory of their own.
 fn copied_types(alloc: Global, parameters: &[(Vec<u8>, Ty)]) -> Result<Vec<Ty>, AllocError>
-    ensures { IfOk result (λ types. map ty_of types.items ≡
-        map (λ parameter. parameter.1) (declared parameters.now)) }
+    ensures { IfOk result (λ types. held_types types ≡ declared_types (declared parameters.now)) }
 {
     let mut types = Vec::new(alloc);
     for parameter in parameters {
@@ -170,8 +171,7 @@ fn copied_types(alloc: Global, parameters: &[(Vec<u8>, Ty)]) -> Result<Vec<Ty>, 
 
 // Whether a condition and branches of these types fit together.
 fn branches_fit(condition: &Ty, positive: &Ty, negative: &Ty) -> bool
-    ensures { result ≡ (is_same (ty_of condition.now) bool
-        && is_same (ty_of positive.now) (ty_of negative.now)) }
+    ensures { result ≡ fit_branches (ty_of condition.now) (ty_of positive.now) (ty_of negative.now) }
 {
     is_truth(condition) && positive.is(negative)
 }
@@ -192,8 +192,7 @@ fn branches_misfit(
     positive: &Expr,
     negative: &Expr,
 ) -> Result<Option<Clash>, Refusal>
-    ensures { IsFound (MisfitsIn scope.now (choice at (tree_of condition.now)
-        (tree_of positive.now) (tree_of negative.now))) result }
+    ensures { IsFound (MisfitsIn scope.now (if_of at condition.now positive.now negative.now)) result }
 {
     let condition = type_of(alloc, scope, condition)?;
     let positive = type_of(alloc, scope, positive)?;
@@ -234,8 +233,7 @@ fn filter_misfit(
     item: &Expr,
     condition: &Expr,
 ) -> Result<Option<Clash>, Refusal>
-    ensures { IsFound (MisfitsIn scope.now
-        (filter at (tree_of item.now) (tree_of condition.now))) result }
+    ensures { IsFound (MisfitsIn scope.now (filter_of at item.now condition.now)) result }
 {
     let _filtered = type_of(alloc, scope, item)?;
     let ty = type_of(alloc, scope, condition)?;
@@ -252,8 +250,7 @@ fn condition_misfit(
     binders: &[Binder],
     condition: &Option<Box<Expr>>,
 ) -> Result<Option<Clash>, Refusal>
-    ensures { IsFound (ConditionMisfitsIn scope.now (binders_of binders.now)
-        (condition_in condition.now)) result }
+    ensures { IsFound (EachMisfitsIn scope.now binders.now (condition_in condition.now)) result }
 {
     match condition {
         Some(condition) => only_where_misfit(alloc, scope, binders, condition),
@@ -268,8 +265,7 @@ fn only_where_misfit(
     binders: &[Binder],
     condition: &Expr,
 ) -> Result<Option<Clash>, Refusal>
-    ensures { IsFound (ConditionMisfitsIn scope.now (binders_of binders.now)
-        (only_where (tree_of condition.now))) result }
+    ensures { IsFound (EachMisfitsIn scope.now binders.now (only_where_of condition.now)) result }
 {
     let items = binder_types(alloc, scope, binders)?;
     let names = Names::Inside {

@@ -1,11 +1,10 @@
 // The names that an expression sees.
 
-ghost use Rattle.std.specs.Prelude.{◌≡◌, map, Some, option_map};
+ghost use Rattle.std.specs.Prelude.{◌≡◌, Some, option_map};
 ghost use Rattle.snesl_data.specs.Types.{ty_of};
 ghost use Rattle.snesl_values.specs.Inputs.{declared};
-ghost use Rattle.snesl_tree.specs.Spelling.{spelling};
-ghost use Rattle.snesl_types.specs.Contexts.{open_to, found, type_in as type_among, function_named as function_among};
-ghost use Rattle.snesl_types.specs.Names.{context_of, found_binding, seen, signature_in, signatures_in};
+ghost use Rattle.snesl_types.specs.Contexts.{open_to, type_in as type_among};
+ghost use Rattle.snesl_types.specs.Names.{found_binding, binding_named, seen, found_signature, signature_named};
 
 use snesl_data::{Dialect, Ty};
 use snesl_tree::Span;
@@ -81,8 +80,7 @@ pub(crate) fn look_up<'a>(
     names: &'a Names<'a>,
     crossed: bool,
 ) -> Meaning<'a>
-    ensures { found_binding result ≡ seen crossed
-        (found (spelling text.now name) (context_of text.now names.now)) }
+    ensures { found_binding result ≡ seen crossed (binding_named text.now name names.now) }
 {
     match names {
         Names::Declared(all) => match type_in(name.spelled(text), all) {
@@ -136,8 +134,7 @@ pub(crate) fn function_named<'a>(
     name: Span,
     functions: &'a [Function],
 ) -> Option<&'a Function>
-    ensures { option_map (λ function. signature_in text.now function.now) result ≡
-        function_among (spelling text.now name) (signatures_in text.now functions.now) }
+    ensures { found_signature text.now result ≡ signature_named text.now name functions.now }
 {
     for function in functions {
         if function.name.spelled(text) == name.spelled(text) {

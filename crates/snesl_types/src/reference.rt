@@ -2,10 +2,8 @@
 
 ghost use Rattle.std.specs.Prelude.{◌≡◌, IfOk};
 ghost use Rattle.snesl_values.specs.Inputs.{declarations_of, dialect_of, environment_of};
-ghost use Rattle.snesl_evaluation.specs.Eval.{program_value};
-ghost use Rattle.snesl_evaluation.specs.Results.{IsAnswer};
 ghost use Rattle.snesl_types.specs.Soundness.{TypesAllow, TypedExpressionsAreSound, TypedProgramsAreSound};
-ghost use Rattle.snesl_types.specs.Typed.{typed_dialect, typed_inputs, typed_text, typed_tree, typed_ty};
+ghost use Rattle.snesl_types.specs.Typed.{typed_dialect, typed_inputs, typed_ty, IsAnswerOf};
 
 use crate::typed::TypedProgram;
 use snesl_data::{Datum, Fault};
@@ -32,8 +30,7 @@ pub fn plain(
 ) -> Result<Result<Datum, Fault>, AllocError>
     requires in_dialect { dialect_of inputs.now ≡ typed_dialect typed.now }
     requires fits { declarations_of inputs.now ≡ typed_inputs typed.now }
-    ensures exact { IfOk result (λ answer. IsAnswer answer
-        (program_value (typed_text typed.now) (typed_tree typed.now) (environment_of inputs.now))) }
+    ensures exact { IfOk result (IsAnswerOf typed.now (environment_of inputs.now)) }
     ensures sound { IfOk result (TypesAllow (typed_dialect typed.now) (typed_ty typed.now)) }
 {
     inputs_fit(inputs);

@@ -3,8 +3,8 @@
 ghost use Rattle.std.specs.Prelude.{◌≡◌, ◌+◌};
 ghost use Rattle.snesl_tree.specs.Spelling.{spelling};
 ghost use Rattle.snesl_tree.specs.View.{tree_of, trees_of, binders_of};
-ghost use Rattle.snesl_types.specs.Sizes.{size, size_of_all as sum_of_sizes, size_of_binders as sum_over_binders, size_of_condition as condition_size, body_size as size_named};
-ghost use Rattle.snesl_types.specs.Names.{condition_in, sizes_in};
+ghost use Rattle.snesl_types.specs.Sizes.{body_size as size_named};
+ghost use Rattle.snesl_types.specs.Names.{condition_in, sizes_in, size_in, all_sizes_in, binders_size_in, condition_size_in};
 ghost use Rattle.snesl_types.specs.Verdicts.{capped};
 
 use crate::names::Function;
@@ -16,7 +16,7 @@ const OVER: usize = 65_537;
 // The size of an expression with its calls written out, or 65,537 where it is greater.
 #[cycle(sizes)]
 pub(crate) fn size_of(text: &[u8], functions: &[Function], expr: &Expr) -> usize
-    ensures { result ≡ capped (size text.now (sizes_in text.now functions.now) (tree_of expr.now)) }
+    ensures { result ≡ size_in text.now functions.now (tree_of expr.now) }
 {
     match expr {
         Expr::Integer { .. } | Expr::Truth { .. } | Expr::Name(_) => 1,
@@ -80,8 +80,7 @@ pub(crate) fn size_of(text: &[u8], functions: &[Function], expr: &Expr) -> usize
 // The sizes of arguments or items together.
 #[cycle(sizes)]
 fn size_of_all(text: &[u8], functions: &[Function], all: &[Expr]) -> usize
-    ensures { result ≡ capped (sum_of_sizes text.now (sizes_in text.now functions.now)
-        (trees_of all.now)) }
+    ensures { result ≡ all_sizes_in text.now functions.now (trees_of all.now) }
 {
     let mut total = 0;
     for expr in all {
@@ -94,8 +93,7 @@ fn size_of_all(text: &[u8], functions: &[Function], all: &[Expr]) -> usize
 // The sizes of the sequences of binders together.
 #[cycle(sizes)]
 fn size_of_binders(text: &[u8], functions: &[Function], binders: &[Binder]) -> usize
-    ensures { result ≡ capped (sum_over_binders text.now (sizes_in text.now functions.now)
-        (binders_of binders.now)) }
+    ensures { result ≡ binders_size_in text.now functions.now (binders_of binders.now) }
 {
     let mut total = 0;
     for binder in binders {
@@ -108,8 +106,7 @@ fn size_of_binders(text: &[u8], functions: &[Function], binders: &[Binder]) -> u
 // The size of a condition, 0 where there is none.
 #[cycle(sizes)]
 fn size_of_condition(text: &[u8], functions: &[Function], condition: &Option<Box<Expr>>) -> usize
-    ensures { result ≡ capped (condition_size text.now (sizes_in text.now functions.now)
-        (condition_in condition.now)) }
+    ensures { result ≡ condition_size_in text.now functions.now (condition_in condition.now) }
 {
     match condition {
         Some(condition) => size_of(text, functions, condition),

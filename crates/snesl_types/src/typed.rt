@@ -2,7 +2,7 @@
 
 ghost use Rattle.std.specs.Prelude.{◌≡◌, ◌↔◌, IsTrue};
 ghost use Rattle.snesl_data.specs.Types.{ty_of};
-ghost use Rattle.snesl_values.specs.Inputs.{declarations_of, declared, dialect_of};
+ghost use Rattle.snesl_values.specs.Inputs.{declared};
 ghost use Rattle.snesl_grammar.specs.View.{program_of as tree_of_program};
 ghost use Rattle.snesl_types.specs.Programs.{HasTyping};
 
@@ -22,7 +22,7 @@ pub struct TypedProgram<'a> {
 }
 
 impl<'a> TypedProgram<'a> {
-    ghost use Rattle.snesl_types.specs.Typed.{program_of, typed_dialect, typed_inputs, typed_ty};
+    ghost use Rattle.snesl_types.specs.Typed.{program_of, typed_dialect, typed_inputs, typed_ty, AreReadFor};
 
     /// The program.
     pub fn program(&self) -> &'a Program
@@ -48,8 +48,7 @@ impl<'a> TypedProgram<'a> {
     /// Whether the inputs were read for the program: in its dialect, and for the names and types of the
     /// declared inputs, in this order.
     pub fn fits(&self, inputs: &Inputs) -> bool
-        ensures { IsTrue result ↔ ((dialect_of inputs.now ≡ typed_dialect self.now) ×
-            (declarations_of inputs.now ≡ typed_inputs self.now)) }
+        ensures { IsTrue result ↔ AreReadFor self.now inputs.now }
     {
         inputs.dialect() == self.program.dialect && same_decls(inputs.decls(), &self.inputs)
     }
