@@ -5,3 +5,4 @@ pub mod Functions
 pub mod Names
 pub mod Messages
 pub mod Clashes
+pub mod Views

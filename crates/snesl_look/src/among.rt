@@ -1,7 +1,7 @@
 // Which of some names is nearest to one.
 
-ghost use Rattle.std.specs.Prelude.{IfOk, MatchOption, map};
-ghost use Rattle.snesl_look.specs.Names.{IsNearestAmong, NoneNearAmong};
+ghost use Rattle.std.specs.Prelude.{IfOk};
+ghost use Rattle.snesl_look.specs.Views.{FindsNearestOf};
 
 use crate::names::{MOST_COMPARED, most_edits};
 use std::alloc::{AllocError, Global};
@@ -14,9 +14,7 @@ pub fn nearest_of(
     names: &[Vec<u8>],
     word: &[u8],
 ) -> Result<Option<usize>, AllocError>
-    ensures { IfOk result (λ found. MatchOption found
-        (NoneNearAmong (map (λ name. name.items) names.now) word.now)
-        (IsNearestAmong (map (λ name. name.items) names.now) word.now)) }
+    ensures { IfOk result (FindsNearestOf names.now word.now) }
 {
     if word.len() > MOST_COMPARED {
         return Ok(None);

@@ -1,9 +1,10 @@
 // Messages of types that do not fit.
 
-ghost use Rattle.std.specs.Prelude.{◌≡◌, ◌++◌, ◌∷◌, [], IfOk, OnOk, map};
+ghost use Rattle.std.specs.Prelude.{◌≡◌, ◌∷◌, [], IfOk, map};
 ghost use Rattle.snesl_data.specs.Types.{ty_of};
-ghost use Rattle.snesl_types.specs.Clashes.{clash_of, body, branches, parameters, source};
+ghost use Rattle.snesl_types.specs.Clashes.{clash_of, source};
 ghost use Rattle.snesl_look.specs.Clashes.{clash_sentence, note_of, listed, phrase_of_type, of_types, others, quoted_type, type_text};
+ghost use Rattle.snesl_look.specs.Views.{Appends, body_note, branches_note, parameters_note, several_note};
 
 use snesl_data::Ty;
 use snesl_types::Clash;
@@ -46,7 +47,7 @@ pub fn clash_note(alloc: Global, clash: &Clash) -> Result<Vec<u8>, AllocError>
 
 // The types that stand there.
 fn append_note(note: &mut Vec<u8>, clash: &Clash) -> Result<(), AllocError>
-    ensures { OnOk result (note.new.items ≡ note.old.items ++ note_of (clash_of clash.now)) }
+    ensures { Appends note.old note.new (note_of (clash_of clash.now)) result }
 {
     match clash {
         Clash::Operands(left, right) => append_of_more(note, b"operand", left, right, &[]),
@@ -67,8 +68,7 @@ fn append_note(note: &mut Vec<u8>, clash: &Clash) -> Result<(), AllocError>
 
 // Of a declared function's arguments and parameters.
 fn append_parameters(note: &mut Vec<u8>, found: &[Ty], wanted: &[Ty]) -> Result<(), AllocError>
-    ensures { OnOk result (note.new.items ≡ note.old.items
-        ++ note_of (parameters (map ty_of found.now) (map ty_of wanted.now))) }
+    ensures { Appends note.old note.new (parameters_note found.now wanted.now) result }
 {
     append_of_types(note, b"argument", found)?;
     note.extend_from_slice(b", and ")?;
@@ -82,8 +82,7 @@ fn append_branches(
     positive: &Ty,
     negative: &Ty,
 ) -> Result<(), AllocError>
-    ensures { OnOk result (note.new.items ≡ note.old.items
-        ++ note_of (branches (ty_of condition.now) (ty_of positive.now) (ty_of negative.now))) }
+    ensures { Appends note.old note.new (branches_note condition.now positive.now negative.now) result }
 {
     append_of_type(note, b"condition", condition)?;
     note.extend_from_slice(b", and the branches are of the types ")?;
@@ -92,7 +91,7 @@ fn append_branches(
 
 // Of what a binder goes over.
 fn append_source(note: &mut Vec<u8>, ty: &Ty) -> Result<(), AllocError>
-    ensures { OnOk result (note.new.items ≡ note.old.items ++ note_of (source (ty_of ty.now))) }
+    ensures { Appends note.old note.new (note_of (source (ty_of ty.now))) result }
 {
     note.extend_from_slice(b"this goes over a value of the type ")?;
     append_quoted(note, ty)?;
@@ -101,8 +100,7 @@ fn append_source(note: &mut Vec<u8>, ty: &Ty) -> Result<(), AllocError>
 
 // Of a function's body and its declared result.
 fn append_body(note: &mut Vec<u8>, found: &Ty, wanted: &Ty) -> Result<(), AllocError>
-    ensures { OnOk result (note.new.items ≡ note.old.items
-        ++ note_of (body (ty_of found.now) (ty_of wanted.now))) }
+    ensures { Appends note.old note.new (body_note found.now wanted.now) result }
 {
     append_of_type(note, b"body", found)?;
     note.extend_from_slice(b", and the result was declared as ")?;
@@ -111,8 +109,7 @@ fn append_body(note: &mut Vec<u8>, found: &Ty, wanted: &Ty) -> Result<(), AllocE
 
 // What is of these types, by the word for one of them.
 fn append_of_types(note: &mut Vec<u8>, word: &[u8], types: &[Ty]) -> Result<(), AllocError>
-    ensures { OnOk result (note.new.items ≡ note.old.items
-        ++ of_types word.now (map ty_of types.now)) }
+    ensures { Appends note.old note.new (of_types word.now (map ty_of types.now)) result }
 {
     match types {
         [] => append_of_none(note, word),
@@ -123,7 +120,7 @@ fn append_of_types(note: &mut Vec<u8>, word: &[u8], types: &[Ty]) -> Result<(), 
 
 // What there is none of.
 fn append_of_none(note: &mut Vec<u8>, word: &[u8]) -> Result<(), AllocError>
-    ensures { OnOk result (note.new.items ≡ note.old.items ++ of_types word.now []) }
+    ensures { Appends note.old note.new (of_types word.now []) result }
 {
     note.extend_from_slice(b"there is no ")?;
     note.extend_from_slice(word)
@@ -137,8 +134,7 @@ fn append_of_more(
     second: &Ty,
     rest: &[Ty],
 ) -> Result<(), AllocError>
-    ensures { OnOk result (note.new.items ≡ note.old.items
-        ++ of_types word.now (ty_of first.now ∷ ty_of second.now ∷ map ty_of rest.now)) }
+    ensures { Appends note.old note.new (several_note word.now first.now second.now rest.now) result }
 {
     note.extend_from_slice(b"the ")?;
     note.extend_from_slice(word)?;
@@ -149,7 +145,7 @@ fn append_of_more(
 
 // What is of a type, by the word for it.
 fn append_of_type(note: &mut Vec<u8>, word: &[u8], ty: &Ty) -> Result<(), AllocError>
-    ensures { OnOk result (note.new.items ≡ note.old.items ++ phrase_of_type word.now (ty_of ty.now)) }
+    ensures { Appends note.old note.new (phrase_of_type word.now (ty_of ty.now)) result }
 {
     note.extend_from_slice(b"the ")?;
     note.extend_from_slice(word)?;
@@ -159,8 +155,7 @@ fn append_of_type(note: &mut Vec<u8>, word: &[u8], ty: &Ty) -> Result<(), AllocE
 
 // Two types.
 fn append_two(note: &mut Vec<u8>, first: &Ty, second: &Ty) -> Result<(), AllocError>
-    ensures { OnOk result (note.new.items ≡ note.old.items
-        ++ listed (ty_of first.now ∷ ty_of second.now ∷ [])) }
+    ensures { Appends note.old note.new (listed (ty_of first.now ∷ ty_of second.now ∷ [])) result }
 {
     append_quoted(note, first)?;
     note.extend_from_slice(b", ")?;
@@ -169,7 +164,7 @@ fn append_two(note: &mut Vec<u8>, first: &Ty, second: &Ty) -> Result<(), AllocEr
 
 // Further types, each after a comma.
 fn append_others(note: &mut Vec<u8>, types: &[Ty]) -> Result<(), AllocError>
-    ensures { OnOk result (note.new.items ≡ note.old.items ++ others (map ty_of types.now)) }
+    ensures { Appends note.old note.new (others (map ty_of types.now)) result }
 {
     match types {
         [] => Ok(()),
@@ -183,7 +178,7 @@ fn append_others(note: &mut Vec<u8>, types: &[Ty]) -> Result<(), AllocError>
 
 // A type between quotes.
 fn append_quoted(note: &mut Vec<u8>, ty: &Ty) -> Result<(), AllocError>
-    ensures { OnOk result (note.new.items ≡ note.old.items ++ quoted_type (ty_of ty.now)) }
+    ensures { Appends note.old note.new (quoted_type (ty_of ty.now)) result }
 {
     note.extend_from_slice(b"`")?;
     append_type(note, ty)?;
@@ -192,7 +187,7 @@ fn append_quoted(note: &mut Vec<u8>, ty: &Ty) -> Result<(), AllocError>
 
 // A type as programs write it.
 fn append_type(text: &mut Vec<u8>, ty: &Ty) -> Result<(), AllocError>
-    ensures { OnOk result (text.new.items ≡ text.old.items ++ type_text (ty_of ty.now)) }
+    ensures { Appends text.old text.new (type_text (ty_of ty.now)) result }
 {
     match ty {
         Ty::Int => text.extend_from_slice(b"int"),

@@ -1,9 +1,10 @@
 // In which function a place of a program lies.
 
-ghost use Rattle.std.specs.Prelude.{◌≡◌, ◌↔◌, ◌<◌, ◌≤◌, ◌+◌, ◌^◌, IsTrue, MatchOption, length};
+ghost use Rattle.std.specs.Prelude.{◌≡◌, ◌↔◌, ◌<◌, ◌≤◌, ◌+◌, ◌^◌, IsTrue, length};
 ghost use Rattle.std.specs.List.{prefix_len};
 ghost use Rattle.snesl_data.specs.Blanks.{is_blank};
-ghost use Rattle.snesl_look.specs.Functions.{IsDeclarationAt, DeclaresFunction, HasName, IsNamedAt, NoneAt, NoneNamedAt, after_blanks, after_word, depth_after_byte, front_word};
+ghost use Rattle.snesl_look.specs.Functions.{DeclaresFunction, after_blanks, after_word, depth_after_byte, front_word};
+ghost use Rattle.snesl_look.specs.Views.{FindsDeclaration, FindsFunction, FindsName};
 
 use snesl_data::{is_blank, word_len};
 
@@ -13,8 +14,7 @@ const FUNCTION: &[u8] = b"function";
 /// The name of the function in whose declaration an offset of a program lies: a declaration ends with the first `;` that
 /// stands in no bracket. `None` where the offset lies in another declaration or after all of them.
 pub fn function_at(program: &[u8], offset: usize) -> Option<&[u8]>
-    ensures { MatchOption result (NoneNamedAt program.now offset)
-        (λ name. IsNamedAt program.now offset name.now) }
+    ensures { FindsFunction program.now offset result }
 {
     match declaration_at(program, offset) {
         Some(declaration) => name_of(declaration),
@@ -24,8 +24,7 @@ pub fn function_at(program: &[u8], offset: usize) -> Option<&[u8]>
 
 // The declaration in which the offset lies, without its `;`.
 fn declaration_at(text: &[u8], offset: usize) -> Option<&[u8]>
-    ensures { MatchOption result (NoneAt text.now offset)
-        (λ declaration. IsDeclarationAt text.now offset declaration.now) }
+    ensures { FindsDeclaration text.now offset result }
 {
     let mut start = 0;
     let mut depth = 0;
@@ -56,8 +55,7 @@ fn depth_after_byte(depth: usize, byte: u8) -> usize
 
 // The name in a function's declaration.
 fn name_of(declaration: &[u8]) -> Option<&[u8]>
-    ensures { MatchOption result (¬ (DeclaresFunction declaration.now))
-        (λ name. HasName declaration.now name.now) }
+    ensures { FindsName declaration.now result }
 {
     if !is_function(declaration) {
         return None;

@@ -1,8 +1,9 @@
 // Messages: what went wrong, where, and what may help.
 
-ghost use Rattle.std.specs.Prelude.{◌≡◌, ◌++◌, ◌≤◌, [], None, IfOk, OnOk, decimal, map, option_map};
-ghost use Rattle.snesl_look.specs.Messages.{IsFaultMessage, IsNameMessage, IsRefusalMessage, caret_part, enough_part, function_part, gutter, heading_part, hint_part, line_part, message, messages_part, near_part, noted_message, notes_part, note_part, place_part, placed_message, remark, sentence_part, shown_from, shown_part, stalled_message};
+ghost use Rattle.std.specs.Prelude.{◌≡◌, ◌≤◌, [], None, IfOk, decimal};
+ghost use Rattle.snesl_look.specs.Messages.{IsFaultMessage, IsNameMessage, IsRefusalMessage, caret_part, enough_part, function_part, gutter, hint_part, line_part, message, messages_part, near_part, notes_part, note_part, placed_message, remark, sentence_part, shown_from, shown_part, stalled_message};
 ghost use Rattle.snesl_look.specs.Places.{line_of};
+ghost use Rattle.snesl_look.specs.Views.{Appends, IsNoted, IsMessageAt, heading_at, lent_text, place_at, texts_of};
 
 use crate::functions::function_at;
 use crate::names::near_name;
@@ -85,8 +86,7 @@ fn name_message(alloc: Global, at: usize, program: &[u8]) -> Result<Vec<u8>, All
 
 // The name that is meant.
 fn append_near(message: &mut Vec<u8>, number: usize, name: &[u8]) -> Result<(), AllocError>
-    ensures { OnOk result (message.new.items
-        ≡ message.old.items ++ near_part number name.now) }
+    ensures { Appends message.old message.new (near_part number name.now) result }
 {
     append_remark(message, number, b" = hint: did you mean `", name, b"`?\n")
 }
@@ -138,7 +138,7 @@ pub fn stalled_message(
 
 // What is known of how many messages are enough, or a hint.
 fn append_enough(message: &mut Vec<u8>, number: usize, enough: Enough) -> Result<(), AllocError>
-    ensures { OnOk result (message.new.items ≡ message.old.items ++ enough_part number enough) }
+    ensures { Appends message.old message.new (enough_part number enough) result }
 {
     match enough {
         Enough::Messages(count) => append_messages(message, number, count),
@@ -148,7 +148,7 @@ fn append_enough(message: &mut Vec<u8>, number: usize, enough: Enough) -> Result
 
 // How many messages are enough.
 fn append_messages(message: &mut Vec<u8>, number: usize, count: usize) -> Result<(), AllocError>
-    ensures { OnOk result (message.new.items ≡ message.old.items ++ messages_part number count) }
+    ensures { Appends message.old message.new (messages_part number count) result }
 {
     append_gutter(message, number)?;
     message.extend_from_slice(b" = note: ")?;
@@ -160,8 +160,7 @@ fn append_messages(message: &mut Vec<u8>, number: usize, count: usize) -> Result
 
 // A message with no place.
 fn unplaced(alloc: Global, sentence: &str, hint: Option<&str>) -> Result<Vec<u8>, AllocError>
-    ensures { IfOk result (λ made. made.items ≡ message sentence.now
-        (option_map (λ text. text.now) hint.entry)) }
+    ensures { IfOk result (λ made. made.items ≡ message sentence.now (lent_text hint.entry)) }
 {
     let mut message = Vec::new(alloc);
     append_sentence(&mut message, sentence)?;
@@ -179,9 +178,7 @@ fn placed(
     name: Option<&[u8]>,
     hint: Option<&str>,
 ) -> Result<Vec<u8>, AllocError>
-    ensures { IfOk result (λ made. made.items
-        ≡ placed_message sentence.now text.now offset of_text.now
-        (option_map (λ bytes. bytes.now) name.entry) (option_map (λ text. text.now) hint.entry)) }
+    ensures { IfOk result (IsMessageAt sentence.now text.now offset of_text.now name.entry hint.entry) }
 {
     let position = position_of(text, offset);
     let mut message = Vec::new(alloc);
@@ -205,9 +202,7 @@ pub fn noted_message(
     notes: &[Vec<u8>],
     hint: &[u8],
 ) -> Result<Vec<u8>, AllocError>
-    ensures { IfOk result (λ made. made.items
-        ≡ noted_message sentence.now text.now offset of_text.now
-        (map (λ note. note.items) notes.now) hint.now) }
+    ensures { IfOk result (IsNoted sentence.now text.now offset of_text.now notes.now hint.now) }
 {
     let position = position_of(text, offset);
     let mut message = Vec::new(alloc);
@@ -223,8 +218,7 @@ pub fn noted_message(
 
 // Some notes, each in a line.
 fn append_notes(message: &mut Vec<u8>, number: usize, notes: &[Vec<u8>]) -> Result<(), AllocError>
-    ensures { OnOk result (message.new.items
-        ≡ message.old.items ++ notes_part number (map (λ note. note.items) notes.now)) }
+    ensures { Appends message.old message.new (notes_part number (texts_of notes.now)) result }
 {
     match notes {
         [] => Ok(()),
@@ -236,13 +230,13 @@ fn append_notes(message: &mut Vec<u8>, number: usize, notes: &[Vec<u8>]) -> Resu
 }
 
 fn append_sentence(message: &mut Vec<u8>, sentence: &str) -> Result<(), AllocError>
-    ensures { OnOk result (message.new.items ≡ message.old.items ++ sentence_part sentence.now) }
+    ensures { Appends message.old message.new (sentence_part sentence.now) result }
 {
     append_bytes_of_sentence(message, sentence.as_bytes())
 }
 
 fn append_bytes_of_sentence(message: &mut Vec<u8>, sentence: &[u8]) -> Result<(), AllocError>
-    ensures { OnOk result (message.new.items ≡ message.old.items ++ sentence_part sentence.now) }
+    ensures { Appends message.old message.new (sentence_part sentence.now) result }
 {
     message.extend_from_slice(b"error: ")?;
     message.extend_from_slice(sentence)?;
@@ -255,8 +249,7 @@ fn append_heading(
     position: Position,
     of_text: &str,
 ) -> Result<(), AllocError>
-    ensures { OnOk result (message.new.items
-        ≡ message.old.items ++ heading_part position.line position.column of_text.now) }
+    ensures { Appends message.old message.new (heading_at position of_text.now) result }
 {
     append_gutter(message, position.line)?;
     message.extend_from_slice(b"--> line ")?;
@@ -274,8 +267,7 @@ fn append_place(
     line: &[u8],
     position: Position,
 ) -> Result<(), AllocError>
-    ensures { OnOk result (message.new.items
-        ≡ message.old.items ++ place_part line.now position.line position.column) }
+    ensures { Appends message.old message.new (place_at line.now position) result }
 {
     let from = shown_from(line, position.column);
     let part = shown_part(line, from);
@@ -290,7 +282,7 @@ fn append_line(
     number: usize,
     part: &[u8],
 ) -> Result<(), AllocError>
-    ensures { OnOk result (message.new.items ≡ message.old.items ++ line_part number part.now) }
+    ensures { Appends message.old message.new (line_part number part.now) result }
 {
     let shown = shown_line(alloc, part)?;
     append_gutter(message, number)?;
@@ -309,8 +301,7 @@ fn append_caret(
     part: &[u8],
     column: usize,
 ) -> Result<(), AllocError>
-    ensures { OnOk result (message.new.items
-        ≡ message.old.items ++ caret_part number part.now column) }
+    ensures { Appends message.old message.new (caret_part number part.now column) result }
 {
     let caret = caret_line(alloc, part, column)?;
     append_gutter(message, number)?;
@@ -325,8 +316,7 @@ fn append_function(
     number: usize,
     name: Option<&[u8]>,
 ) -> Result<(), AllocError>
-    ensures { OnOk result (message.new.items
-        ≡ message.old.items ++ function_part number (option_map (λ bytes. bytes.now) name.entry)) }
+    ensures { Appends message.old message.new (function_part number (lent_text name.entry)) result }
 {
     match name {
         Some(name) => append_remark(message, number, IN_FUNCTION, name, LED_HERE),
@@ -335,8 +325,7 @@ fn append_function(
 }
 
 fn append_hint(message: &mut Vec<u8>, number: usize, hint: Option<&str>) -> Result<(), AllocError>
-    ensures { OnOk result (message.new.items
-        ≡ message.old.items ++ hint_part number (option_map (λ text. text.now) hint.entry)) }
+    ensures { Appends message.old message.new (hint_part number (lent_text hint.entry)) result }
 {
     match hint {
         Some(hint) => append_remark(message, number, b" = hint: ", hint.as_bytes(), b"\n"),
@@ -352,8 +341,7 @@ fn append_remark(
     text: &[u8],
     behind: &[u8],
 ) -> Result<(), AllocError>
-    ensures { OnOk result (message.new.items
-        ≡ message.old.items ++ remark number before.now text.now behind.now) }
+    ensures { Appends message.old message.new (remark number before.now text.now behind.now) result }
 {
     append_gutter(message, number)?;
     message.extend_from_slice(before)?;
@@ -362,7 +350,7 @@ fn append_remark(
 }
 
 fn append_number(message: &mut Vec<u8>, number: usize) -> Result<(), AllocError>
-    ensures { OnOk result (message.new.items ≡ message.old.items ++ decimal number) }
+    ensures { Appends message.old message.new (decimal number) result }
 {
     let mut buffer = Buffer::new();
     message.extend_from_slice(buffer.format(number).as_bytes())
@@ -370,7 +358,7 @@ fn append_number(message: &mut Vec<u8>, number: usize) -> Result<(), AllocError>
 
 // As many blanks as the number has digits.
 fn append_gutter(message: &mut Vec<u8>, number: usize) -> Result<(), AllocError>
-    ensures { OnOk result (message.new.items ≡ message.old.items ++ gutter number) }
+    ensures { Appends message.old message.new (gutter number) result }
 {
     let mut buffer = Buffer::new();
     let digits = buffer.format(number).len();

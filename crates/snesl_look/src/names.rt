@@ -1,8 +1,9 @@
 // Names that are near to one that is not bound.
 
-ghost use Rattle.std.specs.Prelude.{◌≡◌, ◌<◌, ◌≤◌, IfOk, IsTrue, MatchOption, length, ◌↔◌};
+ghost use Rattle.std.specs.Prelude.{◌≡◌, ◌<◌, ◌≤◌, IfOk, IsTrue, length, ◌↔◌};
 ghost use Rattle.snesl_data.specs.Characters.{is_word};
-ghost use Rattle.snesl_look.specs.Names.{DistanceIsByCases, DistanceIsLeast, IsKeyword, IsMeant, IsNearestAt, IsOther, NoneMeant, NoneNear, begins_name, built_ins, distance_at, most_edits, name_at, searched};
+ghost use Rattle.snesl_look.specs.Names.{DistanceIsByCases, DistanceIsLeast, IsKeyword, begins_name, built_ins, most_edits, name_at, searched};
+ghost use Rattle.snesl_look.specs.Views.{CountsEdits, FindsMeant, FindsNearest};
 
 use crate::functions::front_word;
 use std::alloc::{AllocError, Global};
@@ -24,8 +25,7 @@ const BUILT_INS: &[u8] =
 /// program and the built-in functions, if one is near. `None` where the name has more than 64 bytes, where no other is near,
 /// and where it stands elsewhere in the program too. The error is that memory was refused.
 pub fn near_name(alloc: Global, program: &[u8], at: usize) -> Result<Option<Vec<u8>>, AllocError>
-    ensures { IfOk result (λ found. MatchOption found (NoneMeant program.now at)
-        (λ name. IsMeant program.now at name.items)) }
+    ensures { IfOk result (FindsMeant program.now at) }
 {
     let word = name_at(program, at);
     if word.len() > MOST_COMPARED {
@@ -56,8 +56,7 @@ fn searched(alloc: Global, program: &[u8]) -> Result<Vec<u8>, AllocError>
 
 // Where the first of the nearest names begins.
 fn nearest(alloc: Global, text: &[u8], at: usize, word: &[u8]) -> Result<Option<usize>, AllocError>
-    ensures { IfOk result (λ found. MatchOption found (NoneNear text.now at word.now)
-        (IsNearestAt text.now at word.now)) }
+    ensures { IfOk result (FindsNearest text.now at word.now) }
 {
     let limit = most_edits(word) + 1;
     let mut found = 0;
@@ -82,8 +81,7 @@ fn edits_at(
     place: usize,
 ) -> Result<Option<usize>, AllocError>
     requires { place < length text.now }
-    ensures { IfOk result (λ edits. MatchOption edits (¬ IsOther text.now at place)
-        (λ count. IsOther text.now at place × (count ≡ distance_at text.now word.now place))) }
+    ensures { IfOk result (CountsEdits text.now at word.now place) }
 {
     if place == at || !begins_name(text, place) {
         return Ok(None);

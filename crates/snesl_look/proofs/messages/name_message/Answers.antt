@@ -1,5 +1,6 @@
 use Rattle.std.proofs.Common.{subst, sym}
 use Rattle.snesl_look.specs.Messages.{IsNameMessage, meant}
+use Rattle.snesl_look.specs.Views.{IsMessageAt}
 use Rattle.snesl_look.proofs.Told.{made_names_none}
 use Rattle.snesl_look.proofs.messages.name_message.Goals as goal
 
@@ -15,5 +16,5 @@ returns-in_ok-append_near-in-Some c =
 pub returns-in-None : goal.returns-in-None
 returns-in-None c =
     let none = rw c.in-None.is at c.in_ok-name.ensures in
-    let made = rw (c.refusal_sentence-sentence.ensures, c.refusal_hint.ensures) at c.placed-in-None.ensures in
+    let made = rw (IsMessageAt, c.refusal_sentence-sentence.ensures, c.refusal_hint.ensures) at c.placed-in-None.ensures in
     made_names_none c.args.at c.args.program.now none c.placed-in-None.result made
