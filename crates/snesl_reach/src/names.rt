@@ -1,9 +1,9 @@
 // Names that are bound around others.
 
-ghost use Rattle.std.specs.Prelude.{◌≡◌, ◌++◌, ◌==◌, [], ◌∷◌, Some, None, IfOk, OnOk, if◌then◌else◌, map, option_map};
-ghost use Rattle.snesl_tree.specs.View.{binders_of, declaration_of, typed_of};
-ghost use Rattle.snesl_reach.specs.Candidates.{around, bound_by, enclosed, functions, functions_among, inputs_among, places_of, values};
-ghost use Rattle.snesl_reach.specs.View.{names_of};
+ghost use Rattle.std.specs.Prelude.{◌≡◌, ◌++◌, ◌==◌, [], ◌∷◌, Some, None, IfOk, OnOk, if◌then◌else◌, option_map};
+ghost use Rattle.snesl_tree.specs.View.{binders_of};
+ghost use Rattle.snesl_reach.specs.Candidates.{bound_by, functions, values};
+ghost use Rattle.snesl_reach.specs.View.{FindsNames, function_places, input_places, names_of, parameter_places, widened, within_function, within_program};
 
 use snesl_tree::{Binder, Declaration, Span, Typing};
 use std::alloc::{AllocError, Global};
@@ -42,8 +42,7 @@ pub(crate) fn with_name(
     found: Option<Candidates>,
     name: Span,
 ) -> Result<Option<Candidates>, AllocError>
-    ensures { IfOk result (λ made. option_map names_of made
-        ≡ option_map (around (name ∷ [])) (option_map names_of found)) }
+    ensures { IfOk result (FindsNames (widened (name ∷ []) found)) }
 {
     match found {
         Some(Candidates::Values(mut names)) => {
@@ -59,8 +58,7 @@ pub(crate) fn with_binders(
     found: Option<Candidates>,
     binders: &[Binder],
 ) -> Result<Option<Candidates>, AllocError>
-    ensures { IfOk result (λ made. option_map names_of made
-        ≡ option_map (around (bound_by (binders_of binders.now))) (option_map names_of found)) }
+    ensures { IfOk result (FindsNames (widened (bound_by (binders_of binders.now)) found)) }
 {
     match found {
         Some(Candidates::Values(mut names)) => {
@@ -77,9 +75,7 @@ pub(crate) fn with_parameters(
     parameters: &[Typing],
     earlier: &[Declaration],
 ) -> Result<Option<Candidates>, AllocError>
-    ensures { IfOk result (λ made. option_map names_of made
-        ≡ option_map (enclosed (places_of (map typed_of parameters.now))
-        (functions_among (map declaration_of earlier.now))) (option_map names_of found)) }
+    ensures { IfOk result (FindsNames (within_function parameters.now earlier.now found)) }
 {
     match found {
         Some(Candidates::Values(mut names)) => {
@@ -99,9 +95,7 @@ pub(crate) fn with_inputs(
     found: Option<Candidates>,
     declarations: &[Declaration],
 ) -> Result<Option<Candidates>, AllocError>
-    ensures { IfOk result (λ made. option_map names_of made
-        ≡ option_map (enclosed (inputs_among (map declaration_of declarations.now))
-        (functions_among (map declaration_of declarations.now))) (option_map names_of found)) }
+    ensures { IfOk result (FindsNames (within_program declarations.now found)) }
 {
     match found {
         Some(Candidates::Values(mut names)) => {
@@ -127,8 +121,7 @@ fn append_binders(names: &mut Vec<Span>, binders: &[Binder]) -> Result<(), Alloc
 }
 
 fn append_parameters(names: &mut Vec<Span>, parameters: &[Typing]) -> Result<(), AllocError>
-    ensures { OnOk result (names.new.items
-        ≡ names.old.items ++ places_of (map typed_of parameters.now)) }
+    ensures { OnOk result (names.new.items ≡ names.old.items ++ parameter_places parameters.now) }
 {
     for parameter in parameters {
         names.push(parameter.name)?;
@@ -137,8 +130,7 @@ fn append_parameters(names: &mut Vec<Span>, parameters: &[Typing]) -> Result<(),
 }
 
 fn append_inputs(names: &mut Vec<Span>, declarations: &[Declaration]) -> Result<(), AllocError>
-    ensures { OnOk result (names.new.items
-        ≡ names.old.items ++ inputs_among (map declaration_of declarations.now)) }
+    ensures { OnOk result (names.new.items ≡ names.old.items ++ input_places declarations.now) }
 {
     for declaration in declarations {
         if let Declaration::Input(input) = declaration {
@@ -149,8 +141,7 @@ fn append_inputs(names: &mut Vec<Span>, declarations: &[Declaration]) -> Result<
 }
 
 fn append_functions(names: &mut Vec<Span>, declarations: &[Declaration]) -> Result<(), AllocError>
-    ensures { OnOk result (names.new.items
-        ≡ names.old.items ++ functions_among (map declaration_of declarations.now)) }
+    ensures { OnOk result (names.new.items ≡ names.old.items ++ function_places declarations.now) }
 {
     for declaration in declarations {
         if let Declaration::Function(function) = declaration {

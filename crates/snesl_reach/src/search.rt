@@ -1,11 +1,10 @@
 // The search for the name at an offset.
 
-ghost use Rattle.std.specs.Prelude.{◌≡◌, [], IfOk, map, option_map};
-ghost use Rattle.std.specs.Option.{option_and_then, option_or};
+ghost use Rattle.std.specs.Prelude.{IfOk};
 ghost use Rattle.snesl_grammar.specs.View.{program_of};
-ghost use Rattle.snesl_tree.specs.View.{binders_of, declaration_of, tree_of, trees_of};
-ghost use Rattle.snesl_reach.specs.Candidates.{around, bound_by, candidates_among, candidates_at, candidates_in, candidates_in_bodies, candidates_in_declaration, candidates_in_sources};
-ghost use Rattle.snesl_reach.specs.View.{names_of};
+ghost use Rattle.snesl_tree.specs.View.{binders_of, tree_of, trees_of};
+ghost use Rattle.snesl_reach.specs.Candidates.{candidates_among, candidates_at, candidates_in, candidates_in_sources};
+ghost use Rattle.snesl_reach.specs.View.{FindsNames, body_candidates, candidates_in_condition, candidates_in_row, candidates_in_two, declaration_candidates};
 
 use crate::names::{
     Candidates, function_here, variable_here, with_binders, with_inputs, with_name, with_parameters,
@@ -22,8 +21,7 @@ pub fn candidates_at(
     program: &Program,
     at: usize,
 ) -> Result<Option<Candidates>, AllocError>
-    ensures { IfOk result (λ found. option_map names_of found
-        ≡ candidates_at (program_of program.now) at) }
+    ensures { IfOk result (FindsNames (candidates_at (program_of program.now) at)) }
 {
     let declarations = program.declarations.as_slice();
     let declared = candidates_in_bodies(alloc, declarations, at)?;
@@ -37,8 +35,7 @@ fn candidates_in_bodies(
     declarations: &[Declaration],
     at: usize,
 ) -> Result<Option<Candidates>, AllocError>
-    ensures { IfOk result (λ found. option_map names_of found
-        ≡ candidates_in_bodies at [] (map declaration_of declarations.now)) }
+    ensures { IfOk result (FindsNames (body_candidates at declarations.now)) }
 {
     for number in 0..declarations.len() {
         let earlier = &declarations[..number];
@@ -57,9 +54,7 @@ fn candidates_in_declaration(
     declaration: &Declaration,
     at: usize,
 ) -> Result<Option<Candidates>, AllocError>
-    ensures { IfOk result (λ found. option_map names_of found
-        ≡ candidates_in_declaration at (map declaration_of earlier.now)
-        (declaration_of declaration.now)) }
+    ensures { IfOk result (FindsNames (declaration_candidates at earlier.now declaration.now)) }
 {
     match declaration {
         Declaration::Input(_) => Ok(None),
@@ -73,8 +68,7 @@ fn candidates_in_declaration(
 // In an expression.
 #[cycle(walking)]
 fn candidates_in(alloc: Global, expr: &Expr, at: usize) -> Result<Option<Candidates>, AllocError>
-    ensures { IfOk result (λ found. option_map names_of found
-        ≡ candidates_in at (tree_of expr.now)) }
+    ensures { IfOk result (FindsNames (candidates_in at (tree_of expr.now))) }
 {
     match expr {
         Expr::Integer { .. } | Expr::Truth { .. } => Ok(None),
@@ -137,9 +131,7 @@ fn candidates_in_two(
     second: &Expr,
     at: usize,
 ) -> Result<Option<Candidates>, AllocError>
-    ensures { IfOk result (λ found. option_map names_of found
-        ≡ option_or (candidates_in at (tree_of first.now))
-        (candidates_in at (tree_of second.now))) }
+    ensures { IfOk result (FindsNames (candidates_in_two at first.now second.now)) }
 {
     let found = candidates_in(alloc, first, at)?;
     Ok(found.or(candidates_in(alloc, second, at)?))
@@ -152,8 +144,7 @@ fn candidates_among(
     all: &[Expr],
     at: usize,
 ) -> Result<Option<Candidates>, AllocError>
-    ensures { IfOk result (λ found. option_map names_of found
-        ≡ candidates_among at (trees_of all.now)) }
+    ensures { IfOk result (FindsNames (candidates_among at (trees_of all.now))) }
 {
     for one in all {
         let found = candidates_in(alloc, one, at)?;
@@ -171,8 +162,7 @@ fn candidates_in_condition(
     condition: &Option<Box<Expr>>,
     at: usize,
 ) -> Result<Option<Candidates>, AllocError>
-    ensures { IfOk result (λ found. option_map names_of found
-        ≡ option_and_then (λ one. candidates_in at (tree_of one.value)) condition.now) }
+    ensures { IfOk result (FindsNames (candidates_in_condition at condition.now)) }
 {
     match condition {
         Some(condition) => candidates_in(alloc, condition, at),
@@ -188,9 +178,7 @@ fn candidates_in_row(
     binders: &[Binder],
     at: usize,
 ) -> Result<Option<Candidates>, AllocError>
-    ensures { IfOk result (λ found. option_map names_of found
-        ≡ option_or (option_map (around (bound_by (binders_of binders.now)))
-        (option_map names_of within)) (candidates_in_sources at (binders_of binders.now))) }
+    ensures { IfOk result (FindsNames (candidates_in_row at binders.now within)) }
 {
     let found = with_binders(within, binders)?;
     if found.is_some() {
@@ -206,8 +194,7 @@ fn candidates_in_sources(
     binders: &[Binder],
     at: usize,
 ) -> Result<Option<Candidates>, AllocError>
-    ensures { IfOk result (λ found. option_map names_of found
-        ≡ candidates_in_sources at (binders_of binders.now)) }
+    ensures { IfOk result (FindsNames (candidates_in_sources at (binders_of binders.now))) }
 {
     for binder in binders {
         let found = candidates_in(alloc, &binder.source, at)?;
