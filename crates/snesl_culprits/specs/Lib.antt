@@ -1,3 +1,4 @@
 pub mod Offsets
 pub mod Faults
 pub mod Culprits
+pub mod Views

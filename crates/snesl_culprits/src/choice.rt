@@ -1,13 +1,13 @@
 // Which part of a form is at fault.
 
-ghost use Rattle.std.specs.Prelude.{◌≡◌, option_map, map};
+ghost use Rattle.std.specs.Prelude.{◌≡◌, [], ◌∷◌};
 ghost use Rattle.snesl_data.specs.Types.{ty_of};
-ghost use Rattle.snesl_tree.specs.Tree.{both, none};
 ghost use Rattle.snesl_tree.specs.View.{tree_of, trees_of};
-ghost use Rattle.snesl_types.specs.Clashes.{clash_of, items as item_types};
+ghost use Rattle.snesl_types.specs.Clashes.{clash_of};
 ghost use Rattle.snesl_types.specs.Names.{condition_in};
-ghost use Rattle.snesl_culprits.specs.Offsets.{first_offset};
-ghost use Rattle.snesl_culprits.specs.Faults.{argument_at_fault, at_fault, begins_with_sequence, branch_at_fault, condition_at_fault, item_at_fault, operand_at_fault, other_than, parameter_at_fault, takes_left};
+ghost use Rattle.snesl_culprits.specs.Offsets.{offset_of};
+ghost use Rattle.snesl_culprits.specs.Views.{argument_of, branch_of, item_of, operand_of, other_of};
+ghost use Rattle.snesl_culprits.specs.Faults.{at_fault, begins_with_sequence, condition_at_fault, item_at_fault, parameter_at_fault, takes_left};
 
 use crate::offsets::first_offset;
 use snesl_data::Ty;
@@ -16,7 +16,7 @@ use snesl_types::Clash;
 
 // Where the part of the form begins that is at fault, if one is.
 pub(crate) fn fault_offset(expr: &Expr, clash: &Clash) -> Option<usize>
-    ensures { result ≡ option_map first_offset (at_fault (clash_of clash.now) (tree_of expr.now)) }
+    ensures { result ≡ offset_of (at_fault (clash_of clash.now) (tree_of expr.now)) }
 {
     match expr {
         Expr::Prefix { operand, .. } => Some(first_offset(operand)),
@@ -51,8 +51,7 @@ pub(crate) fn fault_offset(expr: &Expr, clash: &Clash) -> Option<usize>
 
 // Of an operator's operands.
 fn operand_offset(clash: &Clash, operator: Operator, left: &Expr, right: &Expr) -> Option<usize>
-    ensures { result ≡ option_map first_offset (operand_at_fault (clash_of clash.now) operator
-        (tree_of left.now) (tree_of right.now)) }
+    ensures { result ≡ offset_of (operand_of clash.now operator left.now right.now) }
 {
     match clash {
         Clash::Operands(ty, _) if takes_left(operator, ty) => Some(first_offset(right)),
@@ -76,8 +75,7 @@ fn takes_left(operator: Operator, ty: &Ty) -> bool
 
 // Of a built-in function's arguments.
 fn argument_offset(clash: &Clash, function: Builtin, arguments: &[Expr]) -> Option<usize>
-    ensures { result ≡ option_map first_offset
-        (argument_at_fault (clash_of clash.now) function (trees_of arguments.now)) }
+    ensures { result ≡ offset_of (argument_of clash.now function arguments.now) }
 {
     match arguments {
         [only] => Some(first_offset(only)),
@@ -88,8 +86,7 @@ fn argument_offset(clash: &Clash, function: Builtin, arguments: &[Expr]) -> Opti
 
 // Of two arguments, which `part` alone takes.
 fn part_offset(clash: &Clash, function: Builtin, first: &Expr, second: &Expr) -> Option<usize>
-    ensures { result ≡ option_map first_offset (argument_at_fault (clash_of clash.now) function
-        (both (tree_of first.now) (both (tree_of second.now) none))) }
+    ensures { result ≡ offset_of (argument_of clash.now function (first.now ∷ second.now ∷ [])) }
 {
     match function {
         Builtin::Part if begins_with_sequence(clash) => Some(first_offset(second)),
@@ -110,8 +107,7 @@ fn begins_with_sequence(clash: &Clash) -> bool
 
 // Of a declared function's arguments.
 fn parameter_offset(clash: &Clash, arguments: &[Expr]) -> Option<usize>
-    ensures { result ≡ option_map first_offset
-        (parameter_at_fault (clash_of clash.now) (trees_of arguments.now)) }
+    ensures { result ≡ offset_of (parameter_at_fault (clash_of clash.now) (trees_of arguments.now)) }
 {
     match clash {
         Clash::Parameters { found, wanted } if found.len() == wanted.len() => {
@@ -123,8 +119,7 @@ fn parameter_offset(clash: &Clash, arguments: &[Expr]) -> Option<usize>
 
 // Of an `if`.
 fn branch_offset(clash: &Clash, condition: &Expr, negative: &Expr) -> Option<usize>
-    ensures { result ≡ option_map first_offset
-        (branch_at_fault (clash_of clash.now) (tree_of condition.now) (tree_of negative.now)) }
+    ensures { result ≡ offset_of (branch_of clash.now condition.now negative.now) }
 {
     match clash {
         Clash::Branches { condition: ty, .. } if ty.is(&Ty::Bool) => Some(first_offset(negative)),
@@ -135,8 +130,7 @@ fn branch_offset(clash: &Clash, condition: &Expr, negative: &Expr) -> Option<usi
 
 // Of a literal's items.
 fn item_offset(clash: &Clash, items: &[Expr]) -> Option<usize>
-    ensures { result ≡ option_map first_offset
-        (item_at_fault (clash_of clash.now) (trees_of items.now)) }
+    ensures { result ≡ offset_of (item_at_fault (clash_of clash.now) (trees_of items.now)) }
 {
     match clash {
         Clash::Items(types) => changed_offset(types, items),
@@ -146,8 +140,7 @@ fn item_offset(clash: &Clash, items: &[Expr]) -> Option<usize>
 
 // Of items of these types the first that is of another one than the item before it.
 fn changed_offset(types: &[Ty], items: &[Expr]) -> Option<usize>
-    ensures { result ≡ option_map first_offset
-        (item_at_fault (item_types (map ty_of types.now)) (trees_of items.now)) }
+    ensures { result ≡ offset_of (item_of types.now items.now) }
 {
     match (types, items) {
         ([_, later @ ..], [_, others @ ..]) => other_offset(types, later, others),
@@ -157,7 +150,7 @@ fn changed_offset(types: &[Ty], items: &[Expr]) -> Option<usize>
 
 // Of a comprehension, where it has a condition.
 fn condition_offset(condition: &Option<Box<Expr>>) -> Option<usize>
-    ensures { result ≡ option_map first_offset (condition_at_fault (condition_in condition.now)) }
+    ensures { result ≡ offset_of (condition_at_fault (condition_in condition.now)) }
 {
     match condition {
         Some(condition) => Some(first_offset(condition)),
@@ -167,8 +160,7 @@ fn condition_offset(condition: &Option<Box<Expr>>) -> Option<usize>
 
 // Of parts of these types the first whose type is not the one that is wanted in its place.
 fn other_offset(wanted: &[Ty], found: &[Ty], parts: &[Expr]) -> Option<usize>
-    ensures { result ≡ option_map first_offset
-        (other_than (map ty_of wanted.now) (map ty_of found.now) (trees_of parts.now)) }
+    ensures { result ≡ offset_of (other_of wanted.now found.now parts.now) }
 {
     let count = wanted.len().min(found.len()).min(parts.len());
     for place in 0..count {

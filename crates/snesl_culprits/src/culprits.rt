@@ -1,12 +1,12 @@
 // Which part of a program is at fault.
 
-ghost use Rattle.std.specs.Prelude.{◌≡◌, map};
 ghost use Rattle.snesl_grammar.specs.View.{program_of};
-ghost use Rattle.snesl_tree.specs.Tree.{both, none};
-ghost use Rattle.snesl_tree.specs.View.{tree_of, trees_of, binders_of, declaration_of};
+ghost use Rattle.snesl_tree.specs.View.{tree_of, trees_of, binders_of};
 ghost use Rattle.snesl_types.specs.Clashes.{clash_of};
 ghost use Rattle.snesl_types.specs.Names.{condition_in};
-ghost use Rattle.snesl_culprits.specs.Culprits.{BeginsOne, IsAmong, IsBound, IsCulprit, IsCulpritOf, IsDeclared, IsInside, IsOfDeclaration, IsOfFunction, IsOwnCulprit, condition_parts};
+ghost use Rattle.snesl_types.specs.Views.{two_trees};
+ghost use Rattle.snesl_culprits.specs.Culprits.{BeginsOne, IsBound, IsCulprit, IsCulpritOf, IsInside, IsOwnCulprit, condition_parts};
+ghost use Rattle.snesl_culprits.specs.Views.{IsInDeclaration, IsInDeclarations, IsInFunction, IsInParts};
 
 use crate::choice::fault_offset;
 use crate::offsets::first_offset;
@@ -26,8 +26,7 @@ pub fn culprit_of(program: &Program, at: usize, clash: &Clash) -> Option<usize>
 
 // In declarations.
 fn culprit_declared(declarations: &[Declaration], at: usize, clash: &Clash) -> Option<usize>
-    ensures { BeginsOne (λ part. IsDeclared at (clash_of clash.now) part
-        (map declaration_of declarations.now)) result }
+    ensures { BeginsOne (IsInDeclarations at clash.now declarations.now) result }
 {
     for declaration in declarations {
         let found = culprit_of_declaration(declaration, at, clash);
@@ -40,8 +39,7 @@ fn culprit_declared(declarations: &[Declaration], at: usize, clash: &Clash) -> O
 
 // In a declaration.
 fn culprit_of_declaration(declaration: &Declaration, at: usize, clash: &Clash) -> Option<usize>
-    ensures { BeginsOne (IsOfDeclaration at (clash_of clash.now) (declaration_of declaration.now))
-        result }
+    ensures { BeginsOne (IsInDeclaration at clash.now declaration.now) result }
 {
     match declaration {
         Declaration::Input(_) => None,
@@ -51,8 +49,7 @@ fn culprit_of_declaration(declaration: &Declaration, at: usize, clash: &Clash) -
 
 // In a function.
 fn culprit_of_function(function: &Function, at: usize, clash: &Clash) -> Option<usize>
-    ensures { BeginsOne (IsOfFunction at (clash_of clash.now) function.now.name
-        (tree_of function.now.body)) result }
+    ensures { BeginsOne (IsInFunction at clash.now function.now) result }
 {
     if function.name.at == at {
         return Some(first_offset(&function.body));
@@ -119,8 +116,7 @@ fn culprit_inside(expr: &Expr, at: usize, clash: &Clash) -> Option<usize>
 // In one of two.
 #[cycle(walking)]
 fn culprit_in_two(first: &Expr, second: &Expr, at: usize, clash: &Clash) -> Option<usize>
-    ensures { BeginsOne (λ part. IsAmong at (clash_of clash.now) part
-        (both (tree_of first.now) (both (tree_of second.now) none))) result }
+    ensures { BeginsOne (IsInParts at clash.now (two_trees first.now second.now)) result }
 {
     culprit_in(first, at, clash).or(culprit_in(second, at, clash))
 }
@@ -128,7 +124,7 @@ fn culprit_in_two(first: &Expr, second: &Expr, at: usize, clash: &Clash) -> Opti
 // In one of these.
 #[cycle(walking)]
 fn culprit_among(all: &[Expr], at: usize, clash: &Clash) -> Option<usize>
-    ensures { BeginsOne (λ part. IsAmong at (clash_of clash.now) part (trees_of all.now)) result }
+    ensures { BeginsOne (IsInParts at clash.now (trees_of all.now)) result }
 {
     for one in all {
         let found = culprit_in(one, at, clash);
@@ -142,8 +138,7 @@ fn culprit_among(all: &[Expr], at: usize, clash: &Clash) -> Option<usize>
 // In a condition, where there is one.
 #[cycle(walking)]
 fn culprit_tested(condition: &Option<Box<Expr>>, at: usize, clash: &Clash) -> Option<usize>
-    ensures { BeginsOne (λ part. IsAmong at (clash_of clash.now) part
-        (condition_parts (condition_in condition.now))) result }
+    ensures { BeginsOne (IsInParts at clash.now (condition_parts (condition_in condition.now))) result }
 {
     match condition {
         Some(condition) => culprit_in(condition, at, clash),
