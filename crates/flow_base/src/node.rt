@@ -32,6 +32,9 @@ const LEAST_FOR_BLOCKS: usize = 8;
 // After a visit of so many steps the next one goes over slices, if it can.
 const LEAST_WHEN_BUSY: usize = 5;
 
+// A visit by single steps makes so many at most. Where there are more, the next goes over slices.
+const MOST_SINGLE: usize = 16;
+
 /// How far a node is.
 #[derive(Clone, Copy, Debug, PartialEq, Eq)]
 pub enum Phase {
@@ -661,6 +664,6 @@ impl<W: Worker> Transducer for Node<W> {
         if self.is_busy {
             return self.visit_over_slices(inputs, outputs, ends, chunk);
         }
-        self.visit_by_steps(inputs, outputs, ends, chunk)
+        self.visit_by_steps(inputs, outputs, ends, chunk.min(MOST_SINGLE))
     }
 }

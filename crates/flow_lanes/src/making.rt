@@ -16,16 +16,15 @@ use flow_rings::{edge, scalar_edge};
 use flow_words::word_edge;
 use std::alloc::{AllocError, Global};
 
-// So many scalars are gathered in the writer at most, and not more than a quarter of the lane.
-const GATHERED: usize = 64;
-
 /// The two ends of a lane for items of this kind, which holds at most `capacity` messages. Nothing was put on it.
 ///
-/// All the room that messages take is reserved here. Its only error is that memory was refused.
+/// At most `most_gathered` scalars are gathered in its writer, and not more than a quarter of the capacity. All the room that
+/// messages take is reserved here. Its only error is that memory was refused.
 pub fn lane(
     alloc: Global,
     kind: Kind,
     capacity: usize,
+    most_gathered: usize,
 ) -> Result<(LaneWriter, LaneReader), AllocError>
     requires some { 0 < capacity }
     requires limit { capacity ≤ greatest_capacity }
@@ -42,7 +41,7 @@ pub fn lane(
     let (writer, reader) = word_edge(alloc, kind, capacity)?;
     // What the reader cannot tell it goes on to owe.
     let (teller, back) = scalar_edge(alloc, Kind::Int, capacity.min(NUMBERS))?;
-    let gathered = Gathered::new(alloc, kind, GATHERED.min(capacity / 4))?;
+    let gathered = Gathered::new(alloc, kind, most_gathered.min(capacity / 4))?;
     let inbox = Inbox::new(alloc, capacity)?;
     let writer = CountedWriter {
         edge: writer,

@@ -4,6 +4,9 @@ use flow_lanes::{Rings, lane};
 use flow_messages::Kind;
 use std::alloc::{AllocError, Global};
 
+// So many scalars are gathered in a writer whose reader is in another thread. Within a thread they would only come later.
+const MOST_GATHERED: usize = 64;
+
 impl Opening for Rings {
     ghost use Rattle.flow_meetings.specs.RingOpenings.{RingsHavePlace, RingsOpen, rings_opens_refl, rings_opens_place, rings_opens_places, rings_open_join_writer, rings_open_join_reader};
 
@@ -23,7 +26,7 @@ impl Opening for Rings {
         kind: Kind,
         capacity: usize,
     ) -> Result<(), AllocError> {
-        let (writer, reader) = lane(alloc, kind, capacity)?;
+        let (writer, reader) = lane(alloc, kind, capacity, MOST_GATHERED)?;
         self.put_writer(edge, writer);
         other.put_reader(edge, reader);
         Ok(())
@@ -36,7 +39,7 @@ impl Opening for Rings {
         kind: Kind,
         capacity: usize,
     ) -> Result<(), AllocError> {
-        let (writer, reader) = lane(alloc, kind, capacity)?;
+        let (writer, reader) = lane(alloc, kind, capacity, 0)?;
         self.put_writer(edge, writer);
         self.put_reader(edge, reader);
         Ok(())
