@@ -23,7 +23,8 @@ at_each f i x P here others j =
 
 module _ {S : Type 0} (b : Behaviour S) (capacity : ℕ) (states : List S) (edges : List Edge) where
   -- each step leaves it so
-  after : (c : Configuration S Signal) (a : Event Signal) → Can b.process (network_of b states edges) (Some capacity) c a → IsHeld capacity c → IsHeld capacity (next b.process (network_of b states edges) c a)
+  after : (c : Configuration S Signal) (a : Event Signal) → Can b.process (network_of b states edges) (Some capacity) c a → IsHeld capacity c →
+      IsHeld capacity (next b.process (network_of b states edges) c a)
   after c (Reads e m) (inside, wants, begins) held =
       let some : length (c.received e ++ m ∷ []) ≤ length (c.sent e) = omega (arith, length-append {A = Signal}, ap length begins.1) in
       record {

@@ -15,10 +15,12 @@ use Rattle.flow_assembly.proofs.Limiting.{too_many_uses}
 use Rattle.flow_assembly.proofs.Stepping.{read_one, read_others}
 
 -- one of the steps that a list holds, and those after it
-pub steps_now : (dialect : Dialect) (steps : List StepData) (i : ℕ) (step : StepData) → i < length steps → step ≡ get_or steps i step → steps_of dialect (drop i steps) ≡ step_of dialect step ∷ steps_of dialect (drop (i + 1) steps)
+pub steps_now : (dialect : Dialect) (steps : List StepData) (i : ℕ) (step : StepData) → i < length steps → step ≡ get_or steps i step →
+    steps_of dialect (drop i steps) ≡ step_of dialect step ∷ steps_of dialect (drop (i + 1) steps)
 steps_now dialect steps i step lt is =
     let e : suc i ≡ i + 1 = omega arith in
-    ap (steps_of dialect) (drop-cons steps i step lt) ∙ ap (λ s. step_of dialect s ∷ steps_of dialect (drop (suc i) steps)) (sym is) ∙ ap (λ n. step_of dialect step ∷ steps_of dialect (drop n steps)) e
+    ap (steps_of dialect) (drop-cons steps i step lt) ∙ ap (λ s. step_of dialect s ∷ steps_of dialect (drop (suc i) steps)) (sym is)
+    ∙ ap (λ n. step_of dialect step ∷ steps_of dialect (drop n steps)) e
 
 pub counted_next : (dialect : Dialect) (steps : List StepData) (i : ℕ) (step : StepData) (table newer reads : List ℕ) → i < length steps → step ≡ get_or steps i step → reads ≡ step.reads.items
     → ((s : ℕ) → get_or newer s 0 ≡ get_or table s 0 + times s reads) → (s : ℕ) → get_or table s 0 + uses s (steps_of dialect (drop i steps)) ≡ uses s (steps_of dialect steps)
@@ -27,11 +29,13 @@ counted_next dialect steps i step table newer reads lt is same counted s before 
     let here : uses s (steps_of dialect (drop i steps)) ≡ times s step.reads.items + uses s (steps_of dialect (drop (i + 1) steps)) = ap (uses s) (steps_now dialect steps i step lt is) in
     omega (arith, counted s, before, here, ap (times s) same)
 
-pub counted_all : (dialect : Dialect) (steps : List StepData) (i s n : ℕ) → length steps ≤ i → n + uses s (steps_of dialect (drop i steps)) ≡ uses s (steps_of dialect steps) → n ≡ uses s (steps_of dialect steps)
+pub counted_all : (dialect : Dialect) (steps : List StepData) (i s n : ℕ) → length steps ≤ i → n + uses s (steps_of dialect (drop i steps))
+    ≡ uses s (steps_of dialect steps) → n ≡ uses s (steps_of dialect steps)
 counted_all dialect steps i s n le is = omega (arith, is, ap (λ l. uses s (steps_of dialect l)) (drop_of_length-le steps le))
 
 pub counted_big : (dialect : Dialect) (steps : List StepData) (i : ℕ) (step : StepData) (table reads : List ℕ) → i < length steps → step ≡ get_or steps i step → reads ≡ step.reads.items
-    → ((s : ℕ) → get_or table s 0 + uses s (steps_of dialect (drop i steps)) ≡ uses s (steps_of dialect steps)) → ((s : ℕ) × (most_edges < get_or table s 0 + times s reads)) → IsTooBig (steps_of dialect steps)
+    → ((s : ℕ) → get_or table s 0 + uses s (steps_of dialect (drop i steps)) ≡ uses s (steps_of dialect steps)) →
+    ((s : ℕ) × (most_edges < get_or table s 0 + times s reads)) → IsTooBig (steps_of dialect steps)
 counted_big dialect steps i step table reads lt is same counted (s, many) =
     let here : uses s (steps_of dialect (drop i steps)) ≡ times s step.reads.items + uses s (steps_of dialect (drop (i + 1) steps)) = ap (uses s) (steps_now dialect steps i step lt is) in
     too_many_uses (steps_of dialect steps) s (omega (arith, many, here, counted s, ap (times s) same))
@@ -42,7 +46,8 @@ drop_map f [] (suc i) = refl
 drop_map f (x ∷ xs) (suc i) = drop_map f xs i
 
 -- the step of this number, and those after it
-pub step_now : (plan : CountedSteps) (i : ℕ) (step : StepData) → i < length plan.steps.items → step ≡ get_or plan.steps.items i step → drop i (plan_of plan) ≡ step_of plan.dialect step ∷ drop (i + 1) (plan_of plan)
+pub step_now : (plan : CountedSteps) (i : ℕ) (step : StepData) → i < length plan.steps.items → step ≡ get_or plan.steps.items i step →
+    drop i (plan_of plan) ≡ step_of plan.dialect step ∷ drop (i + 1) (plan_of plan)
 step_now plan i step lt is =
     drop_map (step_of plan.dialect) plan.steps.items i ∙ steps_now plan.dialect plan.steps.items i step lt is
     ∙ ap (λ l. step_of plan.dialect step ∷ l) (sym (drop_map (step_of plan.dialect) plan.steps.items (i + 1)))

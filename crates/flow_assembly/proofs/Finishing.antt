@@ -89,7 +89,8 @@ module _ (plan : List Step) (n : ℕ) (supply : List Port) (found : List ℕ) (s
     is_joined = finished (layout plan) (λ s. uses s (drop n plan)) supply states edges built.joined kinds perform fit all_nodes (λ t. ap (uses t) ended)
 
     pub are_opened : AreOpened node_behaviour states
-    are_opened = All-from_get_or (λ s. node_behaviour.opening s ≡ s) states node_behaviour.sample (λ k lt. let node = stands_at (layout plan) k (omega (arith, all_nodes)) in (does k node.0 node.1).opened)
+    are_opened = All-from_get_or (λ s. node_behaviour.opening s ≡ s) states node_behaviour.sample
+        (λ k lt. let node = stands_at (layout plan) k (omega (arith, all_nodes)) in (does k node.0 node.1).opened)
 
     pub is_network : IsNetworkOfPlan node_behaviour plan states edges
     is_network = record {

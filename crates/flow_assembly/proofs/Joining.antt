@@ -97,7 +97,9 @@ module _ (nodes : List Placed) (left : ℕ → ℕ) (supply : List Port) (r p : 
           output = out.0;
           input = inp.0;
           free_output = subst (λ q. length edges ≤ out_edge edges from.node q) (omega arith) (is.free s 0 known uses);
-          free_input = none_found (λ edge. (edge.reader == r) && (edge.reader_port == p)) edges no_edge (λ e l. not_both (edge_at edges e).reader (edge_at edges e).reader_port r p (not_before (edge_at edges e).reader (edge_at edges e).reader_port r p (is.readers e l)));
+          free_input = none_found (λ edge. (edge.reader == r) && (edge.reader_port == p)) edges no_edge
+              (λ e l. not_both (edge_at edges e).reader (edge_at edges e).reader_port r p
+              (not_before (edge_at edges e).reader (edge_at edges e).reader_port r p (is.readers e l)));
           kinds = some_same (out.1 ∙ sym inp.1);
         }
 
@@ -163,7 +165,8 @@ module _ (nodes : List Placed) (left : ℕ → ℕ) (supply : List Port) (r p : 
     joined = record {
       opens = is.opens;
       joins = each_push (λ e. stream_from nodes e.writer e.writer_port ≡ stream_to nodes e.reader e.reader_port) edges edge no_edge is.joins (from_is ∙ sym to);
-      readers = each_push (λ e. ComesBefore e.reader e.reader_port r (p + 1)) edges edge no_edge (λ e l. before_more (edge_at edges e).reader (edge_at edges e).reader_port r p (is.readers e l)) (inr (refl, omega arith));
+      readers = each_push (λ e. ComesBefore e.reader e.reader_port r (p + 1)) edges edge no_edge
+          (λ e l. before_more (edge_at edges e).reader (edge_at edges e).reader_port r p (is.readers e l)) (inr (refl, omega arith));
       writers = each_push (λ e. e.writer < r) edges edge no_edge is.writers (is.node s there uses);
       read = λ k q t before is_to. elim (before_next k q r p before) [
         | inl earlier ↦ found_stays (λ e. (e.reader == k) && (e.reader_port == q)) edges edge (is.read k q t earlier is_to)

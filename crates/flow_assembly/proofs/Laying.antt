@@ -42,7 +42,8 @@ get_back (x ∷ xs) ys k y at =
     let e : suc (length xs + k) ≡ suc (length xs) + k = omega arith in
     subst (λ j. slice_get (x ∷ (xs ++ ys)) j ≡ Some y) e here
 
-all_append : {A : Type 0} (P : A → Type 0) (xs ys : List A) → ((k : ℕ) (x : A) → slice_get xs k ≡ Some x → P x) → ((k : ℕ) (x : A) → slice_get ys k ≡ Some x → P x) → (k : ℕ) (x : A) → slice_get (xs ++ ys) k ≡ Some x → P x
+all_append : {A : Type 0} (P : A → Type 0) (xs ys : List A) → ((k : ℕ) (x : A) → slice_get xs k ≡ Some x → P x) →
+    ((k : ℕ) (x : A) → slice_get ys k ≡ Some x → P x) → (k : ℕ) (x : A) → slice_get (xs ++ ys) k ≡ Some x → P x
 all_append P [] ys front back k x at = back k x at
 all_append P (y ∷ xs) ys front back zero x at = front zero x at
 all_append P (y ∷ xs) ys front back (suc k) x at = all_append P xs ys (λ j z. front (suc j) z) back k x at
@@ -78,7 +79,8 @@ replicate_each f s k (suc n) at = ap (λ o. bind o (λ y. option_map (λ zs. y �
 
 -- The transducers
 
-after_fits : (kinds : List Kind) (at s : ℕ) (kind : Kind) (n : ℕ) → slice_get kinds s ≡ Some kind → (k : ℕ) (placed : Placed) → slice_get (places_after at s kind n) k ≡ Some placed → FitsKinds kinds placed
+after_fits : (kinds : List Kind) (at s : ℕ) (kind : Kind) (n : ℕ) → slice_get kinds s ≡ Some kind → (k : ℕ) (placed : Placed) →
+    slice_get (places_after at s kind n) k ≡ Some placed → FitsKinds kinds placed
 after_fits kinds at s kind zero is zero placed there = subst (FitsKinds kinds) (some_same there) (record {
   usable = tt;
   reads = ap (λ o. bind o (λ y. Some (y ∷ []))) is;
@@ -104,18 +106,24 @@ module _ (plan : List Step) where
       (all_after_fits kinds at (suc s) written (λ q j there. let e : s + suc q ≡ suc s + q = omega arith in subst (λ t. slice_get kinds t ≡ Some j) e (is (suc q) j there)))
       k placed there
 
-  pub layout_fits : (ks : List Kind) (steps : List Step) → AllUsable steps → AreWired ks steps → (k : ℕ) (placed : Placed) → slice_get (layout_from plan (length ks) steps) k ≡ Some placed → FitsKinds (kinds_after ks steps) placed
+  pub layout_fits : (ks : List Kind) (steps : List Step) → AllUsable steps → AreWired ks steps → (k : ℕ) (placed : Placed) →
+      slice_get (layout_from plan (length ks) steps) k ≡ Some placed → FitsKinds (kinds_after ks steps) placed
   layout_fits ks [] usable wired k placed there = absurd (cc)
   layout_fits ks (step ∷ steps) usable wired k placed there =
       let written = kinds_written step.operation in
       let all = kinds_after (ks ++ written) steps in
-      let new : (q : ℕ) (k : Kind) → slice_get written q ≡ Some k → slice_get all (length ks + q) ≡ Some k = λ q k is. kinds_more (ks ++ written) steps (length ks + q) k (get_back ks written q k is) in
+      let new : (q : ℕ) (k : Kind) → slice_get written q ≡ Some k → slice_get all (length ks + q) ≡ Some k =
+      λ q k is. kinds_more (ks ++ written) steps (length ks + q) k (get_back ks written q k is) in
       let old : (t : ℕ) (k : Kind) → slice_get ks t ≡ Some k → slice_get all t ≡ Some k = λ t k is. kinds_more (ks ++ written) steps t k (get_front ks written t k is) in
       let this : FitsKinds all (record { at = step.at; operation = step.operation; reads = step.reads; writes = numbered (length ks) written }) = record {
         usable = usable.0;
         reads = each_more (slice_get ks) (slice_get all) old step.reads (kinds_read step.operation) wired.0;
         writes = numbered_each (slice_get all) (length ks) written new;
       } in
-      let later = subst (λ s. (k : ℕ) (placed : Placed) → slice_get (layout_from plan s steps) k ≡ Some placed → FitsKinds all placed) (length-append ks written) (layout_fits (ks ++ written) steps usable.1 wired.1) in
-      all_append (FitsKinds all) ((record { at = step.at; operation = step.operation; reads = step.reads; writes = numbered (length ks) written }) ∷ all_after plan step.at (length ks) written) (layout_from plan (length ks + length written) steps)
-      (first_or (FitsKinds all) (record { at = step.at; operation = step.operation; reads = step.reads; writes = numbered (length ks) written }) this (all_after plan step.at (length ks) written) (all_after_fits all step.at (length ks) written new)) later k placed there
+      let later = subst (λ s. (k : ℕ) (placed : Placed) → slice_get (layout_from plan s steps) k ≡ Some placed → FitsKinds all placed)
+      (length-append ks written) (layout_fits (ks ++ written) steps usable.1 wired.1) in
+      all_append (FitsKinds all)
+      ((record { at = step.at; operation = step.operation; reads = step.reads; writes = numbered (length ks) written })
+      ∷ all_after plan step.at (length ks) written) (layout_from plan (length ks + length written) steps)
+      (first_or (FitsKinds all) (record { at = step.at; operation = step.operation; reads = step.reads; writes = numbered (length ks) written }) this
+      (all_after plan step.at (length ks) written) (all_after_fits all step.at (length ks) written new)) later k placed there

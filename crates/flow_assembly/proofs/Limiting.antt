@@ -43,9 +43,11 @@ module _ (plan : List Step) (states : List State) (edges : List Edge) where
   too_many_nodes placed at full = inl (omega (arith, slice_get_within (layout plan) (length states) placed at))
 
   -- the last edge is refused where one is due at the node to come
-  pub too_many_after : (placed : Placed) (s : ℕ) → KeepsLimits plan states edges 0 → slice_get (layout plan) (length states) ≡ Some placed → placed.reads ≡ s ∷ [] → length edges ≡ most_edges → IsTooBig plan
+  pub too_many_after : (placed : Placed) (s : ℕ) → KeepsLimits plan states edges 0 → slice_get (layout plan) (length states) ≡ Some placed →
+      placed.reads ≡ s ∷ [] → length edges ≡ most_edges → IsTooBig plan
   too_many_after placed s within at one_read full =
-      let count : edges_needed (drop (length states) (layout plan)) ≡ length placed.reads + edges_needed (drop (suc (length states)) (layout plan)) = ap edges_needed (drop_at (layout plan) (length states) placed at) in
+      let count : edges_needed (drop (length states) (layout plan)) ≡ length placed.reads + edges_needed (drop (suc (length states)) (layout plan)) =
+      ap edges_needed (drop_at (layout plan) (length states) placed at) in
       let one : length placed.reads ≡ 1 = ap length one_read in
       inr (omega (arith, within.all_edges, count, one))
 

@@ -20,7 +20,9 @@ use Rattle.flow_values.specs.Shapes.{kinds_of, kind_at}
 use Rattle.flow_values.specs.IndexMachine.{index_kind_in}
 use Rattle.flow_rows.specs.RowsAreFunctions.{RowsAreFunctions}
 use Rattle.flow_nodes.specs.StreamNodes.{NodeKind, member, node_behaviour, a_fork}
-use Rattle.flow_plans.specs.Plans.{Operation, source, const, unary, binary, iota, units_of, scan_add, reduce, length_of, dist, pack, pack_groups, flag_of_bool, same_flags, concat_flags, part_flags, the_check, append_flags, interleave, interleave_groups, print, tab, seq_of, index, fork, sink}
+use Rattle.flow_plans.specs.Plans.{Operation, source, const, unary, binary, iota, units_of, scan_add, reduce, length_of, dist, pack, pack_groups}
+use Rattle.flow_plans.specs.Plans.{flag_of_bool, same_flags, concat_flags, part_flags, the_check, append_flags, interleave, interleave_groups, print}
+use Rattle.flow_plans.specs.Plans.{tab, seq_of, index, fork, sink}
 use Rattle.flow_plans.specs.Layouts.{Performs}
 use Rattle.flow_assembly.specs.Openings.{IsOpening, IsUsable}
 

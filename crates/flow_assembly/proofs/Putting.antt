@@ -154,11 +154,18 @@ module _ (nodes : List Placed) (steps : List Step) (s : ℕ) (supply : List Port
           (omega (arith, length-set supply' s (record { node = length states; port = 0 })))
           (λ t lt. elim (cases_eq t s) [
             | inl same ↦ inr (subst (IsFresh nodes (left_without steps s) supply' (length states) (0 + 1) (states ++ state ∷ []) edges' joined_now (left_before steps (s + 1)) forked) (sym same) fresh)
-            | inr ne ↦ inl (record { there = omega (arith, length-set supply' s (record { node = length states; port = 0 })); same_supplier = get_or-set_other supply' s t (record { node = length states; port = 0 }) no_port ne; same_left = sym (without_other steps s t ne) })
+            | inr ne ↦ inl (record {
+              there = omega (arith, length-set supply' s (record { node = length states; port = 0 }));
+              same_supplier =
+                  get_or-set_other supply' s t (record { node = length states; port = 0 }) no_port ne;
+              same_left = sym (without_other steps s t ne);
+            })
           ])
           (λ q t from.
           let found = replicate_is n s q t (ap (λ l. slice_get l q) (sym copies) ∙ sym (writes_at q) ∙ from) in
-          subst (λ u. (u < length forked) × IsFresh nodes (left_without steps s) supply' (length states) (0 + 1) (states ++ state ∷ []) edges' joined_now (left_before steps (s + 1)) forked u × IsAmong (length states) q (supplier forked u) (left_before steps (s + 1) u))
+          subst (λ u. (u < length forked)
+          × IsFresh nodes (left_without steps s) supply' (length states) (0 + 1) (states ++ state ∷ []) edges' joined_now
+          (left_before steps (s + 1)) forked u × IsAmong (length states) q (supplier forked u) (left_before steps (s + 1) u))
           found.1 (
             omega (arith, longer, length-set supply' s (record { node = length states; port = 0 })),
             fresh,
@@ -199,7 +206,8 @@ module _ (plan : List Step) (found : List ℕ) (at s : ℕ) (kind : Kind) (suppl
   abbrev steps : List Step
   steps = drop (length found) plan
 
-  within_more : (placed : Placed) (state : State) (edge : Edge) → slice_get (layout plan) (length states) ≡ Some placed → placed.reads ≡ s ∷ [] → (length states ≡ most_nodes → ⊥) → (length edges ≡ most_edges → ⊥)
+  within_more : (placed : Placed) (state : State) (edge : Edge) → slice_get (layout plan) (length states) ≡ Some placed → placed.reads ≡ s ∷ [] →
+      (length states ≡ most_nodes → ⊥) → (length edges ≡ most_edges → ⊥)
       → KeepsLimits plan (states ++ state ∷ []) (edges ++ edge ∷ []) 0
   within_more placed state edge is_at one_read room room_for_edge =
       edge_within plan (states ++ state ∷ []) edges 0 edge
@@ -227,7 +235,8 @@ module _ (plan : List Step) (found : List ℕ) (at s : ℕ) (kind : Kind) (suppl
         let is_at = sink_next plan states at s kind next none in
         record {
           within = within_more placed state (edge_from (supplier supply s) (length states) 0) is_at refl room room_for_edge;
-          joined = at_length (left_before steps (s + 1)) supply_put state edges_put (put_sink (layout plan) steps s supply states edges is.joined there placed state is_at opens refl (sym later ∙ none) refl);
+          joined = at_length (left_before steps (s + 1)) supply_put state edges_put
+              (put_sink (layout plan) steps s supply states edges is.joined there placed state is_at opens refl (sym later ∙ none) refl);
         }
 
     pub fork_put : (n : ℕ) → IsOpening at (fork kind n) state → uses s plan ≡ n → 2 ≤ n → n < 2 ^ 64
@@ -247,8 +256,12 @@ module _ (plan : List Step) (found : List ℕ) (at s : ℕ) (kind : Kind) (suppl
   sink_big none (inr full) = too_many_after plan states edges (record { at = at; operation = sink kind; reads = s ∷ []; writes = [] }) s is.within (sink_next plan states at s kind next none) refl full
 
   pub fork_big : (n : ℕ) → uses s plan ≡ n → 2 ≤ n → (length states ≡ most_nodes) ⊎ (length edges ≡ most_edges) → IsTooBig plan
-  fork_big n many le (inl full) = too_many_nodes plan states edges (record { at = at; operation = fork kind n; reads = s ∷ []; writes = replicate n s }) (fork_next plan states at s kind n next many le) full
-  fork_big n many le (inr full) = too_many_after plan states edges (record { at = at; operation = fork kind n; reads = s ∷ []; writes = replicate n s }) s is.within (fork_next plan states at s kind n next many le) refl full
+  fork_big n many le (inl full) =
+      too_many_nodes plan states edges (record { at = at; operation = fork kind n; reads = s ∷ []; writes = replicate n s })
+      (fork_next plan states at s kind n next many le) full
+  fork_big n many le (inr full) =
+      too_many_after plan states edges (record { at = at; operation = fork kind n; reads = s ∷ []; writes = replicate n s }) s is.within
+      (fork_next plan states at s kind n next many le) refl full
 
 -- the same network, said in another way
 pub put_same : (plan : List Step) (s : ℕ) (supply supply' : List Port) (found found' : List ℕ) (states states' : List State) (edges edges' : List Edge)

@@ -47,7 +47,8 @@ module _ (reads : List ℕ) (p : ℕ) (lt : p < length reads) where
   read_length = ap length here
 
 module _ (plan : List Step) (rest : ℕ → ℕ) (reads : List ℕ) (p node : ℕ) (supply : List Port) (states : List State) (edges : List Edge) (lt : p < length reads)
-    (is : IsJoinedTo (layout plan) (λ s. times s (drop p reads) + rest s) supply node p states edges) (there : get_or reads p 0 < length supply) (to : stream_to (layout plan) node p ≡ Some (get_or reads p 0)) where
+    (is : IsJoinedTo (layout plan) (λ s. times s (drop p reads) + rest s) supply node p states edges) (there : get_or reads p 0 < length supply)
+    (to : stream_to (layout plan) node p ≡ Some (get_or reads p 0)) where
   pub read_may : (kinds : List Kind) → OpeningsPerform → ((k : ℕ) (other : Placed) → slice_get (layout plan) k ≡ Some other → FitsKinds kinds other) → node < length states
       → MayJoin node_behaviour states edges (edge_from (supplier supply (get_or reads p 0)) node p)
   read_may kinds perform fit inside =
@@ -58,8 +59,10 @@ module _ (plan : List Step) (rest : ℕ → ℕ) (reads : List ℕ) (p node : �
       → IsJoinedTo (layout plan) (λ s. times s (drop (p + 1) reads) + rest s) supply2 node (p + 1) states2 edges2
   read_on supply2 states2 edges2 one two three =
       subst (λ x. IsJoinedTo (layout plan) (λ s. times s (drop (p + 1) reads) + rest s) x node (p + 1) states2 edges2) (sym one)
-      (subst (λ x. IsJoinedTo (layout plan) (λ s. times s (drop (p + 1) reads) + rest s) (set supply (get_or reads p 0) (port_after (supplier supply (get_or reads p 0)))) node (p + 1) x edges2) (sym two)
-      (subst (λ x. IsJoinedTo (layout plan) (λ s. times s (drop (p + 1) reads) + rest s) (set supply (get_or reads p 0) (port_after (supplier supply (get_or reads p 0)))) node (p + 1) states x) (sym three)
+      (subst (λ x. IsJoinedTo (layout plan) (λ s. times s (drop (p + 1) reads) + rest s)
+      (set supply (get_or reads p 0) (port_after (supplier supply (get_or reads p 0)))) node (p + 1) x edges2) (sym two)
+      (subst (λ x. IsJoinedTo (layout plan) (λ s. times s (drop (p + 1) reads) + rest s)
+      (set supply (get_or reads p 0) (port_after (supplier supply (get_or reads p 0)))) node (p + 1) states x) (sym three)
       (joined (layout plan) (λ s. times s (drop p reads) + rest s) supply node p states edges is (λ s. times s (drop (p + 1) reads) + rest s) (get_or reads p 0) there to
       (omega (arith, read_one reads p lt)) (λ t ne. ap (λ n. n + rest t) (read_others reads p lt t ne)))))
 
@@ -76,7 +79,8 @@ module _ (plan : List Step) (reads : List ℕ) (p : ℕ) (states : List State) (
   pub all_within : KeepsLimits plan states edges (length (drop p reads)) → KeepsLimits plan states edges 0
   all_within = subst (λ l. KeepsLimits plan states edges (length l)) (drop_of_length-le reads le)
 
-pub read_within : (plan : List Step) (reads : List ℕ) (p : ℕ) (states states2 : List State) (edges edges2 : List Edge) (edge : Edge) → p < length reads → KeepsLimits plan states edges (length (drop p reads)) → (length edges ≡ most_edges → ⊥)
+pub read_within : (plan : List Step) (reads : List ℕ) (p : ℕ) (states states2 : List State) (edges edges2 : List Edge) (edge : Edge) →
+    p < length reads → KeepsLimits plan states edges (length (drop p reads)) → (length edges ≡ most_edges → ⊥)
     → states2 ≡ states → edges2 ≡ edges ++ edge ∷ [] → KeepsLimits plan states2 edges2 (length (drop (p + 1) reads))
 read_within plan reads p states states2 edges edges2 edge lt within room one two =
     subst (λ x. KeepsLimits plan x edges2 (length (drop (p + 1) reads))) (sym one) (subst (λ x. KeepsLimits plan states x (length (drop (p + 1) reads))) (sym two)
@@ -85,7 +89,8 @@ read_within plan reads p states states2 edges edges2 edge lt within room one two
 -- What comes next
 
 module _ (plan : List Step) (at first_stream q : ℕ) (kinds : List Kind) (kind : Kind) (lt : q < length kinds) (is : get_or kinds q kind ≡ kind) where
-  all_now : all_after plan at (first_stream + q) (drop q kinds) ≡ places_after at (first_stream + q) kind (uses (first_stream + q) plan) ++ all_after plan at (first_stream + (q + 1)) (drop (q + 1) kinds)
+  all_now : all_after plan at (first_stream + q) (drop q kinds) ≡ places_after at (first_stream + q) kind (uses (first_stream + q) plan)
+      ++ all_after plan at (first_stream + (q + 1)) (drop (q + 1) kinds)
   all_now =
       let e : suc q ≡ q + 1 = omega arith in
       let f : suc (first_stream + q) ≡ first_stream + (q + 1) = omega arith in
@@ -95,7 +100,9 @@ module _ (plan : List Step) (at first_stream q : ℕ) (kinds : List Kind) (kind 
   pub first_next : (states : List State) → AreNextInLayout plan states (all_after plan at (first_stream + q) (drop q kinds))
       → AreNextInLayout plan states (places_after at (first_stream + q) kind (uses (first_stream + q) plan))
   first_next states next k placed at_k =
-      next k placed (ap (λ l. slice_get l k) all_now ∙ get_front (places_after at (first_stream + q) kind (uses (first_stream + q) plan)) (all_after plan at (first_stream + (q + 1)) (drop (q + 1) kinds)) k placed at_k)
+      next k placed (ap (λ l. slice_get l k) all_now
+      ∙ get_front (places_after at (first_stream + q) kind (uses (first_stream + q) plan))
+      (all_after plan at (first_stream + (q + 1)) (drop (q + 1) kinds)) k placed at_k)
 
   pub later_next : (states states2 : List State) → AreNextInLayout plan states (all_after plan at (first_stream + q) (drop q kinds))
       → length states2 ≡ length states + length (places_after at (first_stream + q) kind (uses (first_stream + q) plan))
@@ -106,7 +113,9 @@ module _ (plan : List Step) (at first_stream q : ℕ) (kinds : List Kind) (kind 
       subst (λ n. slice_get (layout plan) n ≡ Some placed) e
       (next (length front + k) placed (ap (λ l. slice_get l (length front + k)) all_now ∙ get_back front (all_after plan at (first_stream + (q + 1)) (drop (q + 1) kinds)) k placed at_k))
 
-  pub count_next : length (all_after plan at (first_stream + q) (drop q kinds)) ≡ length (places_after at (first_stream + q) kind (uses (first_stream + q) plan)) + length (all_after plan at (first_stream + (q + 1)) (drop (q + 1) kinds))
+  pub count_next : length (all_after plan at (first_stream + q) (drop q kinds))
+      ≡ length (places_after at (first_stream + q) kind (uses (first_stream + q) plan)) + length
+      (all_after plan at (first_stream + (q + 1)) (drop (q + 1) kinds))
   count_next = ap length all_now ∙ length-append (places_after at (first_stream + q) kind (uses (first_stream + q) plan)) (all_after plan at (first_stream + (q + 1)) (drop (q + 1) kinds))
 
 -- what stands inside a list does not hang on what stands for other places

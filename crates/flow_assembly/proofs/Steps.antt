@@ -181,10 +181,13 @@ module _ (plan : List Step) (i : ℕ) (step : Step) (now : drop i plan ≡ step 
   pub step_found : (node : ℕ) (found2 : List ℕ) → found2 ≡ found ++ node ∷ [] → length found2 ≡ i + 1
   step_found node found2 same = ap length same ∙ length_push found node ∙ ap (λ m. m + 1) built.steps
 
-  pub step_within : (state : State) (reads : List ℕ) (states2 : List State) (edges2 : List Edge) → reads ≡ step.reads → states2 ≡ states ++ state ∷ [] → edges2 ≡ edges → (length states ≡ most_nodes → ⊥)
+  pub step_within : (state : State) (reads : List ℕ) (states2 : List State) (edges2 : List Edge) → reads ≡ step.reads → states2 ≡ states ++ state ∷ []
+      → edges2 ≡ edges → (length states ≡ most_nodes → ⊥)
       → KeepsLimits plan states2 edges2 (length reads)
   step_within state reads states2 edges2 same one two room =
-      subst (λ x. KeepsLimits plan states2 edges2 (length x)) (sym same) (subst (λ x. KeepsLimits plan x edges2 (length step.reads)) (sym one) (subst (λ x. KeepsLimits plan (states ++ state ∷ []) x (length step.reads)) (sym two)
+      subst (λ x. KeepsLimits plan states2 edges2 (length x)) (sym same)
+      (subst (λ x. KeepsLimits plan x edges2 (length step.reads)) (sym one)
+      (subst (λ x. KeepsLimits plan (states ++ state ∷ []) x (length step.reads)) (sym two)
       (node_within plan states edges placed state built.within placed_at room)))
 
   pub step_joined : (state : State) (node : ℕ) (reads found2 : List ℕ) (states2 : List State) (edges2 : List Edge) → IsOpening step.at step.operation state → node ≡ length states
@@ -211,11 +214,13 @@ module _ (plan : List Step) (i : ℕ) (step : Step) (now : drop i plan ≡ step 
   pub step_next : (states2 : List State) (first : ℕ) (kinds2 : List Kind) → length states2 ≡ length states + 1 → first ≡ length supply → kinds2 ≡ kinds
       → AreNextInLayout plan states2 (all_after plan step.at first kinds2)
   step_next states2 first kinds2 count is same k other at =
-      let here : slice_get all_put k ≡ Some other = ap (λ l. slice_get (all_after plan step.at (length supply) l) k) (sym same) ∙ ap (λ s. slice_get (all_after plan step.at s kinds2) k) (sym is) ∙ at in
+      let here : slice_get all_put k ≡ Some other = ap (λ l. slice_get (all_after plan step.at (length supply) l) k) (sym same)
+      ∙ ap (λ s. slice_get (all_after plan step.at s kinds2) k) (sym is) ∙ at in
       ap (λ m. slice_get (layout plan) (m + k)) count ∙ sym (get_dropped (layout plan) (length states + 1) k) ∙ ap (λ l. slice_get l k) laid_after ∙ get_front all_put to_come k other here
 
   -- the streams that the step writes have its outputs as their suppliers
-  module _ (node outputs : ℕ) (supply3 supply4 : List Port) (found2 : List ℕ) (states3 : List State) (edges3 : List Edge) (reads : List ℕ) (at : node ≡ length states) (many : outputs ≡ length kinds) (fits : outputs < 2 ^ 64)
+  module _ (node outputs : ℕ) (supply3 supply4 : List Port) (found2 : List ℕ) (states3 : List State) (edges3 : List Edge) (reads : List ℕ)
+      (at : node ≡ length states) (many : outputs ≡ length kinds) (fits : outputs < 2 ^ 64)
       (same_reads : reads ≡ step.reads) (same_streams : length supply3 ≡ length supply) (longer : supply4 ≡ supply3 ++ ports_of node outputs)
       (is : IsJoinedTo (layout plan) (λ t. uses t (drop (length found2) plan)) supply3 node (length reads) states3 edges3) where
     abbrev steps : List Step
@@ -245,14 +250,21 @@ module _ (plan : List Step) (i : ℕ) (step : Step) (now : drop i plan ≡ step 
         record {
           no_use = λ less. absurd (omega (arith, same_streams));
           node = ap (λ w. w.node) (supplied_at q lt);
-          stream = λ j less. let e : q ≡ (supplier supplied (length supply + q)).port + j = omega (arith, one, port) in subst (λ p. stream_from (layout plan) node p ≡ Some (length supply + q)) e (writes_at q lt);
+          stream = λ j less. let e : q ≡ (supplier supplied (length supply + q)).port + j = omega (arith, one, port) in
+              subst (λ p. stream_from (layout plan) node p ≡ Some (length supply + q)) e (writes_at q lt);
           fits = omega (arith, one, port);
         }
 
     kept : (t : ℕ) → t < length supplied → IsSame (layout plan) (λ t. uses t steps) supply3 node (length reads) states3 edges3 is left2 supplied t
         ⊎ IsFresh (layout plan) (λ t. uses t steps) supply3 node (length reads) states3 edges3 is left2 supplied t
     kept t lt = elim (cases_lt t (length supply)) [
-      | inl less ↦ inl (record { there = omega (arith, same_streams); same_supplier = get_or_append_left supply3 (ports_of node outputs) no_port t (omega (arith, same_streams)); same_left = left_done steps (length supply) t less })
+      | inl less ↦ inl (record {
+        there = omega (arith, same_streams);
+        same_supplier =
+            get_or_append_left supply3 (ports_of node outputs) no_port t (omega (arith, same_streams));
+        same_left =
+            left_done steps (length supply) t less;
+      })
       | inr more ↦
           let e : length supply + (t - length supply) ≡ t = omega arith in
           inr (subst (IsFresh (layout plan) (λ t. uses t steps) supply3 node (length reads) states3 edges3 is left2 supplied) e (fresh (t - length supply) (omega (arith, count))))
@@ -272,10 +284,13 @@ module _ (plan : List Step) (i : ℕ) (step : Step) (now : drop i plan ≡ step 
     all_read : (q s : ℕ) → stream_to (layout plan) node q ≡ Some s → q < length reads
     all_read q s to = slice_get_within reads q s (sym (step_reads node reads at same_reads q) ∙ to)
 
-    pub step_put : (states4 : List State) (edges4 : List Edge) (found4 : List ℕ) (first : ℕ) → first ≡ length supply → states4 ≡ states3 → edges4 ≡ edges3 → found4 ≡ found2 → length states3 ≡ node + 1 → KeepsLimits plan states3 edges3 0
+    pub step_put : (states4 : List State) (edges4 : List Edge) (found4 : List ℕ) (first : ℕ) → first ≡ length supply → states4 ≡ states3 → edges4
+        ≡ edges3 → found4 ≡ found2 → length states3 ≡ node + 1 → KeepsLimits plan states3 edges3 0
         → IsPutTo plan first supply4 found4 states4 edges4
     step_put states4 edges4 found4 first here one two three last within =
-        subst (λ x. IsPutTo plan x supply4 found4 states4 edges4) (sym here) (subst (λ x. IsPutTo plan (length supply) x found4 states4 edges4) (sym longer) (subst (λ x. IsPutTo plan (length supply) supplied x states4 edges4) (sym three)
+        subst (λ x. IsPutTo plan x supply4 found4 states4 edges4) (sym here)
+        (subst (λ x. IsPutTo plan (length supply) x found4 states4 edges4) (sym longer)
+        (subst (λ x. IsPutTo plan (length supply) supplied x states4 edges4) (sym three)
         (subst (λ x. IsPutTo plan (length supply) supplied found2 x edges4) (sym one) (subst (λ x. IsPutTo plan (length supply) supplied found2 states3 x) (sym two) (record {
           within = within;
           joined =
@@ -288,8 +303,10 @@ module _ (plan : List Step) (i : ℕ) (step : Step) (now : drop i plan ≡ step 
     step_inside first here = omega (arith, here, ap length longer, count)
 
   -- and with what stands after its streams it is built
-  pub step_built : (node : ℕ) (kinds2 : List Kind) (first : ℕ) (supply5 : List Port) (found5 : List ℕ) (states5 : List State) (edges5 : List Edge) → node ≡ length states → kinds2 ≡ kinds → first ≡ length supply
-      → IsPutTo plan (first + length kinds2) supply5 found5 states5 edges5 → length states5 ≡ length states + 1 + length (all_after plan step.at first kinds2) → length supply5 ≡ length supply + length kinds
+  pub step_built : (node : ℕ) (kinds2 : List Kind) (first : ℕ) (supply5 : List Port) (found5 : List ℕ) (states5 : List State) (edges5 : List Edge) →
+      node ≡ length states → kinds2 ≡ kinds → first ≡ length supply
+      → IsPutTo plan (first + length kinds2) supply5 found5 states5 edges5 → length states5
+      ≡ length states + 1 + length (all_after plan step.at first kinds2) → length supply5 ≡ length supply + length kinds
       → found5 ≡ found ++ node ∷ [] → IsBuiltTo plan (i + 1) supply5 found5 states5 edges5
   step_built node kinds2 first supply5 found5 states5 edges5 at same here put many streams longer =
       let count : length found5 ≡ i + 1 = step_found node found5 longer in

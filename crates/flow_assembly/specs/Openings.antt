@@ -30,8 +30,13 @@ use Rattle.flow_values.specs.TabMachine.{tab_machine}
 use Rattle.flow_values.specs.SeqMachine.{seq_machine}
 use Rattle.flow_values.specs.IndexMachine.{index_machine}
 use Rattle.flow_networks.specs.Networks.{state_at}
-use Rattle.flow_nodes.specs.StreamNodes.{NodeKind, member, node_behaviour, a_source, a_const, a_unary, a_binary, a_fork, a_sink, an_iota, a_units_of, a_scan_add, a_reduce, a_length, a_flag_of_bool, a_the_check, a_same_flags, a_concat_flags, a_part_flags, an_append_flags, a_dist, a_pack, a_pack_groups, an_interleave, an_interleave_groups, a_print, a_tab, a_seq_of_vector, an_index}
-use Rattle.flow_plans.specs.Plans.{Operation, source, const, unary, binary, iota, units_of, scan_add, reduce, length_of, dist, pack, pack_groups, flag_of_bool, same_flags, concat_flags, part_flags, the_check, append_flags, interleave, interleave_groups, print, tab, seq_of, index, fork, sink}
+use Rattle.flow_nodes.specs.StreamNodes.{NodeKind, member, node_behaviour, a_source, a_const, a_unary, a_binary, a_fork, a_sink, an_iota, a_units_of}
+use Rattle.flow_nodes.specs.StreamNodes.{a_scan_add, a_reduce, a_length, a_flag_of_bool, a_the_check, a_same_flags, a_concat_flags, a_part_flags}
+use Rattle.flow_nodes.specs.StreamNodes.{an_append_flags, a_dist, a_pack, a_pack_groups, an_interleave, an_interleave_groups, a_print, a_tab}
+use Rattle.flow_nodes.specs.StreamNodes.{a_seq_of_vector, an_index}
+use Rattle.flow_plans.specs.Plans.{Operation, source, const, unary, binary, iota, units_of, scan_add, reduce, length_of, dist, pack, pack_groups}
+use Rattle.flow_plans.specs.Plans.{flag_of_bool, same_flags, concat_flags, part_flags, the_check, append_flags, interleave, interleave_groups, print}
+use Rattle.flow_plans.specs.Plans.{tab, seq_of, index, fork, sink}
 use Rattle.flow_plans.specs.Layouts.{Placed, Performs}
 
 -- The state is the one in which the transducer of the operation opens whose faults are at this offset: that of its kind, with

@@ -76,7 +76,9 @@ module _ {P S : Type 0} (m : Machine P S) where
   written_nowhere p block q = sym (ap (λ l. cond (nat_lt q (m.outputs p)) l no_messages) (nothing_written block (m.kind_out p q)) ∙ nothing_said (nat_lt q (m.outputs p)))
 
   pub no_writes : (p : P) (block : Written) (made : Moved) → made.units ≡ 0 → made.flags ≡ 0 → made.ints ≡ 0 → (q : ℕ) → no_messages ≡ written_at m p block made q
-  no_writes p block made units flags ints q = sym (ap (λ l. cond (nat_lt q (m.outputs p)) l no_messages) (none_written block made (m.kind_out p q) units flags ints) ∙ nothing_said (nat_lt q (m.outputs p)))
+  no_writes p block made units flags ints q =
+      sym (ap (λ l. cond (nat_lt q (m.outputs p)) l no_messages) (none_written block made (m.kind_out p q) units flags ints)
+      ∙ nothing_said (nat_lt q (m.outputs p)))
 
   pub moved_nothing : (s : P × S) (first second : Shown) (space most : ℕ) (block : Written) (made : Moved) → made ≡ still → MovesAlong m s s first second space most block made
   moved_nothing s first second space most block made is = subst (MovesAlong m s s first second space most block) (sym is) (record {
@@ -140,7 +142,8 @@ module _ {P S : Type 0} (m : Machine P S) where
     }
 
     -- it writes an item
-    pub ran_write : (q : ℕ) (s t : S) (x : Cell) → want_for (ask_of (m.move p s)) ≡ Write q → written_cell (m.move p s) ≡ x → state_after_write s (m.move p s) ≡ t → Along s t [] [] (λ k. cond (eqb k q) (carry x ∷ []) []) 1
+    pub ran_write : (q : ℕ) (s t : S) (x : Cell) → want_for (ask_of (m.move p s)) ≡ Write q → written_cell (m.move p s) ≡ x →
+        state_after_write s (m.move p s) ≡ t → Along s t [] [] (λ k. cond (eqb k q) (carry x ∷ []) []) 1
     ran_write q s t x wants told leads = record {
       history = Writes q (carry x) ∷ [];
       does = λ at. (wants, ap carry told, ap (λ k. node_state (p, k) Working at) leads);
@@ -152,7 +155,8 @@ module _ {P S : Type 0} (m : Machine P S) where
     }
 
     -- and then more steps
-    pub ran_then : {s t u : S} {xs ys xs' ys' : List Signal} {ws ws' : ℕ → List Signal} {n k : ℕ} → Along s t xs ys ws n → Along t u xs' ys' ws' k → Along s u (xs ++ xs') (ys ++ ys') (λ q. ws q ++ ws' q) (n + k)
+    pub ran_then : {s t u : S} {xs ys xs' ys' : List Signal} {ws ws' : ℕ → List Signal} {n k : ℕ} → Along s t xs ys ws n → Along t u xs' ys' ws' k →
+        Along s u (xs ++ xs') (ys ++ ys') (λ q. ws q ++ ws' q) (n + k)
     ran_then {s} {t} {u} {xs} {ys} {xs'} {ys'} {ws} {ws'} {n} {k} before after =
         let g = before.history in
         let h = after.history in
@@ -167,7 +171,8 @@ module _ {P S : Type 0} (m : Machine P S) where
         }
 
     -- the same messages, told otherwise
-    pub ran_as : {s t : S} {xs ys : List Signal} {ws : ℕ → List Signal} {n : ℕ} → Along s t xs ys ws n → (xs' ys' : List Signal) (ws' : ℕ → List Signal) (k : ℕ) → xs ≡ xs' → ys ≡ ys' → ((q : ℕ) → ws q ≡ ws' q) → n ≡ k → Along s t xs' ys' ws' k
+    pub ran_as : {s t : S} {xs ys : List Signal} {ws : ℕ → List Signal} {n : ℕ} → Along s t xs ys ws n →
+        (xs' ys' : List Signal) (ws' : ℕ → List Signal) (k : ℕ) → xs ≡ xs' → ys ≡ ys' → ((q : ℕ) → ws q ≡ ws' q) → n ≡ k → Along s t xs' ys' ws' k
     ran_as made xs' ys' ws' k same_first same_second same_written same_count = record {
       history = made.history;
       does = made.does;
@@ -213,7 +218,9 @@ module _ {P S : Type 0} (m : Machine P S) where
     pub single_ran : {s t : S} {n : ℕ} (xs ys zs : List Signal) → Single s t xs ys zs n → (first second : Shown) (block : Written) (made : Moved) → m.outputs p ≡ 1 →
         xs ≡ take made.first (shown_signals first) → ys ≡ take made.second (shown_signals second) → zs ≡ written_signals block made (m.kind_out p 0) → n ≡ made.steps →
         RunsAlong m (p, s) (p, t) (take made.first (shown_signals first)) (take made.second (shown_signals second)) (written_at m p block made) made.steps
-    single_ran xs ys zs ran first second block made one firsts seconds written steps = ran_as ran (take made.first (shown_signals first)) (take made.second (shown_signals second)) (written_at m p block made) made.steps firsts seconds (first_only block made zs one written) steps
+    single_ran xs ys zs ran first second block made one firsts seconds written steps =
+        ran_as ran (take made.first (shown_signals first)) (take made.second (shown_signals second)) (written_at m p block made) made.steps firsts
+        seconds (first_only block made zs one written) steps
 
     -- of no output
     pub no_output : (block : Written) (made : Moved) → m.outputs p ≡ 0 → (q : ℕ) → no_messages ≡ written_at m p block made q

@@ -1,5 +1,6 @@
 -- What a worker makes of blocks: many messages taken or put in one call, and the history of whole rounds.
-use Rattle.std.proofs.Common.{◌≡◌, ◌≢◌, ℕ, ℤ, zero, suc, ◌+◌, ◌<◌, ◌≤◌, Bool, true, false, cond, eqb, List, [], ◌∷◌, ◌++◌, length, take, refl, sym, ◌∙◌, ap, subst, arith, append-nil, append_assoc, length-append, eq-eqb, ne_eqb, inl, inr}
+use Rattle.std.proofs.Common.{◌≡◌, ◌≢◌, ℕ, ℤ, zero, suc, ◌+◌, ◌<◌, ◌≤◌, Bool, true, false, cond, eqb, List, [], ◌∷◌, ◌++◌, length, take, refl, sym}
+use Rattle.std.proofs.Common.{◌∙◌, ap, subst, arith, append-nil, append_assoc, length-append, eq-eqb, ne_eqb, inl, inr}
 use Rattle.std.proofs.lemmas.Bool.{cases_eq, cases_Bool}
 use Rattle.std.proofs.lemmas.List.{take-append-le, take-map, length-map}
 use mathlib.Core.List.{IsPrefix}
@@ -35,7 +36,8 @@ tests_then false true xs ys xs' ys' apart = refl
 tests_then false false xs ys xs' ys' apart = refl
 
 -- two blocks of edges that are not one, and more of both
-pub blocks_then : (e f g : ℕ) (xs ys xs' ys' : List Signal) → f ≢ g → (cond (eqb e f) xs [] ++ cond (eqb e g) ys []) ++ (cond (eqb e f) xs' [] ++ cond (eqb e g) ys' []) ≡ cond (eqb e f) (xs ++ xs') [] ++ cond (eqb e g) (ys ++ ys') []
+pub blocks_then : (e f g : ℕ) (xs ys xs' ys' : List Signal) → f ≢ g → (cond (eqb e f) xs [] ++ cond (eqb e g) ys [])
+    ++ (cond (eqb e f) xs' [] ++ cond (eqb e g) ys' []) ≡ cond (eqb e f) (xs ++ xs') [] ++ cond (eqb e g) (ys ++ ys') []
 blocks_then e f g xs ys xs' ys' apart = tests_then (eqb e f) (eqb e g) xs ys xs' ys' (apart_tests e f g apart)
 
 -- blocks that have not ended
@@ -100,11 +102,13 @@ pub shown : (ms c : List Signal) (k : ℕ) → IsPrefix ms c → k ≤ length ms
 shown ms c k (more, is) within = ap (take k) (sym is) ∙ take-append-le k ms more within
 
 -- what is skipped is what was shown
-pub skipped : (k : ℕ) (ms block : List Signal) (v : View) (e : ℕ) (w : View) → IsPrefix ms (v.coming e) → k ≤ length ms → take k ms ≡ block → TakenAll v e (take k (v.coming e)) w → TakenAll v e block w
+pub skipped : (k : ℕ) (ms block : List Signal) (v : View) (e : ℕ) (w : View) → IsPrefix ms (v.coming e) → k ≤ length ms → take k ms ≡ block →
+    TakenAll v e (take k (v.coming e)) w → TakenAll v e block w
 skipped k ms block v e w first within is taken = subst (λ l. TakenAll v e l w) (shown ms (v.coming e) k first within ∙ is) taken
 
 -- what was sent, with one block more and with two
-pub after_then : (l ms ns : List Signal) → ended ms ≡ false → cond (ended (cond (ended l) l (l ++ ms))) (cond (ended l) l (l ++ ms)) (cond (ended l) l (l ++ ms) ++ ns) ≡ cond (ended l) l (l ++ (ms ++ ns))
+pub after_then : (l ms ns : List Signal) → ended ms ≡ false →
+    cond (ended (cond (ended l) l (l ++ ms))) (cond (ended l) l (l ++ ms)) (cond (ended l) l (l ++ ms) ++ ns) ≡ cond (ended l) l (l ++ (ms ++ ns))
 after_then l ms ns unended = elim (cases_Bool (ended l)) [
   | inl shut ↦ grind (arith, shut)
   | inr free ↦ let still = ended_append l ms free unended in let same = append_assoc l ms ns in grind (arith, free, still, same)
@@ -138,7 +142,8 @@ taken_all_room v w f e ms t = elim (cases_eq e f) [
 -- what many puts add to what was sent on edge e
 put_all_sent : (v w : View) (f e : ℕ) (ms : List Signal) → PutAll v f ms w → w.sent e ≡ cond (ended (v.sent e)) (v.sent e) (v.sent e ++ cond (eqb e f) ms [])
 put_all_sent v w f e ms p = elim (cases_eq e f) [
-  | inl at ↦ ap w.sent at ∙ p.sent ∙ ap (λ k. cond (ended (v.sent k)) (v.sent k) (v.sent k ++ ms)) (sym at) ∙ ap (λ b. cond (ended (v.sent e)) (v.sent e) (v.sent e ++ cond b ms [])) (sym (eq-eqb e f at))
+  | inl at ↦ ap w.sent at ∙ p.sent ∙ ap (λ k. cond (ended (v.sent k)) (v.sent k) (v.sent k ++ ms)) (sym at)
+      ∙ ap (λ b. cond (ended (v.sent e)) (v.sent e) (v.sent e ++ cond b ms [])) (sym (eq-eqb e f at))
   | inr ne ↦ p.others e ne ∙ after_none (v.sent e) ∙ ap (λ b. cond (ended (v.sent e)) (v.sent e) (v.sent e ++ cond b ms [])) (sym (ne_eqb e f ne))
 ]
 
@@ -183,7 +188,8 @@ module _ (inputs outputs : List ℕ) where
         }
 
     -- many messages are put
-    pub shifted_put : (q : ℕ) (ms : List Signal) (w : View) → q < length outputs → ended ms ≡ false → PutAll u (edge_of outputs q) ms w → Shifted reads (λ e. writes e ++ cond (eqb e (edge_of outputs q)) ms []) v w
+    pub shifted_put : (q : ℕ) (ms : List Signal) (w : View) → q < length outputs → ended ms ≡ false → PutAll u (edge_of outputs q) ms w →
+        Shifted reads (λ e. writes e ++ cond (eqb e (edge_of outputs q)) ms []) v w
     shifted_put q ms w there free put =
         let g = edge_of outputs q in
         record {
@@ -243,7 +249,8 @@ module _ (inputs outputs : List ℕ) where
           }
 
       -- it writes an item
-      pub batch_write : (q : ℕ) (x : Cell) (u : S) → b.process.want t ≡ Write q → carry x ≡ b.process.written t → u ≡ b.process.wrote t → Batch s u reads (λ e. writes e ++ cond (eqb e (edge_of outputs q)) (carry x ∷ []) []) (n + 1)
+      pub batch_write : (q : ℕ) (x : Cell) (u : S) → b.process.want t ≡ Write q → carry x ≡ b.process.written t → u ≡ b.process.wrote t →
+          Batch s u reads (λ e. writes e ++ cond (eqb e (edge_of outputs q)) (carry x ∷ []) []) (n + 1)
       unfolding read_from sent_after
       batch_write q x u wants told is =
           let h = made.history in
@@ -253,7 +260,10 @@ module _ (inputs outputs : List ℕ) where
             does = does_then b.process s t u h (Writes q (carry x) ∷ []) made.does (wants, sym told, sym is);
             counts = length-append h (Writes q (carry x) ∷ []) ∙ ap (λ l. l + 1) made.counts;
             read = λ e. sym (read_append (edge_of inputs) e h (Writes q (carry x) ∷ [])) ∙ append-nil (read_from (edge_of inputs) e h) ∙ made.read e;
-            wrote = λ e l. sent_append (edge_of outputs) e l h (Writes q (carry x) ∷ []) ∙ ap (λ k. cond (eqb e g) (cond (ended k) k (k ++ carry x ∷ [])) k) (made.wrote e l) ∙ after_row (eqb e g) (cond (ended l) l (l ++ writes e)) (carry x ∷ []) ∙ after_then l (writes e) (cond (eqb e g) (carry x ∷ []) []) (made.no_end e);
+            wrote = λ e l. sent_append (edge_of outputs) e l h (Writes q (carry x) ∷ [])
+                ∙ ap (λ k. cond (eqb e g) (cond (ended k) k (k ++ carry x ∷ [])) k) (made.wrote e l)
+                ∙ after_row (eqb e g) (cond (ended l) l (l ++ writes e)) (carry x ∷ [])
+                ∙ after_then l (writes e) (cond (eqb e g) (carry x ∷ []) []) (made.no_end e);
             no_end = λ e. ended_append (writes e) (cond (eqb e g) (carry x ∷ []) []) (made.no_end e) (ended_block (eqb e g) (carry x ∷ []) (ended_one x));
           }
 
@@ -267,7 +277,8 @@ module _ (inputs outputs : List ℕ) where
             does = does_then b.process s t u g h made.does next.does;
             counts = length-append g h ∙ ap (λ l. l + length h) made.counts ∙ ap (λ l. n + l) next.counts;
             read = λ e. sym (read_append (edge_of inputs) e g h) ∙ ap (λ l. l ++ read_from (edge_of inputs) e h) (made.read e) ∙ ap (λ l. reads e ++ l) (next.read e);
-            wrote = λ e l. sent_append (edge_of outputs) e l g h ∙ ap (λ k. sent_after (edge_of outputs) e k h) (made.wrote e l) ∙ next.wrote e (cond (ended l) l (l ++ writes e)) ∙ after_then l (writes e) (writes' e) (made.no_end e);
+            wrote = λ e l. sent_append (edge_of outputs) e l g h ∙ ap (λ k. sent_after (edge_of outputs) e k h) (made.wrote e l)
+                ∙ next.wrote e (cond (ended l) l (l ++ writes e)) ∙ after_then l (writes e) (writes' e) (made.no_end e);
             no_end = λ e. ended_append (writes e) (writes' e) (made.no_end e) (next.no_end e);
           }
 
@@ -297,5 +308,6 @@ module _ (inputs outputs : List ℕ) where
       }
 
     -- what was made goes on by rounds over the blocks of its ends
-    pub went_batch : {s : S} {a : View} {t : S} {v : View} {n : ℕ} {u : S} {reads writes : ℕ → List Signal} {k : ℕ} → Went inputs outputs b s a t v n → Batch t u reads writes k → 0 < k → (w : View) → Shifted reads writes v w → Went inputs outputs b s a u w (n + k)
+    pub went_batch : {s : S} {a : View} {t : S} {v : View} {n : ℕ} {u : S} {reads writes : ℕ → List Signal} {k : ℕ} → Went inputs outputs b s a t v n
+        → Batch t u reads writes k → 0 < k → (w : View) → Shifted reads writes v w → Went inputs outputs b s a u w (n + k)
     went_batch went rounds some w shifted = went_further b inputs outputs went (batch_went rounds shifted some)

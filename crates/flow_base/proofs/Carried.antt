@@ -1,5 +1,6 @@
 -- What the events of a visit take from the edges, and what they put there.
-use Rattle.std.proofs.Common.{◌≡◌, ◌≢◌, ℕ, ◌<◌, ◌≤◌, Bool, true, false, cond, eqb, List, [], ◌∷◌, ◌++◌, refl, sym, ◌∙◌, ap, subst, arith, append-nil, append_assoc, eq-eqb, ne_eqb, inl, inr, Result, Ok, Err, OnOk, IfErr, IsOk, IsErrAnd, ◌↔◌}
+use Rattle.std.proofs.Common.{◌≡◌, ◌≢◌, ℕ, ◌<◌, ◌≤◌, Bool, true, false, cond, eqb, List, [], ◌∷◌, ◌++◌, refl, sym, ◌∙◌, ap, subst, arith, append-nil}
+use Rattle.std.proofs.Common.{append_assoc, eq-eqb, ne_eqb, inl, inr, Result, Ok, Err, OnOk, IfErr, IsOk, IsErrAnd, ◌↔◌}
 use Rattle.std.proofs.lemmas.Bool.{cases_eq, cases_Bool}
 use mathlib.Core.List.{IsPrefix}
 use Rattle.kahn.specs.Processes.{Event, Reads, Writes}
@@ -94,7 +95,8 @@ wrote_looked v u w f m looked wrote = record {
 
 -- the answers of `room` and then of `put`
 module _ (v u w : View) (f : ℕ) (m : Signal) (message : Msg) (looked : LookedForRoom v f u) where
-  pub put_wrote : (r : Result (Unit {0}) Refused) → 0 < u.room f → OnOk r (Put u f m w) → IfErr r (λ x. (x.message ≡ message) × LookedForRoom u f w) → IsErrAnd r (λ x. x.why ≡ Closed) ↔ (ended (u.sent f) ≡ true) → (ended (u.sent f) ≡ false → 0 < u.room f → IsOk r) → Wrote v f m w
+  pub put_wrote : (r : Result (Unit {0}) Refused) → 0 < u.room f → OnOk r (Put u f m w) → IfErr r (λ x. (x.message ≡ message) × LookedForRoom u f w) →
+      IsErrAnd r (λ x. x.why ≡ Closed) ↔ (ended (u.sent f) ≡ true) → (ended (u.sent f) ≡ false → 0 < u.room f → IsOk r) → Wrote v f m w
   put_wrote (Ok x) certain ok refused closed succeeds = record {
     ends = same_ends_then v u w looked.ends ok.ends;
     sent = grown v w f m

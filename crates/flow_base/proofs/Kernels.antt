@@ -1,5 +1,7 @@
 -- What a worker makes, one step after another.
-use Rattle.std.proofs.Common.{◌≡◌, ℕ, ◌+◌, ◌<◌, ◌≤◌, Bool, true, false, cond, eqb, nat_lt, ◌||◌, zero, suc, List, [], ◌∷◌, ◌++◌, length, refl, sym, ◌∙◌, ap, subst, arith, append-nil, append_assoc, length-append, Option, Some, None, IfSome, IsSome, Result, Ok, Err, OnOk, IfErr, IsOk, IsErrAnd, ◌↔◌}
+use Rattle.std.proofs.Common.{◌≡◌, ℕ, ◌+◌, ◌<◌, ◌≤◌, Bool, true, false, cond, eqb, nat_lt, ◌||◌, zero, suc, List, [], ◌∷◌, ◌++◌, length, refl, sym}
+use Rattle.std.proofs.Common.{◌∙◌, ap, subst, arith, append-nil, append_assoc, length-append, Option, Some, None, IfSome, IsSome, Result, Ok, Err}
+use Rattle.std.proofs.Common.{OnOk, IfErr, IsOk, IsErrAnd, ◌↔◌}
 use Rattle.std.proofs.lemmas.Bool.Decides.{nat_tests}
 use mathlib.Core.List.{IsPrefix}
 use Rattle.kahn.specs.declared.want.Want.TheVariants.{Read, Write}
@@ -35,7 +37,8 @@ took v w e x (Some m) some succeeds first = subst (λ y. Taken v e y w) (sym (fi
 took v w e x None some succeeds first = absurd (let no = succeeds (some_held x (v.coming e) first) in cc)
 
 -- where room was certain, as much is left but for one message
-pub put_room : (v w : View) (f : ℕ) (m : Signal) (message : Msg) (r : Result (Unit {0}) Refused) → OnOk r (Put v f m w) → IfErr r (λ x. (x.message ≡ message) × LookedForRoom v f w) → v.room f ≤ w.room f + 1
+pub put_room : (v w : View) (f : ℕ) (m : Signal) (message : Msg) (r : Result (Unit {0}) Refused) → OnOk r (Put v f m w) →
+    IfErr r (λ x. (x.message ≡ message) × LookedForRoom v f w) → v.room f ≤ w.room f + 1
 put_room v w f m message (Ok x) ok refused = ok.room_here
 put_room v w f m message (Err x) ok refused = omega (arith, refused.1.more)
 
@@ -50,12 +53,15 @@ looked_nowhere v e = record {
 }
 
 -- a put where room was certain
-pub put_sure : (v w : View) (f : ℕ) (message : Msg) (r : Result (Unit {0}) Refused) → 0 < v.room f → OnOk r (Put v f (signal_of message) w) → IfErr r (λ x. (x.message ≡ message) × LookedForRoom v f w) →
+pub put_sure : (v w : View) (f : ℕ) (message : Msg) (r : Result (Unit {0}) Refused) → 0 < v.room f → OnOk r (Put v f (signal_of message) w) →
+    IfErr r (λ x. (x.message ≡ message) × LookedForRoom v f w) →
     IsErrAnd r (λ x. x.why ≡ Closed) ↔ (ended (v.sent f) ≡ true) → (ended (v.sent f) ≡ false → 0 < v.room f → IsOk r) → Wrote v f (signal_of message) w
 put_sure v w f message r certain ok refused closed succeeds = put_wrote v v w f (signal_of message) message (looked_nowhere v f) r certain ok refused closed succeeds
 
 -- an item that leads on, in a node that works
-pub leads_on : {P S : Type 0} (m : Machine P S) (p : P) (s next : S) (at : ℕ) (t : Taking S) (x : Signal) → ((y : Cell) → state_after_read (m.move p s) y ≡ state_after_item t y) → Leads t x next → node_state (p, next) Working at ≡ node_after_read m Working (node_state (p, s) Working at) x
+pub leads_on : {P S : Type 0} (m : Machine P S) (p : P) (s next : S) (at : ℕ) (t : Taking S) (x : Signal) →
+    ((y : Cell) → state_after_read (m.move p s) y ≡ state_after_item t y) → Leads t x next → node_state (p, next) Working at
+    ≡ node_after_read m Working (node_state (p, s) Working at) x
 leads_on m p s next at t (carry y) reads leads = sym (ap (went_on m (node_state (p, s) Working at)) (reads y ∙ leads))
 leads_on m p s next at t stop reads leads = absurd leads
 
@@ -114,7 +120,8 @@ module _ {S : Type 0} (b : Behaviour S) (inputs outputs : List ℕ) where
 
   module _ {s : S} {a : View} {t : S} {v : View} {n : ℕ} (went : Went inputs outputs b s a t v n) where
     -- it read a message
-    pub went_read : (p : ℕ) (m : Signal) (t' : S) (w : View) → p < length inputs → b.process.want t ≡ Read p → Taken v (edge_of inputs p) m w → t' ≡ b.process.read t m → Went inputs outputs b s a t' w (n + 1)
+    pub went_read : (p : ℕ) (m : Signal) (t' : S) (w : View) → p < length inputs → b.process.want t ≡ Read p → Taken v (edge_of inputs p) m w → t'
+        ≡ b.process.read t m → Went inputs outputs b s a t' w (n + 1)
     unfolding read_from sent_after
     went_read p m t' w there wants state_after_item is =
         let f = edge_of inputs p in
@@ -124,11 +131,14 @@ module _ {S : Type 0} (b : Behaviour S) (inputs outputs : List ℕ) where
           history = h ++ Reads p m ∷ [];
           does = does_then b.process s t t' h (Reads p m ∷ []) went.does (wants, sym is);
           carried = record {
-            received = λ e. taken_received v w f e m state_after_item ∙ ap (λ l. l ++ cond (eqb e f) (m ∷ []) []) (went.carried.received e) ∙ append_assoc (a.received e) (read_from edge e h) (cond (eqb e f) (m ∷ []) []) ∙ ap (λ l. a.received e ++ l) (read_append edge e h (Reads p m ∷ []));
+            received = λ e. taken_received v w f e m state_after_item ∙ ap (λ l. l ++ cond (eqb e f) (m ∷ []) []) (went.carried.received e)
+                ∙ append_assoc (a.received e) (read_from edge e h) (cond (eqb e f) (m ∷ []) [])
+                ∙ ap (λ l. a.received e ++ l) (read_append edge e h (Reads p m ∷ []));
             sent = λ e. state_after_item.sent e ∙ went.carried.sent e ∙ sym (sent_append (edge_of outputs) e (a.sent e) h (Reads p m ∷ []));
           };
           spares = record {
-            coming = λ e none. prefix_then (a.coming e) (v.coming e) (w.coming e) (went.spares.coming e none) (prefix_same (v.coming e) (w.coming e) (state_after_item.coming e (not_at inputs e p none there)));
+            coming = λ e none. prefix_then (a.coming e) (v.coming e) (w.coming e) (went.spares.coming e none)
+                (prefix_same (v.coming e) (w.coming e) (state_after_item.coming e (not_at inputs e p none there)));
             room = λ e none. omega (arith, went.spares.room e none, taken_room v w f e m state_after_item);
           };
           counts = one_longer h (Reads p m) n went.counts;
@@ -136,7 +146,8 @@ module _ {S : Type 0} (b : Behaviour S) (inputs outputs : List ℕ) where
         }
 
     -- it wrote a message
-    pub went_write : (q : ℕ) (m : Signal) (t' : S) (w : View) → q < length outputs → b.process.want t ≡ Write q → m ≡ b.process.written t → Wrote v (edge_of outputs q) m w → t' ≡ b.process.wrote t → Went inputs outputs b s a t' w (n + 1)
+    pub went_write : (q : ℕ) (m : Signal) (t' : S) (w : View) → q < length outputs → b.process.want t ≡ Write q → m ≡ b.process.written t →
+        Wrote v (edge_of outputs q) m w → t' ≡ b.process.wrote t → Went inputs outputs b s a t' w (n + 1)
     unfolding read_from sent_after
     went_write q m t' w there wants told wrote is =
         let f = edge_of outputs q in
@@ -236,7 +247,8 @@ module _ {S : Type 0} {b : Behaviour S} {inputs outputs : List ℕ} {s : S} {a :
 
 -- steps, and then more steps
 module _ {S : Type 0} (b : Behaviour S) (inputs outputs : List ℕ) where
-  pub went_further : {s : S} {a : View} {t : S} {v : View} {n : ℕ} {u : S} {w : View} {k : ℕ} → Went inputs outputs b s a t v n → Went inputs outputs b t v u w k → Went inputs outputs b s a u w (n + k)
+  pub went_further : {s : S} {a : View} {t : S} {v : View} {n : ℕ} {u : S} {w : View} {k : ℕ} → Went inputs outputs b s a t v n →
+      Went inputs outputs b t v u w k → Went inputs outputs b s a u w (n + k)
   went_further {s} {a} {t} {v} {n} {u} {w} {k} first next =
       let g = first.history in
       let h = next.history in
@@ -246,7 +258,8 @@ module _ {S : Type 0} (b : Behaviour S) (inputs outputs : List ℕ) where
         does = does_then b.process s t u g h first.does next.does;
         counts = length-append g h ∙ ap (λ l. l + length h) first.counts ∙ ap (λ l. n + l) next.counts;
         carried = record {
-          received = λ e. next.carried.received e ∙ ap (λ l. l ++ read_from edge e h) (first.carried.received e) ∙ append_assoc (a.received e) (read_from edge e g) (read_from edge e h) ∙ ap (λ l. a.received e ++ l) (read_append edge e g h);
+          received = λ e. next.carried.received e ∙ ap (λ l. l ++ read_from edge e h) (first.carried.received e)
+              ∙ append_assoc (a.received e) (read_from edge e g) (read_from edge e h) ∙ ap (λ l. a.received e ++ l) (read_append edge e g h);
           sent = λ e. next.carried.sent e ∙ ap (λ l. sent_after (edge_of outputs) e l h) (first.carried.sent e) ∙ sym (sent_append (edge_of outputs) e (a.sent e) g h);
         };
         spares = record {
@@ -256,8 +269,10 @@ module _ {S : Type 0} (b : Behaviour S) (inputs outputs : List ℕ) where
         calm = λ is. left_alone inputs outputs a v w (first.calm (omega arith)) (next.calm (omega arith));
       }
 
-  pub went_on_alone : (m : ℕ) {s : S} {a : View} {t : S} {v : View} → WentOn inputs outputs b s a t v (nat_lt 0 m) → (w : View) → LeavesAlone inputs outputs v w → WentOn inputs outputs b s a t w (nat_lt 0 m)
+  pub went_on_alone : (m : ℕ) {s : S} {a : View} {t : S} {v : View} → WentOn inputs outputs b s a t v (nat_lt 0 m) → (w : View) →
+      LeavesAlone inputs outputs v w → WentOn inputs outputs b s a t w (nat_lt 0 m)
   went_on_alone m {s} {a} {t} {v} (n, went, is) w alone = (n, went_alone b inputs outputs went w alone, is)
 
-  pub went_then : (m : ℕ) {s : S} {a : View} {t : S} {v : View} {u : S} {w : View} {k : ℕ} → WentOn inputs outputs b s a t v (nat_lt 0 m) → Went inputs outputs b t v u w k → WentOn inputs outputs b s a u w (nat_lt 0 (m + k))
+  pub went_then : (m : ℕ) {s : S} {a : View} {t : S} {v : View} {u : S} {w : View} {k : ℕ} → WentOn inputs outputs b s a t v (nat_lt 0 m) →
+      Went inputs outputs b t v u w k → WentOn inputs outputs b s a u w (nat_lt 0 (m + k))
   went_then m {s} {a} {t} {v} {u} {w} {k} (n, first, is) next = (n + k, went_further first next, sym (some_in_all n k) ∙ ap (λ any. any || nat_lt 0 k) is ∙ some_in_all m k)

@@ -1,5 +1,6 @@
 -- Steps of a machine along slices are steps of a node over its edges.
-use Rattle.std.proofs.Common.{◌≡◌, ◌≢◌, ℕ, zero, suc, ◌+◌, ◌<◌, ◌≤◌, Bool, true, false, cond, eqb, nat_lt, List, [], ◌∷◌, ◌++◌, length, take, refl, sym, ◌∙◌, ap, subst, arith, append-nil, append_assoc, length-append, eq-eqb, ne_eqb, inl, inr}
+use Rattle.std.proofs.Common.{◌≡◌, ◌≢◌, ℕ, zero, suc, ◌+◌, ◌<◌, ◌≤◌, Bool, true, false, cond, eqb, nat_lt, List, [], ◌∷◌, ◌++◌, length, take, refl}
+use Rattle.std.proofs.Common.{sym, ◌∙◌, ap, subst, arith, append-nil, append_assoc, length-append, eq-eqb, ne_eqb, inl, inr}
 use Rattle.std.proofs.lemmas.Bool.{cases_eq, cases_lt}
 use Rattle.std.proofs.lemmas.Bool.Decides.{nat_tests}
 use Rattle.std.specs.List.{All}
@@ -22,7 +23,8 @@ use Rattle.flow_base.specs.declared.slices.Written.{Written}
 use Rattle.flow_base.proofs.Carried.{same_ends_refl, same_ends_then, prefix_same, prefix_then}
 use Rattle.flow_base.proofs.Reached.{opening_does}
 use Rattle.flow_base.proofs.Visits.{not_at}
-use Rattle.flow_base.proofs.Batches.{Batch, Shifted, after_none, after_then, batch_went, taken_all_received, taken_all_room, ended_none, ended_append, ended_block, ended_units, ended_flags, ended_ints, shifted_put, shown}
+use Rattle.flow_base.proofs.Batches.{Batch, Shifted, after_none, after_then, batch_went, taken_all_received, taken_all_room, ended_none, ended_append}
+use Rattle.flow_base.proofs.Batches.{ended_block, ended_units, ended_flags, ended_ints, shifted_put, shown}
 use Rattle.flow_base.proofs.Along.{no_messages, nothing_said}
 
 -- so many ports have edges of their own
@@ -69,7 +71,8 @@ last_more true c x x' y y' m before here same none =
 last_more false c x x' y y' m before here same none = ap (λ l. l ++ []) before ∙ ap (λ d. cond d (m ∷ (x ++ [])) (x ++ [])) (sym same)
 
 -- one message more of a port comes first on its edge
-from_more : (edge : ℕ → ℕ) (n : ℕ) → Apart edge n → (p : ℕ) → p < n → (m : Signal) (ms ms' : ℕ → List Signal) → ms' p ≡ m ∷ ms p → ((q : ℕ) → q ≢ p → ms' q ≡ ms q) → (e : ℕ) → from_each edge n ms' e ≡ cond (eqb e (edge p)) (m ∷ from_each edge n ms e) (from_each edge n ms e)
+from_more : (edge : ℕ → ℕ) (n : ℕ) → Apart edge n → (p : ℕ) → p < n → (m : Signal) (ms ms' : ℕ → List Signal) → ms' p ≡ m ∷ ms p →
+    ((q : ℕ) → q ≢ p → ms' q ≡ ms q) → (e : ℕ) → from_each edge n ms' e ≡ cond (eqb e (edge p)) (m ∷ from_each edge n ms e) (from_each edge n ms e)
 from_more edge zero apart p there m ms ms' is other e = absurd (omega (arith, there))
 from_more edge (suc n) apart p there m ms ms' is other e = elim (cases_eq p n) [
   | inl at ↦ (let before = from_same edge n e ms' ms (λ q lt. other q (λ same. omega (arith, same, lt, at))) in
@@ -131,7 +134,9 @@ more_sent true l f m free = after_then l (m ∷ []) f free
 more_sent false l f m free = refl
 
 -- what the events send on an edge
-pub sent_each : (edge : ℕ → ℕ) (n : ℕ) → Apart edge n → (h : List (Event Signal)) → ((q : ℕ) → n ≤ q → writes q h ≡ []) → ((q : ℕ) → ended (writes q h) ≡ false) → (e : ℕ) (l : List Signal) → sent_after edge e l h ≡ cond (ended l) l (l ++ from_each edge n (λ q. writes q h) e)
+pub sent_each : (edge : ℕ → ℕ) (n : ℕ) → Apart edge n → (h : List (Event Signal)) → ((q : ℕ) → n ≤ q → writes q h ≡ []) →
+    ((q : ℕ) → ended (writes q h) ≡ false) → (e : ℕ) (l : List Signal) → sent_after edge e l h
+    ≡ cond (ended l) l (l ++ from_each edge n (λ q. writes q h) e)
 unfolding sent_after
 sent_each edge n apart [] none free e l = after_none l ∙ ap (λ k. cond (ended l) l (l ++ k)) (sym (from_nothing edge n e (λ q. no_messages) (λ q lt. refl)))
 sent_each edge n apart (Reads q m ∷ h) none free e l = sent_each edge n apart h none free e l
@@ -143,7 +148,10 @@ sent_each edge n apart (Writes p m ∷ h) none free e l = elim (cases_lt p n) [
       ] in
       let next = cond (eqb e (edge p)) (cond (ended l) l (l ++ m ∷ [])) l in
       let so_far = sent_each edge n apart h (λ q le. sym (other_write q p m h (λ same. omega (arith, same, there, le))) ∙ none q le) rest e next in
-      so_far ∙ more_sent (eqb e (edge p)) l (from_each edge n (λ q. writes q h) e) m (first_free m (writes p h) first) ∙ ap (λ k. cond (ended l) l (l ++ k)) (sym (from_more edge n apart p there m (λ q. writes q h) (λ q. writes q (Writes p m ∷ h)) (one_write p m h) (λ q ne. other_write q p m h ne) e)))
+      so_far ∙ more_sent (eqb e (edge p)) l (from_each edge n (λ q. writes q h) e) m (first_free m (writes p h) first)
+      ∙ ap (λ k. cond (ended l) l (l ++ k))
+      (sym (from_more edge n apart p there m (λ q. writes q h) (λ q. writes q (Writes p m ∷ h)) (one_write p m h) (λ q ne. other_write q p m h ne)
+      e)))
   | inr over ↦ absurd (not_none m (writes p h) (sym (one_write p m h) ∙ none p over))
 ]
 
@@ -154,9 +162,12 @@ at_ports xs ys (suc zero) = ys
 at_ports xs ys (suc (suc p)) = []
 
 -- the edges of two ports
-pub two_ports : (edge : ℕ → ℕ) (n e : ℕ) (xs ys : List Signal) → (n ≤ 0 → xs ≡ []) → (n ≤ 1 → ys ≡ []) → cond (eqb e (edge 0)) xs [] ++ cond (eqb e (edge 1)) ys [] ≡ from_each edge n (at_ports xs ys) e
+pub two_ports : (edge : ℕ → ℕ) (n e : ℕ) (xs ys : List Signal) → (n ≤ 0 → xs ≡ []) → (n ≤ 1 → ys ≡ []) → cond (eqb e (edge 0)) xs []
+    ++ cond (eqb e (edge 1)) ys [] ≡ from_each edge n (at_ports xs ys) e
 two_ports edge zero e xs ys no_first no_second =
-    ap (λ l. cond (eqb e (edge 0)) l no_messages ++ cond (eqb e (edge 1)) ys []) (no_first (omega arith)) ∙ ap (λ l. l ++ cond (eqb e (edge 1)) ys []) (nothing_said (eqb e (edge 0))) ∙ ap (λ l. cond (eqb e (edge 1)) l no_messages) (no_second (omega arith)) ∙ nothing_said (eqb e (edge 1))
+    ap (λ l. cond (eqb e (edge 0)) l no_messages ++ cond (eqb e (edge 1)) ys []) (no_first (omega arith))
+    ∙ ap (λ l. l ++ cond (eqb e (edge 1)) ys []) (nothing_said (eqb e (edge 0)))
+    ∙ ap (λ l. cond (eqb e (edge 1)) l no_messages) (no_second (omega arith)) ∙ nothing_said (eqb e (edge 1))
 two_ports edge (suc zero) e xs ys no_first no_second =
     let first = cond (eqb e (edge 0)) xs [] in
     ap (λ l. first ++ cond (eqb e (edge 1)) l no_messages) (no_second (omega arith)) ∙ ap (λ l. first ++ l) (nothing_said (eqb e (edge 1))) ∙ append-nil first
@@ -180,7 +191,9 @@ module _ {P S : Type 0} (m : Machine P S) {old new : P × S} {xs ys : List Signa
     none_over (suc (suc p)) over = ports_read (suc (suc p))
 
     -- the same steps over edges
-    pub along_batch : (at : ℕ) → Batch inputs outputs (behaviour_of m) (node_state old Working at) (node_state new Working at) (λ e. cond (eqb e (edge_of inputs 0)) xs [] ++ cond (eqb e (edge_of inputs 1)) ys []) (from_each (edge_of outputs) (length outputs) written) n
+    pub along_batch : (at : ℕ) →
+        Batch inputs outputs (behaviour_of m) (node_state old Working at) (node_state new Working at)
+        (λ e. cond (eqb e (edge_of inputs 0)) xs [] ++ cond (eqb e (edge_of inputs 1)) ys []) (from_each (edge_of outputs) (length outputs) written) n
     along_batch at =
         let h = ran.history in
         let ins = edge_of inputs in
@@ -189,8 +202,12 @@ module _ {P S : Type 0} (m : Machine P S) {old new : P × S} {xs ys : List Signa
           history = h;
           does = ran.does at;
           counts = ran.counts;
-          read = λ e. read_each ins (length inputs) inputs_apart h none_over e ∙ from_same ins (length inputs) e (λ p. reads p h) (at_ports xs ys) (λ p lt. ports_read p) ∙ sym (two_ports ins (length inputs) e xs ys no_first no_second);
-          wrote = λ e l. sent_each outs (length outputs) outputs_apart h (λ q over. ran.writes_are q ∙ no_more q over) (λ q. ap ended (ran.writes_are q) ∙ free q) e l ∙ ap (λ k. cond (ended l) l (l ++ k)) (from_same outs (length outputs) e (λ q. writes q h) written (λ q lt. ran.writes_are q));
+          read = λ e. read_each ins (length inputs) inputs_apart h none_over e
+              ∙ from_same ins (length inputs) e (λ p. reads p h) (at_ports xs ys) (λ p lt. ports_read p)
+              ∙ sym (two_ports ins (length inputs) e xs ys no_first no_second);
+          wrote = λ e l. sent_each outs (length outputs) outputs_apart h (λ q over. ran.writes_are q ∙ no_more q over)
+              (λ q. ap ended (ran.writes_are q) ∙ free q) e l
+              ∙ ap (λ k. cond (ended l) l (l ++ k)) (from_same outs (length outputs) e (λ q. writes q h) written (λ q lt. ran.writes_are q));
           no_end = λ e. from_free outs (length outputs) e written free;
         }
 
@@ -249,7 +266,8 @@ module _ (outputs : List ℕ) (ms : ℕ → List Signal) where
   }
 
   -- it is put on one output more
-  pub put_on_more : AreApart outputs → (free : (q : ℕ) → ended (ms q) ≡ false) → (q : ℕ) → q < length outputs → (a u w : View) → PutOnEach outputs q ms a u → PutAll u (edge_of outputs q) (ms q) w → PutOnEach outputs (q + 1) ms a w
+  pub put_on_more : AreApart outputs → (free : (q : ℕ) → ended (ms q) ≡ false) → (q : ℕ) → q < length outputs → (a u w : View) →
+      PutOnEach outputs q ms a u → PutAll u (edge_of outputs q) (ms q) w → PutOnEach outputs (q + 1) ms a w
   put_on_more apart free q there a u w made put =
       let f = edge_of outputs q in
       let next : suc q ≡ q + 1 = omega arith in
@@ -284,7 +302,8 @@ kept_coming v w f e ms taken none = elim (cases_eq e f) [
 
 -- What was shown is taken, and what was written is put: these are steps.
 module _ {P S : Type 0} (m : Machine P S) {old new : P × S} {n : ℕ} (block : Written) (made : Moved) where
-  pub along_went : (inputs outputs : List ℕ) (at : ℕ) (xs ys : List Signal) → RunsAlong m old new xs ys (written_at m old.0 block made) n → AreApart inputs → AreApart outputs → length outputs ≡ m.outputs old.0 →
+  pub along_went : (inputs outputs : List ℕ) (at : ℕ) (xs ys : List Signal) → RunsAlong m old new xs ys (written_at m old.0 block made) n →
+      AreApart inputs → AreApart outputs → length outputs ≡ m.outputs old.0 →
       (length inputs ≤ 0 → xs ≡ []) → (length inputs ≤ 1 → ys ≡ []) → 0 < n → (v v1 v2 w : View) →
       TakenAll v (edge_of inputs 0) xs v1 → TakenAll v1 (edge_of inputs 1) ys v2 → PutOnEach outputs (length outputs) (λ q. written_signals block made (m.kind_out old.0 q)) v2 w →
       Went inputs outputs (behaviour_of m) (node_state old Working at) v (node_state new Working at) w n
@@ -295,11 +314,16 @@ module _ {P S : Type 0} (m : Machine P S) {old new : P × S} {n : ℕ} (block : 
       let outs = edge_of outputs in
       let written = written_at m old.0 block made in
       let each = λ (q : ℕ). written_signals block made (m.kind_out old.0 q) in
-      let batch = along_batch m ran inputs outputs inputs_apart outputs_apart no_first no_second (λ q over. at_none m old.0 block made q (subst (λ k. k ≤ q) counts over)) (at_free m old.0 block made) at in
+      let batch = along_batch m ran inputs outputs inputs_apart outputs_apart no_first no_second
+      (λ q over. at_none m old.0 block made q (subst (λ k. k ≤ q) counts over)) (at_free m old.0 block made) at in
       let shifted : Shifted inputs outputs (λ e. cond (eqb e f) xs [] ++ cond (eqb e g) ys []) (from_each outs (length outputs) written) v w = record {
         ends = same_ends_then v v2 w (same_ends_then v v1 v2 first.ends second.ends) put.ends;
-        received = λ e. put.received e ∙ taken_all_received v1 v2 g e ys second ∙ ap (λ l. l ++ cond (eqb e g) ys []) (taken_all_received v v1 f e xs first) ∙ append_assoc (v.received e) (cond (eqb e f) xs []) (cond (eqb e g) ys []);
-        sent = λ e. put.sent e ∙ ap (λ l. cond (ended l) l (l ++ from_each outs (length outputs) each e)) (second.sent e ∙ first.sent e) ∙ ap (λ k. cond (ended (v.sent e)) (v.sent e) (v.sent e ++ k)) (from_same outs (length outputs) e each written (λ q lt. sym (at_some m old.0 block made q (subst (λ k. q < k) counts lt))));
+        received = λ e. put.received e ∙ taken_all_received v1 v2 g e ys second
+            ∙ ap (λ l. l ++ cond (eqb e g) ys []) (taken_all_received v v1 f e xs first)
+            ∙ append_assoc (v.received e) (cond (eqb e f) xs []) (cond (eqb e g) ys []);
+        sent = λ e. put.sent e ∙ ap (λ l. cond (ended l) l (l ++ from_each outs (length outputs) each e)) (second.sent e ∙ first.sent e)
+            ∙ ap (λ k. cond (ended (v.sent e)) (v.sent e) (v.sent e ++ k))
+            (from_same outs (length outputs) e each written (λ q lt. sym (at_some m old.0 block made q (subst (λ k. q < k) counts lt))));
         no_end = λ e. from_free outs (length outputs) e written (at_free m old.0 block made);
         coming = λ e none. prefix_then (v.coming e) (v1.coming e) (w.coming e)
             (kept_coming v v1 f e xs first (λ here. elim (cases_lt 0 (length inputs)) [
@@ -317,11 +341,13 @@ module _ {P S : Type 0} (m : Machine P S) {old new : P × S} {n : ℕ} (block : 
       batch_went inputs outputs b batch shifted some
 
 -- the worker keeps its parameters
-pub same_parameters : {P S : Type 0} (m : Machine P S) (laws : BehaviourLaws (behaviour_of m)) (old new : P × S) (h : List (Event Signal)) (at : ℕ) → Does (behaviour_of m).process (node_state old Working at) h (node_state new Working at) → new.0 ≡ old.0
+pub same_parameters : {P S : Type 0} (m : Machine P S) (laws : BehaviourLaws (behaviour_of m)) (old new : P × S) (h : List (Event Signal)) (at : ℕ) →
+    Does (behaviour_of m).process (node_state old Working at) h (node_state new Working at) → new.0 ≡ old.0
 same_parameters m laws old new h at does = ap (λ o. o.worker.0) (opening_does (behaviour_of m) laws h (node_state old Working at) (node_state new Working at) does)
 
 -- a worker that made no step is where it was
-no_steps : {P S : Type 0} (m : Machine P S) (old new : P × S) (h : List (Event Signal)) (at : ℕ) → length h ≡ 0 → Does (behaviour_of m).process (node_state old Working at) h (node_state new Working at) → old ≡ new
+no_steps : {P S : Type 0} (m : Machine P S) (old new : P × S) (h : List (Event Signal)) (at : ℕ) → length h ≡ 0 →
+    Does (behaviour_of m).process (node_state old Working at) h (node_state new Working at) → old ≡ new
 no_steps m old new [] at none does = ap (λ n. n.worker) does
 no_steps m old new (x ∷ h) at none does = absurd (omega (arith, none))
 
@@ -346,7 +372,8 @@ pub kinds_still : (a v : View) (outputs : List ℕ) (kind_out : ℕ → Kind) �
 kinds_still a v outputs kind_out same all = λ q there. takes_still a v (edge_of outputs q) (kind_out q) same (all q there)
 
 -- what a second take takes, where the first was of another edge or this one takes nothing
-module _ (inputs : List ℕ) (apart : AreApart inputs) (v v1 : View) (k : ℕ) (xs ms : List Signal) (first : TakenAll v (edge_of inputs 0) xs v1) (seen : IsPrefix ms (v.coming (edge_of inputs 1))) (within : k ≤ length ms) (none : length inputs ≤ 1 → ms ≡ []) where
+module _ (inputs : List ℕ) (apart : AreApart inputs) (v v1 : View) (k : ℕ) (xs ms : List Signal) (first : TakenAll v (edge_of inputs 0) xs v1)
+    (seen : IsPrefix ms (v.coming (edge_of inputs 1))) (within : k ≤ length ms) (none : length inputs ≤ 1 → ms ≡ []) where
   pub second_taken : take k (v1.coming (edge_of inputs 1)) ≡ take k ms
   second_taken = elim (cases_lt 1 (length inputs)) [
     | inl there ↦ ap (take k) (first.coming (edge_of inputs 1) (λ e. apart 0 1 (omega arith) there (sym e))) ∙ shown ms (v.coming (edge_of inputs 1)) k seen within

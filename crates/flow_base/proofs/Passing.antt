@@ -1,5 +1,6 @@
 -- What a node passes on, item by item, and its end.
-use Rattle.std.proofs.Common.{◌≡◌, ℕ, zero, suc, ◌+◌, ◌*◌, ◌<◌, ◌≤◌, Bool, true, false, cond, nat_lt, Option, Some, None, Result, Ok, Err, List, [], ◌∷◌, ◌++◌, ◌&&◌, length, get_or, take, refl, sym, ◌∙◌, ap, subst, arith, add-one, length-append, inl, inr}
+use Rattle.std.proofs.Common.{◌≡◌, ℕ, zero, suc, ◌+◌, ◌*◌, ◌<◌, ◌≤◌, Bool, true, false, cond, nat_lt, Option, Some, None, Result, Ok, Err, List, []}
+use Rattle.std.proofs.Common.{◌∷◌, ◌++◌, ◌&&◌, length, get_or, take, refl, sym, ◌∙◌, ap, subst, arith, add-one, length-append, inl, inr}
 use Rattle.std.proofs.Math.Nat.{mul-add}
 use Rattle.std.proofs.lemmas.Bool.{and_parts}
 use Rattle.std.proofs.lemmas.Bool.Decides.{nat_tests}
@@ -119,7 +120,10 @@ module _ {S : Type 0} (b : Behaviour S) where
     no_others = λ p ne. sym (reads_append p f.history g.history) ∙ ap (λ l. l ++ reads p g.history) (f.no_others p ne) ∙ g.no_others p ne;
     writes_are = λ q l. sym (writes_append q f.history g.history) ∙ ap (λ r. r ++ writes q g.history) (f.writes_are q l) ∙ ap (λ r. xs ++ r) (g.writes_are q (subst (λ k. q < k) (sym same) l));
     is_done = g.is_done;
-    counts = length-append f.history g.history ∙ counts_then (b.outputs s) (length ms) (length xs) (length ns) (length ys) (length f.history) (length g.history) f.counts (g.counts ∙ ap (λ k. length ns + k * length ys) same) ∙ sym (ap (λ k. k + b.outputs s * (length xs + length ys)) (length-append ms ns)) ∙ sym (ap (λ k. length (ms ++ ns) + b.outputs s * k) (length-append xs ys));
+    counts = length-append f.history g.history
+        ∙ counts_then (b.outputs s) (length ms) (length xs) (length ns) (length ys) (length f.history) (length g.history) f.counts
+        (g.counts ∙ ap (λ k. length ns + k * length ys) same) ∙ sym (ap (λ k. k + b.outputs s * (length xs + length ys)) (length-append ms ns))
+        ∙ sym (ap (λ k. length (ms ++ ns) + b.outputs s * k) (length-append xs ys));
     few = few_then (length ms) (length xs) (length ns) (length ys) (length (ms ++ ns)) (length (xs ++ ys)) f.few g.few (length-append ms ns) (length-append xs ys);
     nothing = λ e. ap (λ l. l ++ ys) (f.nothing e) ∙ g.nothing (same ∙ e);
   }
@@ -198,8 +202,11 @@ module _ {P S : Type 0} (m : Machine P S) (laws : MachineLaws m) (p : P) (at : �
   ends_does (suc left) q e =
       let low : q < m.outputs p = omega (arith, e) in
       let more = ends_does left (suc q) (omega (arith, e)) in
-      let last = node_state (p, m.start) (Ending (m.outputs p)) at in
-      (ap (λ b. cond b (Write q) Ended) (lt_true q (m.outputs p) low), refl, subst (λ k. Does (behaviour_of m).process (node_state (p, m.start) (Ending k) at) (fan stop (suc q) left) last) (sym (add-one q)) more)
+      let last = node_state (p, m.start) (Ending (m.outputs p)) at in (
+        ap (λ b. cond b (Write q) Ended) (lt_true q (m.outputs p) low),
+        refl,
+        subst (λ k. Does (behaviour_of m).process (node_state (p, m.start) (Ending k) at) (fan stop (suc q) left) last) (sym (add-one q)) more,
+      )
 
   -- the end is passed on
   pub passed_end : m.inputs p ≡ 1 → PassedOn (behaviour_of m) ready (stop ∷ []) (node_state (p, m.start) (Ending (m.outputs p)) at) (flat_signals (cond (nat_lt 0 (m.outputs p)) (EndFlat ∷ []) []))
@@ -226,7 +233,8 @@ module _ {P S : Type 0} (m : Machine P S) (laws : MachineLaws m) (p : P) (at : �
       let parts = and_parts (is_working n.phase) (is_begin (ask_of (m.move n.worker.0 n.worker.1)) && passes n.worker.0) h in
       let begin = (and_parts (is_begin (ask_of (m.move n.worker.0 n.worker.1))) (passes n.worker.0) parts.1).0 in
       let start = starts (m.move n.worker.0 n.worker.1) n.worker.0 n.worker.1 (laws.sound n.worker.0 n.worker.1) begin in
-      ap (λ k. node_state n.worker k n.at) (works n.phase parts.0) ∙ ap (λ s. node_state (n.worker.0, s) Working n.at) start ∙ ap (λ k. node_state (k, m.start) Working n.at) f ∙ ap (λ k. node_state (p, m.start) Working k) e
+      ap (λ k. node_state n.worker k n.at) (works n.phase parts.0) ∙ ap (λ s. node_state (n.worker.0, s) Working n.at) start
+      ∙ ap (λ k. node_state (k, m.start) Working n.at) f ∙ ap (λ k. node_state (p, m.start) Working k) e
     where
       starts : (v : Move S) (o : P) (s : S) → SoundAt m o s v → is_begin (ask_of v) ≡ true → s ≡ m.start
       starts (begins t) o s sound h = sound.0
@@ -235,7 +243,8 @@ module _ {P S : Type 0} (m : Machine P S) (laws : MachineLaws m) (p : P) (at : �
 
 -- what the worker says of itself
 pub says_passes : {P S : Type 0} (m : Machine P S) (passes : P → Bool) (n : NodeState (P × S)) → node_passes m passes n ≡ true → passes n.worker.0 ≡ true
-says_passes m passes n h = let parts = and_parts (is_working n.phase) (is_begin (ask_of (m.move n.worker.0 n.worker.1)) && passes n.worker.0) h in (and_parts (is_begin (ask_of (m.move n.worker.0 n.worker.1))) (passes n.worker.0) parts.1).1
+says_passes m passes n h = let parts = and_parts (is_working n.phase) (is_begin (ask_of (m.move n.worker.0 n.worker.1)) && passes n.worker.0) h in
+    (and_parts (is_begin (ask_of (m.move n.worker.0 n.worker.1))) (passes n.worker.0) parts.1).1
 
 -- what a block says, one message at a time
 pub said_get : (xs : List Flat) (i : ℕ) (d : Flat) → get_or (flat_signals xs) i (signal_of (message_of d)) ≡ signal_of (message_of (get_or xs i d))
@@ -250,7 +259,8 @@ said_append [] ys = refl
 said_append (x ∷ xs) ys = ap (λ l. signal_of (message_of x) ∷ l) (said_append xs ys)
 
 -- where an end stands in an orderly block, it is the last
-pub last_end : (xs : List Flat) (i : ℕ) (d : Flat) → i < length xs → orderly (flat_signals xs) ≡ true → is_stop (signal_of (message_of (get_or xs i d))) ≡ true → flat_signals xs ≡ flat_signals (take i xs) ++ stop ∷ []
+pub last_end : (xs : List Flat) (i : ℕ) (d : Flat) → i < length xs → orderly (flat_signals xs) ≡ true →
+    is_stop (signal_of (message_of (get_or xs i d))) ≡ true → flat_signals xs ≡ flat_signals (take i xs) ++ stop ∷ []
 unfolding signals orderly
 last_end [] i d low h is = absurd (omega (arith, low))
 last_end (EndFlat ∷ []) zero d low h is = refl
@@ -278,13 +288,17 @@ flats_say (Some y) = refl
 
 module _ {P S : Type 0} (m : Machine P S) (laws : MachineLaws m) (passes : P → Bool) (n : NodeState (P × S)) (is : node_passes m passes n ≡ true) where
   pub none_passed : PassedOn (behaviour_of m) n [] n []
-  none_passed = passed_none (behaviour_of m) n (subst (λ k. IsWrite ((behaviour_of m).process.want k) → ⊥) (sym (passes_at m laws n.worker.0 n.at passes n refl refl is)) (reads_next m laws n.worker.0 n.at))
+  none_passed = passed_none (behaviour_of m) n
+      (subst (λ k. IsWrite ((behaviour_of m).process.want k) → ⊥) (sym (passes_at m laws n.worker.0 n.at passes n refl refl is))
+      (reads_next m laws n.worker.0 n.at))
 
   -- one item more
-  pub item_passed : (read out : List Signal) (x : Signal) (y : Option Flat) → PassedOn (behaviour_of m) n read n out → Follows m n.worker.0 x y → PassedOn (behaviour_of m) n (read ++ x ∷ []) n (out ++ signals_of y)
+  pub item_passed : (read out : List Signal) (x : Signal) (y : Option Flat) → PassedOn (behaviour_of m) n read n out → Follows m n.worker.0 x y →
+      PassedOn (behaviour_of m) n (read ++ x ∷ []) n (out ++ signals_of y)
   item_passed read out x y before follows =
       let at_start = passes_at m laws n.worker.0 n.at passes n refl refl is in
-      let here : PassedOn (behaviour_of m) n (x ∷ []) n (signals_of y) = subst (λ k. PassedOn (behaviour_of m) k (x ∷ []) k (signals_of y)) (sym at_start) (passed_item m laws n.worker.0 n.at x y follows) in
+      let here : PassedOn (behaviour_of m) n (x ∷ []) n (signals_of y) =
+      subst (λ k. PassedOn (behaviour_of m) k (x ∷ []) k (signals_of y)) (sym at_start) (passed_item m laws n.worker.0 n.at x y follows) in
       passed_then (behaviour_of m) n n n read out (x ∷ []) (signals_of y) refl before here
 
   -- one message more of a block
@@ -299,7 +313,8 @@ module _ {P S : Type 0} (m : Machine P S) (laws : MachineLaws m) (passes : P →
 
   -- and the end
   pub end_passed : (read : List Signal) (out last : List Flat) (t : NodeState (P × S)) → m.inputs n.worker.0 ≡ 1 → PassedOn (behaviour_of m) n read n (flat_signals out) →
-      t ≡ node_state n.worker (Ending (m.outputs n.worker.0)) n.at → last ≡ out ++ cond (nat_lt 0 (m.outputs n.worker.0)) (EndFlat ∷ []) [] → PassedOn (behaviour_of m) n (read ++ stop ∷ []) t (flat_signals last)
+      t ≡ node_state n.worker (Ending (m.outputs n.worker.0)) n.at → last ≡ out ++ cond (nat_lt 0 (m.outputs n.worker.0)) (EndFlat ∷ []) [] →
+      PassedOn (behaviour_of m) n (read ++ stop ∷ []) t (flat_signals last)
   end_passed read out last t one before ends lasts =
       let b = behaviour_of m in
       let p = n.worker.0 in
@@ -309,4 +324,5 @@ module _ {P S : Type 0} (m : Machine P S) (laws : MachineLaws m) (passes : P →
       let there : t ≡ over = ends ∙ ap (λ k. node_state k.worker (Ending (m.outputs p)) n.at) start in
       let here : PassedOn b n (stop ∷ []) over (flat_signals more) = subst (λ k. PassedOn b k (stop ∷ []) over (flat_signals more)) (sym start) (passed_end m laws p n.at one) in
       let all = passed_then b n n over read (flat_signals out) (stop ∷ []) (flat_signals more) refl before here in
-      subst (λ l. PassedOn b n (read ++ stop ∷ []) t l) (sym (ap flat_signals lasts ∙ said_append out more)) (subst (λ k. PassedOn b n (read ++ stop ∷ []) k (flat_signals out ++ flat_signals more)) (sym there) all)
+      subst (λ l. PassedOn b n (read ++ stop ∷ []) t l) (sym (ap flat_signals lasts ∙ said_append out more))
+      (subst (λ k. PassedOn b n (read ++ stop ∷ []) k (flat_signals out ++ flat_signals more)) (sym there) all)

@@ -54,7 +54,9 @@ module _ {S : Type 0} (b : Behaviour S) (laws : BehaviourLaws b) where
       subst (λ k. fits k m ≡ true) (laws.same_kinds_out s q) (∥∥₁_elim reached (hlevel props) (λ (h, does). (
       let start = laws.opened o (laws.same_opening s) in
       let more : Does b.process o (h ++ Writes q m ∷ []) (b.process.wrote s) = does_then b.process o s (b.process.wrote s) h (Writes q m ∷ []) does (wants, refl, refl) in
-      last_of_kind (b.kind_out o q) (writes q h) m (subst (SignalsOfKind (b.kind_out o q)) (writes_push q q m h refl) (start.of_kind (h ++ Writes q m ∷ []) (b.process.wrote s) more q (start.lawful.out_port h s q does wants)))
+      last_of_kind (b.kind_out o q) (writes q h) m
+      (subst (SignalsOfKind (b.kind_out o q)) (writes_push q q m h refl)
+      (start.of_kind (h ++ Writes q m ∷ []) (b.process.wrote s) more q (start.lawful.out_port h s q does wants)))
       )))
 
   -- a node wants only ports that it has

@@ -1,5 +1,7 @@
 -- One step more of a visit, and its end.
-use Rattle.std.proofs.Common.{◌≡◌, ◌≢◌, ℕ, zero, suc, ◌+◌, ◌<◌, ◌≤◌, Bool, true, false, cond, eqb, ◌||◌, List, [], ◌∷◌, ◌++◌, length, refl, sym, ◌∙◌, ap, subst, arith, append-nil, append_assoc, length-append, ne_eqb, Result, Ok, Err, OnOk, OnErr, IfErr, IsOk, IsErrAnd, IsTrue, ◌↔◌, inl, inr}
+use Rattle.std.proofs.Common.{◌≡◌, ◌≢◌, ℕ, zero, suc, ◌+◌, ◌<◌, ◌≤◌, Bool, true, false, cond, eqb, ◌||◌, List, [], ◌∷◌, ◌++◌, length, refl, sym, ◌∙◌}
+use Rattle.std.proofs.Common.{ap, subst, arith, append-nil, append_assoc, length-append, ne_eqb, Result, Ok, Err, OnOk, OnErr, IfErr, IsOk, IsErrAnd}
+use Rattle.std.proofs.Common.{IsTrue, ◌↔◌, inl, inr}
 use Rattle.std.proofs.lemmas.List.Elements.{All-get_or, All-weaker}
 use Rattle.std.proofs.lemmas.Bool.{cases_Bool, or_parts}
 use Rattle.kahn.specs.declared.want.Want.TheVariants.{Read, Write}
@@ -15,7 +17,8 @@ use Rattle.flow_messages.specs.declared.ends.Why.TheVariants.{Closed}
 use Rattle.flow_messages.specs.declared.message.Msg.{Msg}
 use Rattle.flow_base.specs.Transducers.{Behaviour, BehaviourLaws}
 use Rattle.flow_base.specs.Visits.{read_from, sent_after, longer, Wrote, edge_of, IsNone, Carried, SparesOthers, LeavesAlone, IsStuck, Visited, BrokeOff, IsReached, IsPlaced}
-use Rattle.flow_base.proofs.Carried.{looked_coming, looked_room, same_ends_refl, same_ends_then, prefix_same, prefix_then, read_append, sent_append, taken_received, taken_room, put_wrote, wrote_looked}
+use Rattle.flow_base.proofs.Carried.{looked_coming, looked_room, same_ends_refl, same_ends_then, prefix_same, prefix_then, read_append, sent_append}
+use Rattle.flow_base.proofs.Carried.{taken_received, taken_room, put_wrote, wrote_looked}
 use Rattle.flow_base.proofs.Reached.{opening_does, reached_does, opening_read, opening_wrote, reached_read, reached_wrote, written_fits, wants_input, wants_output}
 
 pub not_nil : {X : Type 0} (h : List X) (x : X) → h ++ x ∷ [] ≡ [] → ⊥
@@ -108,7 +111,9 @@ module _ {S : Type 0} {b : Behaviour S} (laws : BehaviourLaws b) {inputs outputs
       each_output = placed.each_output ∙ sym (laws.same_outputs s) ∙ ap b.outputs (sym made.opening) ∙ laws.same_outputs t;
       reads = All-weaker (λ e. a.reads e ≡ true) (λ e. v.reads e ≡ true) (λ e is. made.ends.reads e ∙ is) inputs placed.reads;
       writes = All-weaker (λ e. a.writes e ≡ true) (λ e. v.writes e ≡ true) (λ e is. made.ends.writes e ∙ is) outputs placed.writes;
-      kinds = λ q l. takes_still a v (edge_of outputs q) (b.kind_out t q) made.ends (subst (TakesKind (a.kind (edge_of outputs q))) (sym (laws.same_kinds_out s q) ∙ ap (λ o. b.kind_out o q) (sym made.opening) ∙ laws.same_kinds_out t q) (placed.kinds q l));
+      kinds = λ q l. takes_still a v (edge_of outputs q) (b.kind_out t q) made.ends
+          (subst (TakesKind (a.kind (edge_of outputs q)))
+          (sym (laws.same_kinds_out s q) ∙ ap (λ o. b.kind_out o q) (sym made.opening) ∙ laws.same_kinds_out t q) (placed.kinds q l));
     }
 
     -- a port that is wanted has its edge, and the end is there
@@ -120,7 +125,10 @@ module _ {S : Type 0} {b : Behaviour S} (laws : BehaviourLaws b) {inputs outputs
 
     -- what it writes may be put on the edge of its port
     pub put_fits : (q : ℕ) (w : View) → SameEnds v w → b.process.want t ≡ Write q → FitsEdge (w.kind (edge_of outputs q)) (b.process.written t)
-    put_fits q w same wants = fits_still v w (edge_of outputs q) (b.process.written t) same (kind_fits (v.kind (edge_of outputs q)) (b.kind_out t q) (b.process.written t) (placed_on.kinds q (output_there q wants)) (written_fits b laws t q wants made.reached))
+    put_fits q w same wants =
+        fits_still v w (edge_of outputs q) (b.process.written t) same
+        (kind_fits (v.kind (edge_of outputs q)) (b.kind_out t q) (b.process.written t) (placed_on.kinds q (output_there q wants))
+        (written_fits b laws t q wants made.reached))
 
     pub reads_at : (p : ℕ) → p < length inputs → v.reads (edge_of inputs p) ≡ true
     reads_at p l = All-get_or (λ e. v.reads e ≡ true) inputs p 0 l placed_on.reads
@@ -142,11 +150,14 @@ module _ {S : Type 0} {b : Behaviour S} (laws : BehaviourLaws b) {inputs outputs
           history = h ++ Reads p m ∷ [];
           does = does_then b.process s t t' h (Reads p m ∷ []) made.does (wants, sym is);
           carried = record {
-            received = λ e. taken_received v w f e m taken ∙ ap (λ l. l ++ cond (eqb e f) (m ∷ []) []) (made.carried.received e) ∙ append_assoc (a.received e) (read_from edge e h) (cond (eqb e f) (m ∷ []) []) ∙ ap (λ l. a.received e ++ l) (read_append edge e h (Reads p m ∷ []));
+            received = λ e. taken_received v w f e m taken ∙ ap (λ l. l ++ cond (eqb e f) (m ∷ []) []) (made.carried.received e)
+                ∙ append_assoc (a.received e) (read_from edge e h) (cond (eqb e f) (m ∷ []) [])
+                ∙ ap (λ l. a.received e ++ l) (read_append edge e h (Reads p m ∷ []));
             sent = λ e. taken.sent e ∙ made.carried.sent e ∙ sym (sent_append (edge_of outputs) e (a.sent e) h (Reads p m ∷ []));
           };
           spares = record {
-            coming = λ e none. prefix_then (a.coming e) (v.coming e) (w.coming e) (made.spares.coming e none) (prefix_same (v.coming e) (w.coming e) (taken.coming e (not_at inputs e p none (input_there p wants))));
+            coming = λ e none. prefix_then (a.coming e) (v.coming e) (w.coming e) (made.spares.coming e none)
+                (prefix_same (v.coming e) (w.coming e) (taken.coming e (not_at inputs e p none (input_there p wants))));
             room = λ e none. omega (arith, made.spares.room e none, taken_room v w f e m taken);
           };
           some = λ h. not_nil made.history (Reads p m);
@@ -155,7 +166,8 @@ module _ {S : Type 0} {b : Behaviour S} (laws : BehaviourLaws b) {inputs outputs
         }
 
     -- it wrote a message
-    pub made_write : (q : ℕ) (m : Signal) (t' : S) (w : View) → b.process.want t ≡ Write q → m ≡ b.process.written t → Wrote v (edge_of outputs q) m w → t' ≡ b.process.wrote t → Made b inputs outputs s a t' w true
+    pub made_write : (q : ℕ) (m : Signal) (t' : S) (w : View) → b.process.want t ≡ Write q → m ≡ b.process.written t → Wrote v (edge_of outputs q) m w
+        → t' ≡ b.process.wrote t → Made b inputs outputs s a t' w true
     unfolding read_from sent_after
     made_write q m t' w wants told wrote is =
         let f = edge_of outputs q in
@@ -182,8 +194,10 @@ module _ {S : Type 0} {b : Behaviour S} (laws : BehaviourLaws b) {inputs outputs
 
     -- it looked for room, and put a message
     pub made_put : (q : ℕ) (message : Msg) (t' : S) (u w : View) (r : Result (Unit {0}) Refused) → b.process.want t ≡ Write q → signal_of message ≡ b.process.written t → t' ≡ b.process.wrote t →
-        LookedForRoom v (edge_of outputs q) u → 0 < u.room (edge_of outputs q) → OnOk r (Put u (edge_of outputs q) (signal_of message) w) → IfErr r (λ x. (x.message ≡ message) × LookedForRoom u (edge_of outputs q) w) →
-        IsErrAnd r (λ x. x.why ≡ Closed) ↔ (ended (u.sent (edge_of outputs q)) ≡ true) → (ended (u.sent (edge_of outputs q)) ≡ false → 0 < u.room (edge_of outputs q) → IsOk r) → Made b inputs outputs s a t' w true
+        LookedForRoom v (edge_of outputs q) u → 0 < u.room (edge_of outputs q) → OnOk r (Put u (edge_of outputs q) (signal_of message) w) →
+        IfErr r (λ x. (x.message ≡ message) × LookedForRoom u (edge_of outputs q) w) →
+        IsErrAnd r (λ x. x.why ≡ Closed) ↔ (ended (u.sent (edge_of outputs q)) ≡ true) →
+        (ended (u.sent (edge_of outputs q)) ≡ false → 0 < u.room (edge_of outputs q) → IsOk r) → Made b inputs outputs s a t' w true
     made_put q message t' u w r wants told is looked certain ok refused closed succeeds =
         let m = signal_of message in
         made_write q m t' w wants told (put_wrote v u w (edge_of outputs q) m message looked r certain ok refused closed succeeds) is

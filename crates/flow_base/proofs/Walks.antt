@@ -17,7 +17,9 @@ module _ {E S : Type 0} (view : E → View) (same : E → E → Type 0) (inputs 
   }
 
   -- and then more
-  pub walk_then : ((a v w : E) → same a v → same v w → same a w) → {s t u : S} {a v w : E} {most n k : ℕ} → Walk view same inputs outputs b s a t v most n → Walk view same inputs outputs b t v u w (most - n) k → Walk view same inputs outputs b s a u w most (n + k)
+  pub walk_then : ((a v w : E) → same a v → same v w → same a w) → {s t u : S} {a v w : E} {most n k : ℕ} →
+      Walk view same inputs outputs b s a t v most n → Walk view same inputs outputs b t v u w (most - n) k →
+      Walk view same inputs outputs b s a u w most (n + k)
   walk_then same_trans {a = a} {v = v} {w = w} first next = record {
     same = same_trans a v w first.same next.same;
     ends = same_ends_then (view a) (view v) (view w) first.ends next.ends;

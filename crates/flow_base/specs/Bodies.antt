@@ -64,11 +64,15 @@ module _ {P S : Type 0} (m : Machine P S) (p : P) where
   -- an item in front of a port is the first that is read there
   front : (q : ℕ) (x : Cell) (i : Lists Cell) (R : Cell → Columns → Type 0) → q < m.inputs p → At q (Ins (push q x i)) R → R x (Ins i)
   front q x i R lt h =
-      let g : First (x ∷ i q) (λ y r. R y (Ins (with_port q r (push q x i)))) = subst (λ l. First l (λ y r. R y (Ins (with_port q r (push q x i))))) (at_port q (x ∷ i q) i) (at_first (m.inputs p) q (push q x i) R lt h) in
+      let g : First (x ∷ i q) (λ y r. R y (Ins (with_port q r (push q x i)))) =
+      subst (λ l. First l (λ y r. R y (Ins (with_port q r (push q x i))))) (at_port q (x ∷ i q) i) (at_first (m.inputs p) q (push q x i) R lt h) in
       subst (λ j. R x (Ins j)) (take_away q x i) g
 
   in_front : (q : ℕ) (x : Cell) (i : Lists Cell) (R : Cell → Columns → Type 0) → q < m.inputs p → R x (Ins i) → At q (Ins (push q x i)) R
-  in_front q x i R lt h = first_at (m.inputs p) q (push q x i) R lt (First-from (push q x i q) x (i q) (λ y r. R y (Ins (with_port q r (push q x i)))) (at_port q (x ∷ i q) i) (subst (λ j. R x (Ins j)) (sym (take_away q x i)) h))
+  in_front q x i R lt h =
+      first_at (m.inputs p) q (push q x i) R lt
+      (First-from (push q x i q) x (i q) (λ y r. R y (Ins (with_port q r (push q x i)))) (at_port q (x ∷ i q) i)
+      (subst (λ j. R x (Ins j)) (sym (take_away q x i)) h))
 
   abbrev Next : ℕ → Taking S → Lists Cell → Cell → Columns → Type 0
   Next n t o x r = OnNext (state_after_item t x) (λ s. RunOf m p n (m.move p s) r (Outs o))

@@ -91,7 +91,8 @@ pushed (suc p) (l ∷ cs) P h = let g = pushed p cs (λ x r. P x (l ∷ r)) h in
 abbrev pub RowOf : {X : Type 0} → (X → Columns) → (X → Columns) → ℕ → ℕ → Lists Cell → Lists Cell → Type 0
 RowOf {X = X} reads writes inputs outputs i o = (x : X) × (columns inputs i ≡ reads x) × (columns outputs o ≡ writes x)
 
-pub rows_from : {X : Type 0} (reads writes : X → Columns) (Does : Columns → Columns → Type 0) → ((x : X) → Does (reads x) (writes x)) → ((i o : Columns) → Does i o → (x : X) × (i ≡ reads x) × (o ≡ writes x)) →
+pub rows_from : {X : Type 0} (reads writes : X → Columns) (Does : Columns → Columns → Type 0) → ((x : X) → Does (reads x) (writes x)) →
+    ((i o : Columns) → Does i o → (x : X) × (i ≡ reads x) × (o ≡ writes x)) →
     (inputs outputs : ℕ) (i o : Lists Cell) → RowOf reads writes inputs outputs i o ↔ Does (columns inputs i) (columns outputs o)
 rows_from reads writes Does forth back inputs outputs i o = (
   λ h. subst (λ c. Does c (columns outputs o)) (sym h.1) (subst (λ c. Does (reads h.0) c) (sym h.2) (forth h.0)),

@@ -164,15 +164,22 @@ module _ {P S : Type 0} (m : Machine P S) (laws : MachineLaws m) (p : P) where
   abbrev AnswersRun : ℕ → Type 0
   AnswersRun n = (s : S) (v : Move S) → SoundAt m p s v → (i o : Columns) → item_count i ≡ n → width i ≡ m.inputs p → rest_written m p n v i ≡ Some o → IsOfRun v i o
 
-  writes_run : (n : ℕ) → AnswersRun n → (bound : ℕ) (s : S) (v : Move S) → SoundAt m p s v → (i o : Columns) → item_count i ≡ n → width i ≡ m.inputs p → after_writes m p (rest_written m p n) v bound i ≡ Some o → IsOfRun v i o
+  writes_run : (n : ℕ) → AnswersRun n → (bound : ℕ) (s : S) (v : Move S) → SoundAt m p s v → (i o : Columns) → item_count i ≡ n → width i ≡ m.inputs p
+      → after_writes m p (rest_written m p n) v bound i ≡ Some o → IsOfRun v i o
   writes_run n reads bound s (begins t) law i o e w h = reads s (begins t) law i o e w h
   writes_run n reads bound s (takes q t) law i o e w h = reads s (takes q t) law i o e w h
   writes_run n reads zero s (gives q c next) law i o e w h = absurd (cc)
   writes_run n reads (suc bound) s (gives q c next) law i o e w h =
       let g = written_some q c (From n next bound i) o h in
       let there = writes_run n reads bound next (m.move p next) (laws.sound p next) i g.0 e w g.1 in
-      let lt : q < width g.0 = subst (λ k. q < k) (sym there.0) law.0 in
-      (ap width g.2 ∙ width_push q c g.0 ∙ there.0, (suc there.1.0, subst (λ r. At q r (λ x r. (x ≡ c) × RunOf m p there.1.0 (m.move p next) i r)) (sym g.2) (at_push q c g.0 (λ x r. (x ≡ c) × RunOf m p there.1.0 (m.move p next) i r) lt (refl, there.1.1))))
+      let lt : q < width g.0 = subst (λ k. q < k) (sym there.0) law.0 in (
+        ap width g.2 ∙ width_push q c g.0 ∙ there.0,
+        (
+          suc there.1.0,
+          subst (λ r. At q r (λ x r. (x ≡ c) × RunOf m p there.1.0 (m.move p next) i r)) (sym g.2)
+              (at_push q c g.0 (λ x r. (x ≡ c) × RunOf m p there.1.0 (m.move p next) i r) lt (refl, there.1.1)),
+        ),
+      )
 
   read_run : (n q : ℕ) (t : Taking S) (i o : Columns) → AnswersRun n → item_count i ≡ suc n → width i ≡ m.inputs p →
       on_item (each_port i q) (λ x l. on_next (state_after_item t x) (λ s. From n s (m.debt p s) (with_column q l i))) ≡ Some o →
@@ -204,5 +211,7 @@ module _ {P S : Type 0} (m : Machine P S) (laws : MachineLaws m) (p : P) where
       let ins = columns (m.inputs p) i in
       let outs = columns (m.outputs p) o in (
         λ row. run_computes m.start ins outs ((laws.rows p i o).0 row) (width_columns (m.inputs p) i) (width_columns (m.outputs p) o) (m.debt p m.start) (omega arith),
-        λ e. (laws.rows p i o).1 (writes_run (item_count ins) (answers_run (item_count ins)) (m.debt p m.start) m.start (m.move p m.start) (laws.sound p m.start) ins outs refl (width_columns (m.inputs p) i) e).1,
+        λ e. (laws.rows p i o).1
+            (writes_run (item_count ins) (answers_run (item_count ins)) (m.debt p m.start) m.start (m.move p m.start) (laws.sound p m.start) ins outs
+            refl (width_columns (m.inputs p) i) e).1,
       )

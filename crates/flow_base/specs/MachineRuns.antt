@@ -41,13 +41,15 @@ module _ {P S : Type 0} (m : Machine P S) where
     next l (Ok s) h = ih s l h
     next l (Err kind) h = h
 
-    read_as : (t : Taking S) → ((x : Cell) (i o : Columns) → OnNext (state_after_item t x) (λ next. Q next i o) → Q s (push_column q x i) o) → (i : Columns) → At q i (λ x l. OnNext (state_after_item t x) (λ s. Run m p n s l o)) → Q s i o
+    read_as : (t : Taking S) → ((x : Cell) (i o : Columns) → OnNext (state_after_item t x) (λ next. Q next i o) → Q s (push_column q x i) o) →
+        (i : Columns) → At q i (λ x l. OnNext (state_after_item t x) (λ s. Run m p n s l o)) → Q s i o
     read_as t e i h = let g = pushed q i (λ x l. OnNext (state_after_item t x) (λ s. Run m p n s l o)) h in subst (λ l. Q s l o) (sym g.2) (e g.0 g.1 o (next g.1 (state_after_item t g.0) g.3))
 
   -- what holds where nothing is left, and then one step earlier, holds of each run
   module _ (p : P) (Q : S → Columns → Columns → Type 0) (sound : (s : S) → SoundAt m p s (m.move p s)) (none : Q m.start (nothing (m.inputs p)) (nothing (m.outputs p)))
       (earlier : (s : S) (x : Cell) (i o : Columns) → Then (λ next. Q next i o) (m.move p s) x → Q s (reading (m.move p s) x i) (writing (m.move p s) o)) where
-    run_as : (n : ℕ) (s : S) (v : Move S) → SoundAt m p s v → ((x : Cell) (i o : Columns) → Then (λ next. Q next i o) v x → Q s (reading v x i) (writing v o)) → (i o : Columns) → RunOf m p n v i o → Q s i o
+    run_as : (n : ℕ) (s : S) (v : Move S) → SoundAt m p s v →
+        ((x : Cell) (i o : Columns) → Then (λ next. Q next i o) v x → Q s (reading v x i) (writing v o)) → (i o : Columns) → RunOf m p n v i o → Q s i o
     run_as zero s (begins t) h e i o r = subst (λ k. Q k i o) (sym h.0) (subst (λ l. Q m.start l o) (sym r.0) (subst (λ l. Q m.start (nothing (m.inputs p)) l) (sym r.1) none))
     run_as (suc n) s (begins t) h e i o r = read_as p Q s n 0 o (λ s i. run_as n s (m.move p s) (sound s) (earlier s) i o) t e i r
     run_as (suc n) s (takes q t) h e i o r = read_as p Q s n q o (λ s i. run_as n s (m.move p s) (sound s) (earlier s) i o) t e i r

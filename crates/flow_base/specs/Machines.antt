@@ -139,14 +139,16 @@ module _ {P S : Type 0} (m : Machine P S) (p : P) where
   -- Where an item is read from port q: the port is there, its kind is that which is taken, and where the item leads,
   -- what is held is of its kind, and in the range of each dialect where what was held and read is.
   abbrev pub SoundRead : S → ℕ → Taking S → Type 0
-  SoundRead s q t = (q < m.inputs p) × (m.kind_in p q ≡ kind_of_taking t) × (m.of_kind p s → OfKind (m.of_kind p) t) × ((dialect : Dialect) → m.of_kind p s → m.in_range dialect p s → OfRange dialect (m.in_range dialect p) t)
+  SoundRead s q t = (q < m.inputs p) × (m.kind_in p q ≡ kind_of_taking t) × (m.of_kind p s → OfKind (m.of_kind p) t)
+      × ((dialect : Dialect) → m.of_kind p s → m.in_range dialect p s → OfRange dialect (m.in_range dialect p) t)
 
   -- What the table keeps to at a state.
   abbrev pub SoundAt : S → Move S → Type 0
   SoundAt s (begins t) = (s ≡ m.start) × SoundRead s 0 t
   SoundAt s (takes q t) = SoundRead s q t
   SoundAt s (gives q c next) =
-      (q < m.outputs p) × (m.debt p next < m.debt p s) × (m.of_kind p s → (is_of (m.kind_out p q) c ≡ true) × m.of_kind p next) × ((dialect : Dialect) → m.of_kind p s → m.in_range dialect p s → CellInRange dialect c × m.in_range dialect p next)
+      (q < m.outputs p) × (m.debt p next < m.debt p s) × (m.of_kind p s → (is_of (m.kind_out p q) c ≡ true) × m.of_kind p next)
+      × ((dialect : Dialect) → m.of_kind p s → m.in_range dialect p s → CellInRange dialect c × m.in_range dialect p next)
 
 -- What a machine keeps to.
 pub record MachineLaws {P S : Type 0} (m : Machine P S) : Type 0 where

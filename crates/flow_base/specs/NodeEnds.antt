@@ -19,7 +19,8 @@ less n q lt = omega arith
 
 module _ {P S : Type 0} (m : Machine P S) where
   -- the end of input p is due
-  pub closing_keeps : (s : P × S) (p at : ℕ) (b : Bool) → nat_lt p (m.inputs s.0) ≡ b → Keeps (behaviour_of m) (promise_of m) (node_state s (Closing p) at) (cond b (Read p) (Stopped (record { kind = Shape; at = at })))
+  pub closing_keeps : (s : P × S) (p at : ℕ) (b : Bool) → nat_lt p (m.inputs s.0) ≡ b →
+      Keeps (behaviour_of m) (promise_of m) (node_state s (Closing p) at) (cond b (Read p) (Stopped (record { kind = Shape; at = at })))
   closing_keeps s p at false e = record { place = refl; never = λ i o h. let lt = h.0 in grind (arith, nat_tests) }
   closing_keeps s p at true e = record {
     port = lt;
@@ -42,7 +43,9 @@ module _ {P S : Type 0} (m : Machine P S) where
       over true k h = h
       over false k h = refl
 
-      steps : (x : Signal) (i o : Lists Signal) → owes_in m (Closing p) s (push p x i) o ↔ owes_in m (node_after_read m (Closing p) (node_state s (Closing p) at) x).phase (node_after_read m (Closing p) (node_state s (Closing p) at) x).worker i o
+      steps : (x : Signal) (i o : Lists Signal) →
+          owes_in m (Closing p) s (push p x i) o ↔ owes_in m (node_after_read m (Closing p) (node_state s (Closing p) at) x).phase
+          (node_after_read m (Closing p) (node_state s (Closing p) at) x).worker i o
       steps (carry x) i o = (
         λ h.
             let e : carry x ∷ i p ≡ stop ∷ [] = sym (at_port p (carry x ∷ i p) i) ∙ end_due p (m.inputs s.0) (push p (carry x) i) lt h.1 in

@@ -48,6 +48,7 @@ module _ {P S : Type 0} (m : Machine P S) where
   }
 
   -- where the next end that comes is that of input k, the ends from k on are owed, and those of all outputs
-  pub closing_owes : (b : Bool) (s : P × S) (k : ℕ) (i o : Lists Signal) → nat_lt k (m.inputs s.0) ≡ b → (EndsFrom k (m.inputs s.0) i × EndsFrom 0 (m.outputs s.0) o) ↔ owes_in (cond b (Closing k) (Ending 0)) s i o
+  pub closing_owes : (b : Bool) (s : P × S) (k : ℕ) (i o : Lists Signal) → nat_lt k (m.inputs s.0) ≡ b →
+      (EndsFrom k (m.inputs s.0) i × EndsFrom 0 (m.outputs s.0) o) ↔ owes_in (cond b (Closing k) (Ending 0)) s i o
   closing_owes true s k i o e = (λ h. (grind (arith, nat_tests), h.0, h.1), λ h. (h.1, h.2))
   closing_owes false s k i o e = (λ h. (none_due k (m.inputs s.0) i e h.0, h.1), λ h. (due_none k (m.inputs s.0) i e h.0, h.1))

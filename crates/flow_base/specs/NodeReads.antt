@@ -25,11 +25,13 @@ module _ {P S : Type 0} (m : Machine P S) (p : P) (s : S) (at : ℕ) where
   Owes n i o = owes_in m n.phase n.worker i o
 
   -- where an item leads
-  moved_forth : (r : Result S FaultKind) (i o : Lists Signal) (ins outs : Lists Cell) → BodyAfter m p r ins outs → AreClosed (m.inputs p) i ins → AreClosed (m.outputs p) o outs → Owes (went_on m here r) i o
+  moved_forth : (r : Result S FaultKind) (i o : Lists Signal) (ins outs : Lists Cell) → BodyAfter m p r ins outs → AreClosed (m.inputs p) i ins →
+      AreClosed (m.outputs p) o outs → Owes (went_on m here r) i o
   moved_forth (Ok next) i o ins outs body ci co = record { ins = ins; outs = outs; body = body; closed_ins = ci; closed_outs = co }
   moved_forth (Err kind) i o ins outs body ci co = absurd body
 
-  moved_back : (r : Result S FaultKind) (i o : Lists Signal) → Owes (went_on m here r) i o → (ins : Lists Cell) × (outs : Lists Cell) × BodyAfter m p r ins outs × AreClosed (m.inputs p) i ins × AreClosed (m.outputs p) o outs
+  moved_back : (r : Result S FaultKind) (i o : Lists Signal) → Owes (went_on m here r) i o → (ins : Lists Cell) × (outs : Lists Cell)
+      × BodyAfter m p r ins outs × AreClosed (m.inputs p) i ins × AreClosed (m.outputs p) o outs
   moved_back (Ok next) i o h = (h.ins, h.outs, h.body, h.closed_ins, h.closed_outs)
   moved_back (Err kind) i o h = absurd h
 
@@ -113,7 +115,9 @@ module _ {P S : Type 0} (m : Machine P S) (p : P) (s : S) (at : ℕ) where
         of_kind stop held = subst (λ w. m.of_kind w.0 w.1) (sym worker_at_end) held
 
         in_range : (dialect : Dialect) (x : Signal) → m.of_kind p s → m.in_range dialect p s → SignalInRange dialect x → (behaviour_of m).in_range dialect (node_after_read m Working here x)
-        in_range dialect (carry x) held own range = moved_in_range dialect (state_after_read (m.move p s) x) own (subst (λ w. OfNext (state_after_read w x) (m.in_range dialect p)) (sym e) (law.in_range dialect x held own range))
+        in_range dialect (carry x) held own range =
+            moved_in_range dialect (state_after_read (m.move p s) x) own
+            (subst (λ w. OfNext (state_after_read w x) (m.in_range dialect p)) (sym e) (law.in_range dialect x held own range))
         in_range dialect stop held own range = subst (λ w. m.in_range dialect w.0 w.1) (sym worker_at_end) own
 
   -- a read within an instance

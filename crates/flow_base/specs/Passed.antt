@@ -32,7 +32,8 @@ module _ {S : Type 0} (b : Behaviour S) (promise : Promise S) (laws : PromiseLaw
     | inl here ↦
         elim (end_cases b.process m (reads p h) (subst (λ l. HasEnd b.process l) (reads_first p q m h here) has)) [
           | inl last ↦
-              let over : promise.over_in (b.process.read s m) p ≡ true = ap (λ x. promise.over_in (b.process.read s x) p) (last ∙ laws.end) ∙ ap (λ k. promise.over_in (b.process.read s stop) k) here ∙ (keeps b promise laws s (Read q) wants).ends in
+              let over : promise.over_in (b.process.read s m) p ≡ true = ap (λ x. promise.over_in (b.process.read s x) p) (last ∙ laws.end)
+              ∙ ap (λ k. promise.over_in (b.process.read s stop) k) here ∙ (keeps b promise laws s (Read q) wants).ends in
               in_stays h (b.process.read s m) t p does over
           | inr later ↦ passed_in h (b.process.read s m) t p does later
         ]
@@ -66,7 +67,9 @@ module _ {S : Type 0} (b : Behaviour S) (promise : Promise S) (laws : PromiseLaw
       let law = keeps b promise laws s (Write p) wants in
       let kept = law.of_kind held in
       let there : SignalsOfKind (b.kind_out start q) (writes q h) = of_kind_out start h (b.process.wrote s) t (law.stays ∙ same) does kept.1 q in
-      let here : SignalOfKind (b.kind_out start p) m = subst (λ x. SignalOfKind (b.kind_out start p) x) is (subst (λ kind. SignalOfKind kind (b.process.written s)) (kinds_stay start s p same) kept.0) in
+      let here : SignalOfKind (b.kind_out start p) m =
+      subst (λ x. SignalOfKind (b.kind_out start p) x) is
+      (subst (λ kind. SignalOfKind kind (b.process.written s)) (kinds_stay start s p same) kept.0) in
       elim (ports q p) [
         | inl same_port ↦ subst (λ l. SignalsOfKind (b.kind_out start q) l) (sym (writes_first q p m h same_port)) (subst (λ k. SignalOfKind (b.kind_out start k) m) (sym same_port) here, there)
         | inr other ↦ subst (λ l. SignalsOfKind (b.kind_out start q) l) (sym (writes_later q p m h other)) there

@@ -58,7 +58,8 @@ module _ {S : Type 0} (b : Behaviour S) (promise : Promise S) (laws : PromiseLaw
         ((p : ℕ) → p < b.inputs start → Begins (reads p h) (closed (ins p))) →
         ((fault : Fault) → b.process.want s ≡ Faulted fault → ⊥) × ((q : ℕ) → q < b.outputs start → Begins (writes q h) (closed (outs q)))
     beginnings ins outs row h s does begins =
-        let all = follows (closed_at (b.inputs start) ins) (closed_at (b.outputs start) outs) (runs ins outs row) h s does (λ p lt. subst (λ l. Begins (reads p h) l) (sym (closed_inside (b.inputs start) ins p lt)) (begins p lt)) in
+        let all = follows (closed_at (b.inputs start) ins) (closed_at (b.outputs start) outs) (runs ins outs row) h s does
+        (λ p lt. subst (λ l. Begins (reads p h) l) (sym (closed_inside (b.inputs start) ins p lt)) (begins p lt)) in
         (all.1, λ q lt. subst (λ l. Begins (writes q h) l) (closed_inside (b.outputs start) outs q lt) (all.0 q))
 
     -- the run over the first lists follows that over the others, which read the same

@@ -48,10 +48,12 @@ module _ {S : Type 0} (b : Behaviour S) (promise : Promise S) (laws : PromiseLaw
   complete_owes (Writes q m ∷ h) s t (wants, is, does) e =
       let more = push q m (written_in h) in
       let there = complete_owes h (b.process.wrote s) t does e in
-      let left : promise.owes (b.process.wrote s) (read_in h) (with_port q (writes q h) more) = subst (λ l. promise.owes (b.process.wrote s) (read_in h) l) (sym (take_away q m (written_in h))) there in
+      let left : promise.owes (b.process.wrote s) (read_in h) (with_port q (writes q h) more) =
+      subst (λ l. promise.owes (b.process.wrote s) (read_in h) l) (sym (take_away q m (written_in h))) there in
       let whole : promise.owes s (read_in h) more =
       ((keeps s (Write q) wants).steps (read_in h) more).1
-      (First-from (more q) m (writes q h) (λ x r. (x ≡ b.process.written s) × promise.owes (b.process.wrote s) (read_in h) (with_port q r more)) (at_port q (m ∷ writes q h) (written_in h)) (sym is, left)) in
+      (First-from (more q) m (writes q h) (λ x r. (x ≡ b.process.written s) × promise.owes (b.process.wrote s) (read_in h) (with_port q r more))
+      (at_port q (m ∷ writes q h) (written_in h)) (sym is, left)) in
       subst (λ l. promise.owes s (read_in h) l) (sym (writes_push q m h)) whole
 
   module _ (start : S) where
@@ -134,7 +136,9 @@ module _ {S : Type 0} (b : Behaviour S) (promise : Promise S) (laws : PromiseLaw
 
     run_in : (fuel : ℕ) (s : S) (i o : Lists Signal) → b.opening s ≡ b.opening start → promise.owes s i o → Beyond o → weight i o < fuel → Run s i o
     run_in zero s i o same owes beyond lt = absurd (omega arith)
-    run_in (suc fuel) s i o same owes beyond lt = run_step s (b.process.want s) i o refl same owes beyond (λ t i' o' same_t owes_t beyond_t less. run_in fuel t i' o' same_t owes_t beyond_t (omega arith))
+    run_in (suc fuel) s i o same owes beyond lt =
+        run_step s (b.process.want s) i o refl same owes beyond
+        (λ t i' o' same_t owes_t beyond_t less. run_in fuel t i' o' same_t owes_t beyond_t (omega arith))
 
     -- what is owed, it reads and writes in a run to its end
     pub run_owed : (i o : Lists Signal) → promise.owes start i o → ((q : ℕ) → b.outputs start ≤ q → o q ≡ []) → RunsToEnd b.process start (b.inputs start) i o

@@ -74,7 +74,8 @@ module _ {Tag : Type 0} {StateOf : Tag → Type 0} (some : Tag) (each : (t : Tag
         all_out = λ h u p does ended lt. let d = sum_does t h start u does in end_sum (writes p h) (kept.lawful.all_out h d.0 p d.2 (wants_there u d.0 Ended d.1 ended) lt);
       }
 
-      runs : (ins outs : Lists Cell) → (each t).row start ins outs → RunsToEnd sum_of.process (t, start) ((each t).inputs start) (closed_at ((each t).inputs start) ins) (closed_at ((each t).outputs start) outs)
+      runs : (ins outs : Lists Cell) → (each t).row start ins outs →
+          RunsToEnd sum_of.process (t, start) ((each t).inputs start) (closed_at ((each t).inputs start) ins) (closed_at ((each t).outputs start) outs)
       runs ins outs row =
           let r = kept.runs ins outs row in
           record {

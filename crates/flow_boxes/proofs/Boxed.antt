@@ -11,7 +11,8 @@ use Rattle.flow_boxes.specs.Received.{received_of}
 use Rattle.flow_boxes.specs.Contents.{Contents, contents_of}
 use Rattle.flow_boxes.specs.Rounds.{IsLinked, IsCarried, CarriesAt, CarriesFrom, CarriesTo}
 use Rattle.flow_boxes.proofs.Carried.{is-carried, stays-linked}
-use Rattle.flow_boxes.proofs.Changed.{everywhere, writer_boxes, writer_others, had_sent, has_sent, had_leaving, has_leaving, has_room, reader_boxes, reader_others, all_received, had_coming, has_coming}
+use Rattle.flow_boxes.proofs.Changed.{everywhere, writer_boxes, writer_others, had_sent, has_sent, had_leaving, has_leaving, has_room, reader_boxes}
+use Rattle.flow_boxes.proofs.Changed.{reader_others, all_received, had_coming, has_coming}
 
 pub carries-trans : (a b c : Contents) (e : ℕ) → CarriesAt e a b → CarriesAt e b c → CarriesAt e a c
 carries-trans a b c e p q = record {
@@ -87,7 +88,9 @@ module _ (cw cr : ℕ) (os : List (Option Outbox)) (is : List (Option Inbox)) (o
       signals-length (content_of o.store),
     )
 
-    module _ (sent : n.sent.items ≡ o.sent.items) (received : received_of m ≡ received_of i) (moved : content_of m.store ≡ content_of i.store ++ content_of o.store) (emptied : content_of n.store ≡ []) (room : n.room + length (content_of m.store) ≡ cw) where
+    module _ (sent : n.sent.items ≡ o.sent.items) (received : received_of m ≡ received_of i)
+        (moved : content_of m.store ≡ content_of i.store ++ content_of o.store) (emptied : content_of n.store ≡ [])
+        (room : n.room + length (content_of m.store) ≡ cw) where
       sent_here : w'.ends.sent e ≡ w.ends.sent e
       sent_here = (writer-carries sent).carries.traffic.sent e
 

@@ -1,5 +1,6 @@
 -- One box of a share, and the others.
-use Rattle.std.proofs.Common.{◌≡◌, ◌≢◌, ℕ, zero, suc, ◌+◌, ◌<◌, ◌≤◌, true, false, cond, List, [], ◌∷◌, ◌++◌, length, refl, ap, subst, sym, ◌∙◌, get_or, set, arith, length-set, length-append, append-nil, append_assoc, ◌⊎◌, inl, inr}
+use Rattle.std.proofs.Common.{◌≡◌, ◌≢◌, ℕ, zero, suc, ◌+◌, ◌<◌, ◌≤◌, true, false, cond, List, [], ◌∷◌, ◌++◌, length, refl, ap, subst, sym, ◌∙◌}
+use Rattle.std.proofs.Common.{get_or, set, arith, length-set, length-append, append-nil, append_assoc, ◌⊎◌, inl, inr}
 use Rattle.std.proofs.lemmas.Bool.{cases_eq, cases_Bool}
 use Rattle.std.specs.Prelude.{Option, Some}
 use mathlib.Core.List.{IsPrefix}
@@ -272,7 +273,9 @@ module _ (capacity : ℕ) (os : List (Option Outbox)) (is : List (Option Inbox))
     take-keeps = record {
       boxes = reader_boxes;
       arrived = everywhere (λ k. from.ends.received k ++ from.ends.coming k ≡ till.ends.received k ++ till.ends.coming k) e
-          (ap (λ (x : List Signal). from.ends.received e ++ x) coming_less ∙ sym (append_assoc (from.ends.received e) (signals ms) (till.ends.coming e)) ∙ ap (λ (x : List Signal). x ++ till.ends.coming e) (sym received_more))
+          (ap (λ (x : List Signal). from.ends.received e ++ x) coming_less
+          ∙ sym (append_assoc (from.ends.received e) (signals ms) (till.ends.coming e))
+          ∙ ap (λ (x : List Signal). x ++ till.ends.coming e) (sym received_more))
           (λ k ne. ap (λ (x : List Signal). x ++ from.ends.coming k) (sym (reader_others.received k ne)) ∙ ap (λ (x : List Signal). till.ends.received k ++ x) (sym (reader_others.coming k ne)));
       received = everywhere (λ k. length (from.ends.received k) ≤ length (till.ends.received k)) e
           (let longer = ap length received_more ∙ length-append (from.ends.received e) (signals ms) in omega (arith, longer))

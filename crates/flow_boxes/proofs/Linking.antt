@@ -34,7 +34,9 @@ module _ (w w' r : Contents) (e : ℕ) (linked : IsLinked w r e) where
 module _ (w r r' : Contents) (e : ℕ) (linked : IsLinked w r e) where
   pub reader-linked : KeepsRound r r' → IsLinked w r' e
   reader-linked keeps =
-      let same : length (r.ends.received e) + held r.ends e ≡ length (r'.ends.received e) + held r'.ends e = sym (length-append (r.ends.received e) (r.ends.coming e)) ∙ ap length (keeps.arrived e) ∙ length-append (r'.ends.received e) (r'.ends.coming e) in
+      let same : length (r.ends.received e) + held r.ends e ≡ length (r'.ends.received e) + held r'.ends e =
+      sym (length-append (r.ends.received e) (r.ends.coming e)) ∙ ap length (keeps.arrived e)
+      ∙ length-append (r'.ends.received e) (r'.ends.coming e) in
       record {
         writes = linked.writes;
         reads = keeps.boxes.ends.reads e ∙ linked.reads;
@@ -57,7 +59,8 @@ reader-elsewhere w r r' e k linked ne same = record {
   writes = linked.writes;
   reads = same.reads k ne ∙ linked.reads;
   capacity = same.capacity ∙ linked.capacity;
-  in_order = ap (λ (x : List Signal). (x ++ r'.ends.coming k) ++ w.leaving k) (same.received k ne) ∙ ap (λ (x : List Signal). (r.ends.received k ++ x) ++ w.leaving k) (same.coming k ne) ∙ linked.in_order;
+  in_order = ap (λ (x : List Signal). (x ++ r'.ends.coming k) ++ w.leaving k) (same.received k ne)
+      ∙ ap (λ (x : List Signal). (r.ends.received k ++ x) ++ w.leaving k) (same.coming k ne) ∙ linked.in_order;
   bound = omega (arith, linked.bound, ap length (same.coming k ne));
 }
 

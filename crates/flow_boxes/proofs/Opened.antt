@@ -13,7 +13,8 @@ use Rattle.flow_boxes.specs.Contents.{contents_of, sent_in, leaving_in, room_in,
 use Rattle.flow_boxes.specs.Rounds.{OpensWriter, OpensReader}
 
 module _ (capacity : ℕ) (os : List (Option Outbox)) (is : List (Option Inbox)) (e : ℕ) where
-  pub opens-writer : (n : Outbox) → e < length os → n.sent.items ≡ [] → content_of n.store ≡ [] → n.room ≡ capacity → OpensWriter e (contents_of capacity os is) (contents_of capacity (set os e (Some n)) is)
+  pub opens-writer : (n : Outbox) → e < length os → n.sent.items ≡ [] → content_of n.store ≡ [] → n.room ≡ capacity →
+      OpensWriter e (contents_of capacity os is) (contents_of capacity (set os e (Some n)) is)
   opens-writer n h sent held room = record {
     fresh = record {
       writes = at_line-same writes_in os e false (Some n) h;

@@ -81,7 +81,8 @@ module _ {X : Type 0} {t : Ghosts X} (laws : BehaviourLaws t.behaviour) (edges :
       ext_get_or t.behaviour.sample (map t.behaviour.opening states) (map t.behaviour.opening (states_in nodes))
       (length-map states t.behaviour.opening ∙ are_apart.count ∙ sym (length-map nodes placed_state) ∙ sym (length-map (states_in nodes) t.behaviour.opening)) alike
     where
-      alike : (k : ℕ) → k < length (map t.behaviour.opening states) → get_or (map t.behaviour.opening states) k t.behaviour.sample ≡ get_or (map t.behaviour.opening (states_in nodes)) k t.behaviour.sample
+      alike : (k : ℕ) → k < length (map t.behaviour.opening states) → get_or (map t.behaviour.opening states) k t.behaviour.sample
+          ≡ get_or (map t.behaviour.opening (states_in nodes)) k t.behaviour.sample
       alike k l =
           let low : k < length nodes = omega (arith, l, length-map states t.behaviour.opening, are_apart.count) in
           let d = any_of nodes k low in
@@ -102,12 +103,14 @@ module _ {X : Type 0} {t : Ghosts X} (laws : BehaviourLaws t.behaviour) (edges :
   built_apart = built_openings t.behaviour laws (states_in nodes) states openings edges fit.built
 
 -- the ends of a share that was found
-module _ {X : Type 0} {t : Ghosts X} {u : EndsGhosts Rings} (shares : List (Share X Rings t u)) (s : ℕ) (l : s < length shares) (own : Share X Rings t u) (found : (d : Share X Rings t u) → own ≡ get_or shares s d) where
+module _ {X : Type 0} {t : Ghosts X} {u : EndsGhosts Rings} (shares : List (Share X Rings t u)) (s : ℕ) (l : s < length shares)
+    (own : Share X Rings t u) (found : (d : Share X Rings t u) → own ≡ get_or shares s d) where
   pub ends_found : (b : Rings) → own.ends ≡ get_or (ends_in shares) s b
   ends_found b = ap (λ (share : Share X Rings t u). share.ends) (found own) ∙ sym (ends_are shares s own l b)
 
 -- shares of one graph that came to rest
-module _ {X : Type 0} {t : Ghosts X} {u : EndsGhosts Rings} (laws : BehaviourLaws t.behaviour) (sees : u.view ≡ ends_of) (network : SharedNetwork t) (shares : List (Share X Rings t u)) (graph : AreOfOneGraph network shares)
+module _ {X : Type 0} {t : Ghosts X} {u : EndsGhosts Rings} (laws : BehaviourLaws t.behaviour) (sees : u.view ≡ ends_of) (network : SharedNetwork t)
+    (shares : List (Share X Rings t u)) (graph : AreOfOneGraph network shares)
     (places : List ℕ) (known : AreThePlaces network shares places) where
   abbrev dealt : List (List (Placed X t))
   dealt = nodes_in shares

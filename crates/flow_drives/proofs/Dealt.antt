@@ -9,7 +9,8 @@ use Rattle.flow_drives.specs.declared.config.Config.{Config}
 use Rattle.flow_drives.specs.Configs.{IsLawful}
 use Rattle.flow_drives.specs.Dealings.{IsDealtUnder, AreDealtOut}
 
-module _ {X Y : Type 0} {t : Ghosts X} {u : EndsGhosts Y} (joins : Y → Y → ℕ → Type 0) (places : Y → ℕ → ℕ) (graph : Graph X t) (config : Config) (dealt : Dealt X Y t u) (is : IsDealtUnder joins places graph config dealt) where
+module _ {X Y : Type 0} {t : Ghosts X} {u : EndsGhosts Y} (joins : Y → Y → ℕ → Type 0) (places : Y → ℕ → ℕ) (graph : Graph X t) (config : Config)
+    (dealt : Dealt X Y t u) (is : IsDealtUnder joins places graph config dealt) where
   pub are_dealt_out : IsLawful config → AreDealtOut joins places graph config dealt.shares.items
   are_dealt_out lawful = record {
     lawful = lawful;

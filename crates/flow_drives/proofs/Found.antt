@@ -26,7 +26,8 @@ use Rattle.flow_drives.proofs.Noted.{nodes_found}
 no_more : (a b : ℕ) → a < b → a ≤ b
 no_more a b less = omega arith
 
-module _ {X : Type 0} {t : Ghosts X} {u : EndsGhosts Rings} {share places : List ℕ} {edges : List Edge} {shares : List (Share X Rings t u)} {capacity : ℕ} (rest : RestApart share places edges shares capacity) where
+module _ {X : Type 0} {t : Ghosts X} {u : EndsGhosts Rings} {share places : List ℕ} {edges : List Edge} {shares : List (Share X Rings t u)}
+    {capacity : ℕ} (rest : RestApart share places edges shares capacity) where
   -- node k
   module _ (k : ℕ) (l : k < length places) where
     pub share_there : share_of share k < length shares
@@ -57,7 +58,8 @@ module _ {X : Type 0} {t : Ghosts X} {u : EndsGhosts Rings} {share places : List
   -- edge e
   module _ (e : ℕ) (l : e < length edges) (edge : Edge) (is : edge ≡ edge_at edges e) where
     there : (share_of share edge.writer < length (ends_in shares)) × (share_of share edge.reader < length (ends_in shares))
-        × ((d : Rings) → (ends_of (get_or (ends_in shares) (share_of share edge.writer) d)).writes e ≡ true) × ((d : Rings) → (ends_of (get_or (ends_in shares) (share_of share edge.reader) d)).reads e ≡ true)
+        × ((d : Rings) → (ends_of (get_or (ends_in shares) (share_of share edge.writer) d)).writes e ≡ true)
+        × ((d : Rings) → (ends_of (get_or (ends_in shares) (share_of share edge.reader) d)).reads e ≡ true)
     there = ends_there ends_of RingsJoin rings_join_ends share edges (ends_in shares) capacity rest.joined e l edge is
 
     pub writer_there : share_of share edge.writer < length shares

@@ -51,7 +51,8 @@ module _ (share : List ℕ) (edges : List Edge) (boxes : List Boxes) (most : ℕ
   there : (s e : ℕ) → ((boxes_at (boxes_seen boxes) s).ends.writes e ≡ true) ⊎ ((boxes_at (boxes_seen boxes) s).ends.reads e ≡ true) → s < length boxes
   there s e has = at has (cases_lt s (length (boxes_seen boxes)))
     where
-      at : ((boxes_at (boxes_seen boxes) s).ends.writes e ≡ true) ⊎ ((boxes_at (boxes_seen boxes) s).ends.reads e ≡ true) → (s < length (boxes_seen boxes)) ⊎ (length (boxes_seen boxes) ≤ s) → s < length boxes
+      at : ((boxes_at (boxes_seen boxes) s).ends.writes e ≡ true) ⊎ ((boxes_at (boxes_seen boxes) s).ends.reads e ≡ true) →
+          (s < length (boxes_seen boxes)) ⊎ (length (boxes_seen boxes) ≤ s) → s < length boxes
       at has (inl l) = omega (arith, l, length-map boxes contents)
       at (inl writes) (inr above) = absurd (cc (ap (λ (b : Contents). b.ends.writes e) (get_or_past (boxes_seen boxes) s no_contents above), writes))
       at (inr reads) (inr above) = absurd (cc (ap (λ (b : Contents). b.ends.reads e) (get_or_past (boxes_seen boxes) s no_contents above), reads))
@@ -85,7 +86,8 @@ BoxesThere edges (Whole table) = Unit {0}
 BoxesThere edges (Shared boxes) = AreJoined view_of boxes.share.items edges boxes.ends.items BoxesJoin boxes.capacity
 
 -- what holds of the ends in a network holds of the edges that a graph gathered there has
-module _ {X : Type 0} {t : Ghosts X} (network : SharedNetwork t) (share : List ℕ) (edges : List Edge) (capacity : ℕ) (same_share : share ≡ network.share) (same_edges : edges ≡ network.edges) (same_capacity : capacity ≡ network.capacity) where
+module _ {X : Type 0} {t : Ghosts X} (network : SharedNetwork t) (share : List ℕ) (edges : List Edge) (capacity : ℕ)
+    (same_share : share ≡ network.share) (same_edges : edges ≡ network.edges) (same_capacity : capacity ≡ network.capacity) where
   pub of_lines : (Q : List ℕ → List Edge → ℕ → Type 0) → Q network.share network.edges network.capacity → Q share edges capacity
   of_lines Q q = subst (λ s. Q s edges capacity) (sym same_share) (subst (λ e. Q network.share e capacity) (sym same_edges) (subst (λ n. Q network.share network.edges n) (sym same_capacity) q))
 

@@ -31,7 +31,8 @@ module _ {Y : Type 0} (view : Y → View) (share : List ℕ) (edges : List Edge)
   ends_fit (inr above) = omega (arith, ap length (none_sent share edges (seen_by view ends) e above))
 
 -- no edge holds more than the capacity
-pub all_ends_fit : (edges : List Edge) (all_ends : AllEnds) → AreThere edges all_ends → (e : ℕ) → length ((traffic_in edges all_ends).sent e) ≤ length ((traffic_in edges all_ends).received e) + capacity_in all_ends
+pub all_ends_fit : (edges : List Edge) (all_ends : AllEnds) → AreThere edges all_ends → (e : ℕ) →
+    length ((traffic_in edges all_ends).sent e) ≤ length ((traffic_in edges all_ends).received e) + capacity_in all_ends
 all_ends_fit edges (Whole table) there e =
     omega (arith, table_holds table e, ap length ((whole_table table).coming e), waits-length (capacity_of table) (ends_of table) e (whole_table table))
 all_ends_fit edges (Shared boxes) there e =
@@ -69,7 +70,9 @@ module _ {Y : Type 0} (view : Y → View) (joins : Y → Y → ℕ → Type 0) (
       → (share_of share edge.writer < length ends) × (share_of share edge.reader < length ends)
       × ((d : Y) → (view (get_or ends (share_of share edge.writer) d)).writes e ≡ true) × ((d : Y) → (view (get_or ends (share_of share edge.reader) d)).reads e ≡ true)
   ends_there edge is =
-      subst (λ (k : Edge). (share_of share k.writer < length ends) × (share_of share k.reader < length ends) × ((d : Y) → (view (get_or ends (share_of share k.writer) d)).writes e ≡ true) × ((d : Y) → (view (get_or ends (share_of share k.reader) d)).reads e ≡ true))
+      subst (λ (k : Edge). (share_of share k.writer < length ends) × (share_of share k.reader < length ends)
+      × ((d : Y) → (view (get_or ends (share_of share k.writer) d)).writes e ≡ true)
+      × ((d : Y) → (view (get_or ends (share_of share k.reader) d)).reads e ≡ true))
       (sym is) (writer_below, reader_below, writes, reads)
 
   -- what is counted at its ends is what was sent and received

@@ -16,7 +16,8 @@ use Rattle.flow_rounds.proofs.ShareLists.{count_dealt, nodes_are}
 use Rattle.flow_drives.specs.Apart.{AreItsPlaces}
 
 -- the nodes of a share that was found
-pub nodes_found : {X Y : Type 0} {t : Ghosts X} {u : EndsGhosts Y} (shares : List (Share X Y t u)) (s : ℕ) (share : Share X Y t u) (nodes : List (Placed X t)) → s < length shares → share ≡ get_or shares s share → nodes ≡ share.nodes.items
+pub nodes_found : {X Y : Type 0} {t : Ghosts X} {u : EndsGhosts Y} (shares : List (Share X Y t u)) (s : ℕ) (share : Share X Y t u)
+    (nodes : List (Placed X t)) → s < length shares → share ≡ get_or shares s share → nodes ≡ share.nodes.items
     → nodes ≡ nodes_at (nodes_in shares) s
 nodes_found {X} {Y} {t} {u} shares s share nodes l found are = are ∙ ap (λ (one : Share X Y t u). one.nodes.items) found ∙ sym (nodes_are shares s share l)
 

@@ -27,10 +27,12 @@ module _ {A : Type 0} where
   made_lawful x Lawful lawful = (λ is _. made_is_no_refusal x BadConfig is, λ no. absurd (no lawful))
 
 -- a call is refused for its configuration where one in it is, whose error is passed on
-pub passed_on : {A B : Type 0} (e : DriveError) (r : Result B DriveError) (Lawful : Type 0) → IsErrAnd r (λ f. f ≡ e) → (((let origin : Result A DriveError = Err e in origin) ≡ Err BadConfig) ↔ (Lawful → ⊥)) → (r ≡ Err BadConfig) ↔ (Lawful → ⊥)
+pub passed_on : {A B : Type 0} (e : DriveError) (r : Result B DriveError) (Lawful : Type 0) → IsErrAnd r (λ f. f ≡ e) →
+    (((let origin : Result A DriveError = Err e in origin) ≡ Err BadConfig) ↔ (Lawful → ⊥)) → (r ≡ Err BadConfig) ↔ (Lawful → ⊥)
 passed_on {A} {B} e (Ok x) Lawful h was = absurd h
 passed_on {A} {B} e (Err f) Lawful h was = (λ bad. was.0 (let kind : e ≡ BadConfig = cc in cc), λ no. let is = was.1 no in cc)
 
 -- and is not where that one is not
-pub passed_made : {A B : Type 0} (x : A) (made : B) (Lawful : Type 0) → (((let origin : Result A DriveError = Ok x in origin) ≡ Err BadConfig) ↔ (Lawful → ⊥)) → (Ok made ≡ Err BadConfig) ↔ (Lawful → ⊥)
+pub passed_made : {A B : Type 0} (x : A) (made : B) (Lawful : Type 0) →
+    (((let origin : Result A DriveError = Ok x in origin) ≡ Err BadConfig) ↔ (Lawful → ⊥)) → (Ok made ≡ Err BadConfig) ↔ (Lawful → ⊥)
 passed_made {A} {B} x made Lawful was = (λ bad. cc, λ no. let is = was.1 no in cc)

@@ -18,7 +18,8 @@ use Rattle.flow_networks.specs.Shapes.{IsSameNetwork}
 use Rattle.flow_drives.specs.Drives.{EndsMaximalRun, IsSoundAt, RestsAt, WantsToWrite, IsFirstToWrite}
 
 -- where a maximal run ends is sound, and no node can step
-module _ {S : Type 0} (b : Behaviour S) (capacity : ℕ) (states : List S) (edges : List Edge) (states' : List S) (edges' : List Edge) (view : View) (same : IsSameNetwork b states edges states' edges') (run : EndsMaximalRun b capacity states edges states' view) where
+module _ {S : Type 0} (b : Behaviour S) (capacity : ℕ) (states : List S) (edges : List Edge) (states' : List S) (edges' : List Edge) (view : View)
+    (same : IsSameNetwork b states edges states' edges') (run : EndsMaximalRun b capacity states edges states' view) where
   pub run_sound : IsWired (network_of b states edges) → IsSoundAt b states' edges' view
   run_sound wired =
       let net : Network S = network_of b states edges in
@@ -34,7 +35,8 @@ is_ended (Read p) = inr (λ h. cc)
 is_ended (Write q) = inr (λ h. cc)
 is_ended (Faulted fault) = inr (λ h. cc)
 
-module _ {S : Type 0} (b : Behaviour S) (states : List S) (edges : List Edge) (capacity : ℕ) (view : View) (rest : RestsAt b states edges capacity view) (fine : NoneFaulted b.process (network_of b states edges) (configuration_of b states view)) where
+module _ {S : Type 0} (b : Behaviour S) (states : List S) (edges : List Edge) (capacity : ℕ) (view : View)
+    (rest : RestsAt b states edges capacity view) (fine : NoneFaulted b.process (network_of b states edges) (configuration_of b states view)) where
   abbrev net : Network S
   net = network_of b states edges
 

@@ -16,7 +16,8 @@ with_last texts (Some y) = ap (λ o. unwrap_or o []) (last_of None texts y)
 with_last texts None = ap (λ l. unwrap_or (last_or None l) []) (append-nil texts)
 
 -- the text of the next state, or else that of those before it
-pub next_text : {S : Type 0} (text_in : S → Option (List ℕ)) (states : List S) (k : ℕ) (s : S) → k < length states → last_text text_in (take (k + 1) states) ≡ unwrap_or (text_in (get_or states k s)) (last_text text_in (take k states))
+pub next_text : {S : Type 0} (text_in : S → Option (List ℕ)) (states : List S) (k : ℕ) (s : S) → k < length states →
+    last_text text_in (take (k + 1) states) ≡ unwrap_or (text_in (get_or states k s)) (last_text text_in (take k states))
 next_text text_in states k s inside =
     let longer : take (k + 1) states ≡ take k states ++ get_or states k s ∷ [] = ap (λ n. take n states) (add-one k) ∙ take-suc states k s inside in
     ap (λ l. last_text text_in l) longer

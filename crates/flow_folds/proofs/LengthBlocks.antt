@@ -64,16 +64,20 @@ module _ (d : Dialect) where
       single_then m d (flag_signals (true ∷ [])) [] [] [] [] (int_signals (pos n ∷ [])) read wrote
 
   -- flags in the range are steps
-  pub lengths_steps : (n more : ℕ) (flags : List Bool) (lengths : List ℤ) → n + length flags ≤ greatest_integer d → LengthsAlong n flags lengths more → Lengths n more flags lengths (length flags + length lengths)
+  pub lengths_steps : (n more : ℕ) (flags : List Bool) (lengths : List ℤ) → n + length flags ≤ greatest_integer d → LengthsAlong n flags lengths more
+      → Lengths n more flags lengths (length flags + length lengths)
   lengths_steps n more [] [] within along = subst (λ k. Lengths n k [] [] 0) along (single_none length_machine d (Counting n))
   lengths_steps n more [] (l ∷ lengths) within along = absurd along
   lengths_steps n more (false ∷ flags) lengths within along =
       let steps : 1 + (length flags + length lengths) ≡ length (false ∷ flags) + length lengths = omega arith in
       let rest = lengths_steps (suc n) more flags lengths (omega (arith, within)) along in
-      subst (Lengths n more (false ∷ flags) lengths) steps (single_then length_machine d (flag_signals (false ∷ [])) [] [] (flag_signals flags) [] (int_signals lengths) (element_step n (omega (arith, within))) rest)
+      subst (Lengths n more (false ∷ flags) lengths) steps
+      (single_then length_machine d (flag_signals (false ∷ [])) [] [] (flag_signals flags) [] (int_signals lengths)
+      (element_step n (omega (arith, within))) rest)
   lengths_steps n more (true ∷ flags) (l ∷ lengths) within along =
       let steps : 2 + (length flags + length lengths) ≡ length (true ∷ flags) + length (l ∷ lengths) = omega arith in
       let rest = lengths_steps 0 more flags lengths (omega (arith, within)) along.1 in
       let ended = subst (λ k. Lengths n 0 (true ∷ []) (k ∷ []) 2) along.0 (end_steps n (omega (arith, within))) in
-      subst (Lengths n more (true ∷ flags) (l ∷ lengths)) steps (single_then length_machine d (flag_signals (true ∷ [])) [] (int_signals (l ∷ [])) (flag_signals flags) [] (int_signals lengths) ended rest)
+      subst (Lengths n more (true ∷ flags) (l ∷ lengths)) steps
+      (single_then length_machine d (flag_signals (true ∷ [])) [] (int_signals (l ∷ [])) (flag_signals flags) [] (int_signals lengths) ended rest)
   lengths_steps n more (true ∷ flags) [] within along = absurd along

@@ -33,7 +33,9 @@ use Rattle.flow_folds.specs.laws.Reduce.{element_is}
 use Rattle.flow_folds.proofs.SegmentBlocks.{elements_block}
 
 -- one element more
-pub ints_more : (dialect : Dialect) (reduction : Reduction) (so_far : Option Scalar) (xs : List ℤ) (x : ℤ) → reduction_of_ints dialect reduction so_far (xs ++ x ∷ []) ≡ and_then (reduction_of_ints dialect reduction so_far xs) (λ more. reduced_more dialect reduction more (Int x))
+pub ints_more : (dialect : Dialect) (reduction : Reduction) (so_far : Option Scalar) (xs : List ℤ) (x : ℤ) →
+    reduction_of_ints dialect reduction so_far (xs ++ x ∷ [])
+    ≡ and_then (reduction_of_ints dialect reduction so_far xs) (λ more. reduced_more dialect reduction more (Int x))
 ints_more dialect reduction so_far [] x = go (reduced_more dialect reduction so_far (Int x))
   where
     go : (r : Result (Option Scalar) FaultKind) → and_then r (λ more. Ok more) ≡ r
@@ -41,12 +43,17 @@ ints_more dialect reduction so_far [] x = go (reduced_more dialect reduction so_
     go (Err kind) = refl
 ints_more dialect reduction so_far (y ∷ xs) x = go (reduced_more dialect reduction so_far (Int y)) (λ more. ints_more dialect reduction more xs x)
   where
-    go : (r : Result (Option Scalar) FaultKind) → ((more : Option Scalar) → reduction_of_ints dialect reduction more (xs ++ x ∷ []) ≡ and_then (reduction_of_ints dialect reduction more xs) (λ held. reduced_more dialect reduction held (Int x))) →
-        and_then r (λ more. reduction_of_ints dialect reduction more (xs ++ x ∷ [])) ≡ and_then (and_then r (λ more. reduction_of_ints dialect reduction more xs)) (λ more. reduced_more dialect reduction more (Int x))
+    go : (r : Result (Option Scalar) FaultKind) →
+        ((more : Option Scalar) → reduction_of_ints dialect reduction more (xs ++ x ∷ [])
+        ≡ and_then (reduction_of_ints dialect reduction more xs) (λ held. reduced_more dialect reduction held (Int x))) →
+        and_then r (λ more. reduction_of_ints dialect reduction more (xs ++ x ∷ []))
+        ≡ and_then (and_then r (λ more. reduction_of_ints dialect reduction more xs)) (λ more. reduced_more dialect reduction more (Int x))
     go (Ok more) rest = rest more
     go (Err kind) rest = refl
 
-pub one_int_more : (dialect : Dialect) (reduction : Reduction) (so_far held more : Option Scalar) (xs : List ℤ) (x : ℤ) → reduction_of_ints dialect reduction so_far xs ≡ Ok held → reduced_more dialect reduction held (Int x) ≡ Ok more → reduction_of_ints dialect reduction so_far (xs ++ x ∷ []) ≡ Ok more
+pub one_int_more : (dialect : Dialect) (reduction : Reduction) (so_far held more : Option Scalar) (xs : List ℤ) (x : ℤ) →
+    reduction_of_ints dialect reduction so_far xs ≡ Ok held → reduced_more dialect reduction held (Int x) ≡ Ok more →
+    reduction_of_ints dialect reduction so_far (xs ++ x ∷ []) ≡ Ok more
 one_int_more dialect reduction so_far held more xs x before is = ints_more dialect reduction so_far xs x ∙ ap (λ r. and_then r (λ m. reduced_more dialect reduction m (Int x))) before ∙ is
 
 -- the first flags are those of elements
@@ -81,7 +88,8 @@ awaits_wants p (Flag held) so_far awaits = refl
 awaits_wants p (Element held) so_far awaits = absurd awaits
 awaits_wants p (Value value) so_far awaits = absurd awaits
 
-awaits_takes : (p : Dialect × Reduction) (s : Stage) (so_far : Option Scalar) → AwaitsFlag p.1 s so_far → (y : Cell) → state_after_read (reduce_machine.move p s) y ≡ state_after_item (at_flag so_far) y
+awaits_takes : (p : Dialect × Reduction) (s : Stage) (so_far : Option Scalar) → AwaitsFlag p.1 s so_far → (y : Cell) →
+    state_after_read (reduce_machine.move p s) y ≡ state_after_item (at_flag so_far) y
 awaits_takes p Start so_far awaits y = ap (λ held. state_after_item (at_flag held) y) awaits
 awaits_takes p (Flag held) so_far awaits y = ap (λ held. state_after_item (at_flag held) y) awaits
 awaits_takes p (Element held) so_far awaits y = absurd awaits

@@ -71,7 +71,8 @@ end_more d s t (false ∷ flags) [] sums along comes = absurd along
 end_more d s t (false ∷ flags) (x ∷ xs) [] along comes = absurd along
 
 -- and one that stands for an element
-pub element_more : (d : Dialect) (s t : Stage) (flags : List Bool) (xs sums : List ℤ) (x sum : ℤ) → SumsAlong d s flags xs sums t → IsNextSum d t sum → SumsAlong d s (flags ++ false ∷ []) (xs ++ x ∷ []) (sums ++ sum ∷ []) (Flag sum x)
+pub element_more : (d : Dialect) (s t : Stage) (flags : List Bool) (xs sums : List ℤ) (x sum : ℤ) → SumsAlong d s flags xs sums t → IsNextSum d t sum
+    → SumsAlong d s (flags ++ false ∷ []) (xs ++ x ∷ []) (sums ++ sum ∷ []) (Flag sum x)
 element_more d s t [] [] [] x sum along is = (subst (λ k. IsNextSum d k sum) (sym along) is, refl)
 element_more d s t [] [] (v ∷ sums) x sum along is = absurd along
 element_more d s t [] (y ∷ xs) sums x sum along is = absurd along
@@ -90,13 +91,15 @@ module _ (d : Dialect) where
   end_step s comes = single_first scan_add_machine d s Start T (awaits_want d s comes) (awaits_end d s comes)
 
   -- a flag with its element, after these
-  after_steps : (s : Stage) (before last x sum : ℤ) → state_after_read (scan_add_move d s) F ≡ Ok (Element before last) → ranged d (before +ℤ last) ≡ Ok sum → Sums s (Flag sum x) (false ∷ []) (x ∷ []) (sum ∷ []) 3
+  after_steps : (s : Stage) (before last x sum : ℤ) → state_after_read (scan_add_move d s) F ≡ Ok (Element before last) → ranged d (before +ℤ last)
+      ≡ Ok sum → Sums s (Flag sum x) (false ∷ []) (x ∷ []) (sum ∷ []) 3
   after_steps s before last x sum opens is =
       let m = scan_add_machine in
       let one = single_first m d s (Element before last) F (flag_next d s before last opens) opens in
       let two = single_second m d (Element before last) (Write sum x) (int x) refl (ap (λ q. after_sum q x) is) in
       let three = single_write m d (Write sum x) (Flag sum x) (int sum) refl refl refl in
-      single_then m d (flag_signals (false ∷ [])) (int_signals (x ∷ [])) [] [] [] (int_signals (sum ∷ [])) (single_then m d (flag_signals (false ∷ [])) [] [] [] (int_signals (x ∷ [])) [] one two) three
+      single_then m d (flag_signals (false ∷ [])) (int_signals (x ∷ [])) [] [] [] (int_signals (sum ∷ []))
+      (single_then m d (flag_signals (false ∷ [])) [] [] [] (int_signals (x ∷ [])) [] one two) three
 
   element_steps : (s : Stage) (x sum : ℤ) → IsNextSum d s sum → Sums s (Flag sum x) (false ∷ []) (x ∷ []) (sum ∷ []) 3
   element_steps Start x sum is = after_steps Start (pos 0) (pos 0) x sum refl is
@@ -105,14 +108,22 @@ module _ (d : Dialect) where
   element_steps (Write before last) x sum is = absurd is
 
   -- steps, and then others
-  sums_then : (s t u : Stage) (bs cs : List Bool) (xs vs ys ws : List ℤ) (n k l : ℕ) → n + k ≡ l → Sums s t bs xs vs n → Sums t u cs ys ws k → Single scan_add_machine d s u (flag_signals bs ++ flag_signals cs) (int_signals xs ++ int_signals ys) (int_signals vs ++ int_signals ws) l
-  sums_then s t u bs cs xs vs ys ws n k l count one more = subst (Single scan_add_machine d s u (flag_signals bs ++ flag_signals cs) (int_signals xs ++ int_signals ys) (int_signals vs ++ int_signals ws)) count (single_then scan_add_machine d (flag_signals bs) (int_signals xs) (int_signals vs) (flag_signals cs) (int_signals ys) (int_signals ws) one more)
+  sums_then : (s t u : Stage) (bs cs : List Bool) (xs vs ys ws : List ℤ) (n k l : ℕ) → n + k ≡ l → Sums s t bs xs vs n → Sums t u cs ys ws k →
+      Single scan_add_machine d s u (flag_signals bs ++ flag_signals cs) (int_signals xs ++ int_signals ys) (int_signals vs ++ int_signals ws) l
+  sums_then s t u bs cs xs vs ys ws n k l count one more =
+      subst (Single scan_add_machine d s u (flag_signals bs ++ flag_signals cs) (int_signals xs ++ int_signals ys) (int_signals vs ++ int_signals ws))
+      count (single_then scan_add_machine d (flag_signals bs) (int_signals xs) (int_signals vs) (flag_signals cs) (int_signals ys) (int_signals ws) one
+      more)
 
   pub sums_steps : (s t : Stage) (flags : List Bool) (xs sums : List ℤ) → SumsAlong d s flags xs sums t → Sums s t flags xs sums (length flags + 2 * length xs)
   sums_steps s t [] [] [] along = subst (λ k. Sums s k [] [] [] 0) along (single_none scan_add_machine d s)
   sums_steps s t [] [] (v ∷ sums) along = absurd along
   sums_steps s t [] (x ∷ xs) sums along = absurd along
-  sums_steps s t (true ∷ flags) xs sums along = sums_then s Start t (true ∷ []) flags [] [] xs sums 1 (length flags + 2 * length xs) (length (true ∷ flags) + 2 * length xs) (omega arith) (end_step s along.0) (sums_steps Start t flags xs sums along.1)
-  sums_steps s t (false ∷ flags) (x ∷ xs) (v ∷ sums) along = sums_then s (Flag v x) t (false ∷ []) flags (x ∷ []) (v ∷ []) xs sums 3 (length flags + 2 * length xs) (length (false ∷ flags) + 2 * length (x ∷ xs)) (omega arith) (element_steps s x v along.0) (sums_steps (Flag v x) t flags xs sums along.1)
+  sums_steps s t (true ∷ flags) xs sums along =
+      sums_then s Start t (true ∷ []) flags [] [] xs sums 1 (length flags + 2 * length xs) (length (true ∷ flags) + 2 * length xs) (omega arith)
+      (end_step s along.0) (sums_steps Start t flags xs sums along.1)
+  sums_steps s t (false ∷ flags) (x ∷ xs) (v ∷ sums) along =
+      sums_then s (Flag v x) t (false ∷ []) flags (x ∷ []) (v ∷ []) xs sums 3 (length flags + 2 * length xs)
+      (length (false ∷ flags) + 2 * length (x ∷ xs)) (omega arith) (element_steps s x v along.0) (sums_steps (Flag v x) t flags xs sums along.1)
   sums_steps s t (false ∷ flags) [] sums along = absurd along
   sums_steps s t (false ∷ flags) (x ∷ xs) [] along = absurd along

@@ -22,9 +22,13 @@ module _ {S : Type 0} (InRange : Dialect → S → Type 0) (own : Dialect) where
   taken_in_own (on_kind kind next) h = λ x is range. next_in_own (next x) (h x is range)
 
   -- what a read keeps to in the worker's own dialect, it keeps to in each that is its own; K is what else is known
-  pub own_read : {K : Type 0} (s : S) (t : Taking S) → (InRange own s → OfRange own (InRange own) t) → (dialect : Dialect) → K → InOwn InRange own dialect s → OfRange dialect (InOwn InRange own dialect) t
+  pub own_read : {K : Type 0} (s : S) (t : Taking S) → (InRange own s → OfRange own (InRange own) t) → (dialect : Dialect) → K →
+      InOwn InRange own dialect s → OfRange dialect (InOwn InRange own dialect) t
   own_read s t h dialect known held = subst (λ dialect. InRange dialect s → OfRange dialect (InOwn InRange own dialect) t) held.0 (λ range. taken_in_own t (h range)) held.1
 
   -- so too with a write
-  pub own_write : {K : Type 0} (s next : S) (c : Cell) → (InRange own s → CellInRange own c × InRange own next) → (dialect : Dialect) → K → InOwn InRange own dialect s → CellInRange dialect c × InOwn InRange own dialect next
-  own_write s next c h dialect known held = subst (λ dialect. InRange dialect s → CellInRange dialect c × InOwn InRange own dialect next) held.0 (λ range. let there = h range in (there.0, (refl, there.1))) held.1
+  pub own_write : {K : Type 0} (s next : S) (c : Cell) → (InRange own s → CellInRange own c × InRange own next) → (dialect : Dialect) → K →
+      InOwn InRange own dialect s → CellInRange dialect c × InOwn InRange own dialect next
+  own_write s next c h dialect known held =
+      subst (λ dialect. InRange dialect s → CellInRange dialect c × InOwn InRange own dialect next) held.0
+      (λ range. let there = h range in (there.0, (refl, there.1))) held.1

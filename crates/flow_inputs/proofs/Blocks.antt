@@ -52,7 +52,8 @@ rest_after all rest (x ∷ pieces) others is e = rest_after all (pieces ++ other
 
 -- and the pieces are what is written next
 sends_pieces : (text : List ℕ) (way : List Component) (leaf : Leaf) (place : ℕ) (rest pieces others : List Piece) → IsRest (left text way leaf place opening_state) rest → rest ≡ pieces ++ others
-    → Sends (sending (items_from text way leaf place) (written_of (left text way leaf place opening_state) rest)) (said (value_at text) pieces) (sending (items_from text way leaf place) (written_of (left text way leaf place opening_state) others))
+    → Sends (sending (items_from text way leaf place) (written_of (left text way leaf place opening_state) rest)) (said (value_at text) pieces)
+    (sending (items_from text way leaf place) (written_of (left text way leaf place opening_state) others))
 sends_pieces text way leaf place rest [] others is e = ap (λ l. sending (items_from text way leaf place) (written_of (left text way leaf place opening_state) l)) e
 sends_pieces text way leaf place rest (x ∷ pieces) others is e =
     let items = items_from text way leaf place in
@@ -60,8 +61,12 @@ sends_pieces text way leaf place rest (x ∷ pieces) others is e =
     let count = written_of all rest in
     let next = nexts all rest x (pieces ++ others) is e in
     let here : slice_get items.cells count ≡ Some (cell (value_at text) x) = slice_get-map (cell (value_at text)) all count ∙ ap (option_map (cell (value_at text))) next.next in
-    let wrote : source_after_write (sending items count) ≡ sending items (written_of all (pieces ++ others)) = ap (next_state items count) here ∙ ap (sending items) (sym next.more) in
-    (refl, ap next_signal here, subst (λ s. Sends s (said (value_at text) pieces) (sending items (written_of all others))) (sym wrote) (sends_pieces text way leaf place (pieces ++ others) pieces others next.left refl))
+    let wrote : source_after_write (sending items count) ≡ sending items (written_of all (pieces ++ others)) = ap (next_state items count) here ∙ ap (sending items) (sym next.more) in (
+      refl,
+      ap next_signal here,
+      subst (λ s. Sends s (said (value_at text) pieces) (sending items (written_of all others))) (sym wrote)
+          (sends_pieces text way leaf place (pieces ++ others) pieces others next.left refl),
+    )
 
 -- so it is of a source that has not written its end
 pub sends_ahead : (text : List ℕ) (way : List Component) (leaf : Leaf) (place at end : ℕ) (s u : State) (ended : Bool) (pieces : List Piece) (ms : List Signal) → ended ≡ false
@@ -107,7 +112,8 @@ module _ (ins outs : List ℕ) where
     went_nowhere u same = subst (λ k. Went ins outs source_behaviour s a k w n) same (went_looked source_behaviour ins outs went 0 w there looked)
 
     -- a block that is put is as many steps
-    pub went_block : (ms : List Signal) (u : SourceState) (z : View) (k : ℕ) → ended ms ≡ false → Sends t ms u → length ms ≡ k → 0 < k → PutAll w (edge_of outs 0) ms z → Went ins outs source_behaviour s a u z (n + k)
+    pub went_block : (ms : List Signal) (u : SourceState) (z : View) (k : ℕ) → ended ms ≡ false → Sends t ms u → length ms ≡ k → 0 < k →
+        PutAll w (edge_of outs 0) ms z → Went ins outs source_behaviour s a u z (n + k)
     went_block ms u z k unended sends long some put =
         let found = went_looked source_behaviour ins outs went 0 w there looked in
         let batch = subst (Batch ins outs source_behaviour t u (λ e. []) (λ e. cond (eqb e (edge_of outs 0)) ms [])) long (sends_batch ms t u unended sends) in

@@ -1,5 +1,6 @@
 -- The way to each edge of a type, and what a value puts there.
-use Rattle.std.proofs.Common.{◌≡◌, ◌≢◌, ℕ, zero, suc, ◌+◌, ◌-◌, ◌<◌, ◌≤◌, Bool, true, false, cond, List, [], ◌∷◌, ◌++◌, length, map, Option, Some, None, refl, sym, ap, ◌∙◌, subst, arith, append-nil, append_assoc, length-append}
+use Rattle.std.proofs.Common.{◌≡◌, ◌≢◌, ℕ, zero, suc, ◌+◌, ◌-◌, ◌<◌, ◌≤◌, Bool, true, false, cond, List, [], ◌∷◌, ◌++◌, length, map, Option, Some}
+use Rattle.std.proofs.Common.{None, refl, sym, ap, ◌∙◌, subst, arith, append-nil, append_assoc, length-append}
 use Rattle.std.specs.Prelude.{slice_get, nat_lt}
 use Rattle.std.proofs.Math.Path.{ap₂}
 use Rattle.std.proofs.lemmas.Bool.Decides.{nat_tests}
@@ -42,7 +43,8 @@ leads bool edge lt = to_bool
 leads (vec a) edge lt = to_vector
 leads (pair a b) edge lt = by_side (nat_lt edge (width a)) refl (λ h. leads a edge h) (λ h. leads b (edge - width a) h)
   where
-    by_side : (side : Bool) → nat_lt edge (width a) ≡ side → (edge < width a → LeadsToEdge a (way_to a edge) (leaf_at a edge)) → (edge - width a < width b → LeadsToEdge b (way_to b (edge - width a)) (leaf_at b (edge - width a)))
+    by_side : (side : Bool) → nat_lt edge (width a) ≡ side → (edge < width a → LeadsToEdge a (way_to a edge) (leaf_at a edge)) →
+        (edge - width a < width b → LeadsToEdge b (way_to b (edge - width a)) (leaf_at b (edge - width a)))
         → LeadsToEdge (pair a b) (cond side (First ∷ way_to a edge) (Second ∷ way_to b (edge - width a))) (cond side (leaf_at a edge) (leaf_at b (edge - width a)))
     by_side true e one two = by_first (one (below edge (width a) e))
     by_side false e one two = by_second (two (let size = length-append (kinds_of a) (kinds_of b) in let h = not_below edge (width a) e in omega (arith, size, h)))
@@ -138,7 +140,8 @@ kinds_of_edges bool edge lt = let e : edge ≡ 0 = omega arith in sym (ap (kind_
 kinds_of_edges (vec a) edge lt = let e : edge ≡ 0 = omega arith in sym (ap (kind_at (kinds_of (vec a))) e)
 kinds_of_edges (pair a b) edge lt = by_side (nat_lt edge (width a)) refl (λ h. kinds_of_edges a edge h) (λ h. kinds_of_edges b (edge - width a) h)
   where
-    by_side : (side : Bool) → nat_lt edge (width a) ≡ side → (edge < width a → leaf_kind (leaf_at a edge) ≡ kind_at (kinds_of a) edge) → (edge - width a < width b → leaf_kind (leaf_at b (edge - width a)) ≡ kind_at (kinds_of b) (edge - width a))
+    by_side : (side : Bool) → nat_lt edge (width a) ≡ side → (edge < width a → leaf_kind (leaf_at a edge) ≡ kind_at (kinds_of a) edge) →
+        (edge - width a < width b → leaf_kind (leaf_at b (edge - width a)) ≡ kind_at (kinds_of b) (edge - width a))
         → leaf_kind (cond side (leaf_at a edge) (leaf_at b (edge - width a))) ≡ kind_at (kinds_of a ++ kinds_of b) edge
     by_side true e one two = let h = below edge (width a) e in one h ∙ sym (ap at_kind (get_left (kinds_of a) (kinds_of b) edge h))
     by_side false e one two =

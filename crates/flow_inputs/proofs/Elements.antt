@@ -27,7 +27,8 @@ two_tokens text way at level n f within elements last comma number is =
     ∙ ap (λ o. after_turn text way Ints (at_value o Ints level f.mark (at + 1)) f.end) last
     ∙ ap (λ m. after_turn text way Ints (at_leaf Ints level m (at + 1)) f.end) is
 
-pub element_left : (text : List ℕ) (way : List Component) (leaf : Leaf) (at : ℕ) (s : State) (n : ℤ) (f : Found) → leaf ≡ Ints → s.mode ≡ Behind → at + 1 ≤ length text → made way s.level ≡ Some Elements → slice_get way s.level ≡ None
+pub element_left : (text : List ℕ) (way : List Component) (leaf : Leaf) (at : ℕ) (s : State) (n : ℤ) (f : Found) → leaf ≡ Ints → s.mode ≡ Behind →
+    at + 1 ≤ length text → made way s.level ≡ Some Elements → slice_get way s.level ≡ None
     → Some (record { mark = Comma; end = at + 1 }) ≡ found_from (next_at text at) (next_lexeme text at) → Some f ≡ found_from (next_at text (at + 1)) (next_lexeme text (at + 1)) → f.mark ≡ Number n
     → left text way leaf at s ≡ Int n ∷ left text way leaf f.end s
 element_left text way leaf at s n f ints mode within elements last comma number is =
@@ -36,6 +37,7 @@ element_left text way leaf at s n f ints mode within elements last comma number 
     (two_tokens text way at s.level n f within elements last comma number is))
 
 -- a comma, where an element ends whose flag is written
-pub flag_left : (text : List ℕ) (way : List Component) (leaf : Leaf) (at level : ℕ) → at < length text → Some (record { mark = Comma; end = at + 1 }) ≡ found_from (next_at text at) (next_lexeme text at)
+pub flag_left : (text : List ℕ) (way : List Component) (leaf : Leaf) (at level : ℕ) → at < length text → Some (record { mark = Comma; end = at + 1 })
+    ≡ found_from (next_at text at) (next_lexeme text at)
     → left text way leaf at (state level (Counting 0)) ≡ Flag false ∷ left text way leaf (at + 1) (state level (Counting 0))
 flag_left text way leaf at level within comma = left_found text way leaf at (state level (Counting 0)) (record { mark = Comma; end = at + 1 }) (omega (arith, within)) comma

@@ -47,15 +47,18 @@ abbrev pub cells : (ℕ → Value) → List ℕ → List Component → Leaf → 
 cells vector text way leaf at s = map (cell vector) (left text way leaf at s)
 
 -- by what the turn does
-pub then_moved : {text : List ℕ} {from end : ℕ} {t : Token} {ts : List Token} (vector : ℕ → Value) (way : List Component) (leaf : Leaf) (s : State) (level : ℕ) (mode : Mode) (w : Turned text from t ts end)
+pub then_moved : {text : List ℕ} {from end : ℕ} {t : Token} {ts : List Token} (vector : ℕ → Value) (way : List Component) (leaf : Leaf) (s : State)
+    (level : ℕ) (mode : Mode) (w : Turned text from t ts end)
     → turn way leaf s (mark_of t) from ≡ writes_nothing level mode → cells vector text way leaf from s ≡ cells vector text way leaf w.at (state level mode)
 then_moved {text = text} vector way leaf s level mode w e = ap (map (cell vector)) (w.turns way leaf s ∙ ap (λ (u : Transition). after_turn text way leaf u w.at) e)
 
-pub then_wrote : {text : List ℕ} {from end : ℕ} {t : Token} {ts : List Token} (vector : ℕ → Value) (way : List Component) (leaf : Leaf) (s : State) (piece : Piece) (level : ℕ) (mode : Mode) (w : Turned text from t ts end)
+pub then_wrote : {text : List ℕ} {from end : ℕ} {t : Token} {ts : List Token} (vector : ℕ → Value) (way : List Component) (leaf : Leaf) (s : State)
+    (piece : Piece) (level : ℕ) (mode : Mode) (w : Turned text from t ts end)
     → turn way leaf s (mark_of t) from ≡ wrote piece level mode → cells vector text way leaf from s ≡ cell vector piece ∷ cells vector text way leaf w.at (state level mode)
 then_wrote {text = text} vector way leaf s piece level mode w e = ap (map (cell vector)) (w.turns way leaf s ∙ ap (λ (u : Transition). after_turn text way leaf u w.at) e)
 
-number_passes : {way : List Component} {leaf : Leaf} {level : ℕ} {mode : ℕ → Mode} → Passes way leaf level mode → (depth place : ℕ) (n : ℤ) → turn way leaf (state level (mode depth)) (mark_of (integer n)) place ≡ writes_nothing level (mode depth)
+number_passes : {way : List Component} {leaf : Leaf} {level : ℕ} {mode : ℕ → Mode} → Passes way leaf level mode → (depth place : ℕ) (n : ℤ) →
+    turn way leaf (state level (mode depth)) (mark_of (integer n)) place ≡ writes_nothing level (mode depth)
 number_passes {way = way} {leaf = leaf} {level = level} {mode = mode} p depth place n = by_range (is_integer Two n)
   where
     by_range : (b : Bool) → turn way leaf (state level (mode depth)) (cond b (Number n) Other) place ≡ writes_nothing level (mode depth)
@@ -64,7 +67,8 @@ number_passes {way = way} {leaf = leaf} {level = level} {mode = mode} p depth pl
 
 -- a value is passed over
 mutual
-  pub over_value : (vector : ℕ → Value) {text : List ℕ} (way : List Component) (leaf : Leaf) (level : ℕ) (mode : ℕ → Mode) → Passes way leaf level mode → (v : Value) {from end : ℕ} (depth : ℕ) → from ≤ length text → HasTokens text from (value_tokens v) end
+  pub over_value : (vector : ℕ → Value) {text : List ℕ} (way : List Component) (leaf : Leaf) (level : ℕ) (mode : ℕ → Mode) →
+      Passes way leaf level mode → (v : Value) {from end : ℕ} (depth : ℕ) → from ≤ length text → HasTokens text from (value_tokens v) end
       → cells vector text way leaf from (state level (mode depth)) ≡ cells vector text way leaf end (state level (mode depth))
   over_value vector {text = text} way leaf level mode p (an_int n) depth inside r =
       let w = turned inside r in
@@ -109,7 +113,9 @@ mutual
       ∙ ap (λ at. cells vector text way leaf at (state level (mode depth))) (unread closing.rest)
 
   -- the items of a vector or a sequence
-  pub over_items : (vector : ℕ → Value) {text : List ℕ} (way : List Component) (leaf : Leaf) (level : ℕ) (mode : ℕ → Mode) → Passes way leaf level mode → (vs : Values) {from end : ℕ} (depth : ℕ) → PassesParts way leaf level mode depth → from ≤ length text → HasTokens text from (items_tokens vs) end
+  pub over_items : (vector : ℕ → Value) {text : List ℕ} (way : List Component) (leaf : Leaf) (level : ℕ) (mode : ℕ → Mode) →
+      Passes way leaf level mode → (vs : Values) {from end : ℕ} (depth : ℕ) → PassesParts way leaf level mode depth → from ≤ length text →
+      HasTokens text from (items_tokens vs) end
       → cells vector text way leaf from (state level (mode depth)) ≡ cells vector text way leaf end (state level (mode depth))
   over_items vector {text = text} way leaf level mode p no_values depth q inside r = ap (λ at. cells vector text way leaf at (state level (mode depth))) (unread r)
   over_items vector way leaf level mode p (more_values v vs) depth q inside r =
@@ -117,7 +123,9 @@ mutual
       over_value vector way leaf level mode p v depth inside first.1
       ∙ over_further vector way leaf level mode p vs depth q (ends_inside (value_tokens v) inside first.1) first.2
 
-  over_further : (vector : ℕ → Value) {text : List ℕ} (way : List Component) (leaf : Leaf) (level : ℕ) (mode : ℕ → Mode) → Passes way leaf level mode → (vs : Values) {from end : ℕ} (depth : ℕ) → PassesParts way leaf level mode depth → from ≤ length text → HasTokens text from (further_tokens vs) end
+  over_further : (vector : ℕ → Value) {text : List ℕ} (way : List Component) (leaf : Leaf) (level : ℕ) (mode : ℕ → Mode) → Passes way leaf level mode
+      → (vs : Values) {from end : ℕ} (depth : ℕ) → PassesParts way leaf level mode depth → from ≤ length text →
+      HasTokens text from (further_tokens vs) end
       → cells vector text way leaf from (state level (mode depth)) ≡ cells vector text way leaf end (state level (mode depth))
   over_further vector {text = text} way leaf level mode p no_values depth q inside r = ap (λ at. cells vector text way leaf at (state level (mode depth))) (unread r)
   over_further vector way leaf level mode p (more_values v vs) depth q inside r =

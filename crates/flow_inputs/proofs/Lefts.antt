@@ -15,7 +15,8 @@ use Rattle.flow_inputs.specs.declared.turns.Mode.{Mode}
 use Rattle.flow_inputs.specs.declared.turns.Mode.TheVariants.{Value, Opened, Behind, Passing, Flagging, Counting, Within, Lost}
 use Rattle.flow_inputs.specs.declared.turns.State.{State}
 use Rattle.flow_inputs.specs.declared.turns.Piece.{Piece}
-use Rattle.flow_inputs.specs.Turns.{Transition, turn, turn_by, state, at_leaf, at_value, at_opened, turn_after_value, passed, passing, flagging, counting, inside_vector, made, depth_of, is_done, is_done_by}
+use Rattle.flow_inputs.specs.Turns.{Transition, turn, turn_by, state, at_leaf, at_value, at_opened, turn_after_value, passed, passing, flagging}
+use Rattle.flow_inputs.specs.Turns.{counting, inside_vector, made, depth_of, is_done, is_done_by}
 use Rattle.snesl_values.specs.Marks.{mark_of, Spot, spots, found_from}
 use Rattle.flow_inputs.specs.Left.{written_from, left}
 use Rattle.snesl_values.proofs.Spots.{spots_none, spots_some}

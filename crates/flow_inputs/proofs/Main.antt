@@ -39,11 +39,13 @@ back : (level : ℕ) → writes_nothing (level + 1 - 1) Behind ≡ writes_nothin
 back level = ap (λ n. writes_nothing n Behind) (omega arith)
 
 -- the first token of a value opens no sequence's end, and stands for an element
-first_opened : (vector : ℕ → Value) {text : List ℕ} (way : List Component) (leaf : Leaf) (level : ℕ) (v : Value) (ts : List Token) {from end : ℕ} → from ≤ length text → HasTokens text from (value_tokens v ++ ts) end
+first_opened : (vector : ℕ → Value) {text : List ℕ} (way : List Component) (leaf : Leaf) (level : ℕ) (v : Value) (ts : List Token) {from end : ℕ} →
+    from ≤ length text → HasTokens text from (value_tokens v ++ ts) end
     → cells vector text way leaf from (state level Opened) ≡ cells vector text way leaf from (state level ValueNext)
 first_opened vector {text = text} way leaf level v ts {from = from} {end = end} inside r = by_value v r
   where
-    alike : {t : Token} {us : List Token} → HasTokens text from (t ∷ us) end → ((place : ℕ) → turn way leaf (state level Opened) (mark_of t) place ≡ turn way leaf (state level ValueNext) (mark_of t) place)
+    alike : {t : Token} {us : List Token} → HasTokens text from (t ∷ us) end →
+        ((place : ℕ) → turn way leaf (state level Opened) (mark_of t) place ≡ turn way leaf (state level ValueNext) (mark_of t) place)
         → cells vector text way leaf from (state level Opened) ≡ cells vector text way leaf from (state level ValueNext)
     alike r e =
         let w = turned inside r in
@@ -61,20 +63,26 @@ first_opened vector {text = text} way leaf level v ts {from = from} {end = end} 
     by_value (a_vec vs) r = alike r (λ place. refl)
     by_value (a_seq vs) r = alike r (λ place. refl)
 
-first_flagged : (vector : ℕ → Value) {text : List ℕ} (way : List Component) (level : ℕ) (v : Value) (ts : List Token) {from end : ℕ} → from ≤ length text → HasTokens text from (value_tokens v ++ ts) end
+first_flagged : (vector : ℕ → Value) {text : List ℕ} (way : List Component) (level : ℕ) (v : Value) (ts : List Token) {from end : ℕ} →
+    from ≤ length text → HasTokens text from (value_tokens v ++ ts) end
     → cells vector text way Flags from (state level Flagging) ≡ F ∷ cells vector text way Flags from (state level (Counting 0))
 first_flagged vector {text = text} way level v ts {from = from} {end = end} inside r = by_value v r
   where
-    alike : {t : Token} {us : List Token} → HasTokens text from (t ∷ us) end → ((place : ℕ) → turn way Flags (state level Flagging) (mark_of t) place ≡ (Some (Flag false), (turn way Flags (state level (Counting 0)) (mark_of t) place).1))
+    alike : {t : Token} {us : List Token} → HasTokens text from (t ∷ us) end →
+        ((place : ℕ) → turn way Flags (state level Flagging) (mark_of t) place
+        ≡ (Some (Flag false), (turn way Flags (state level (Counting 0)) (mark_of t) place).1))
         → ((place : ℕ) → (turn way Flags (state level (Counting 0)) (mark_of t) place).0 ≡ None)
         → cells vector text way Flags from (state level Flagging) ≡ F ∷ cells vector text way Flags from (state level (Counting 0))
     alike {t = t} r e f =
         let w = turned inside r in
         let one = ap (map (cell vector)) (w.turns way Flags (state level Flagging) ∙ ap (λ (u : Transition). after_turn text way Flags u w.at) (e from)) in
-        let two = ap (map (cell vector)) (w.turns way Flags (state level (Counting 0)) ∙ ap (λ o. option_to_list o ++ left text way Flags w.at (turn way Flags (state level (Counting 0)) (mark_of t) from).1) (f from)) in
+        let two = ap (map (cell vector))
+        (w.turns way Flags (state level (Counting 0))
+        ∙ ap (λ o. option_to_list o ++ left text way Flags w.at (turn way Flags (state level (Counting 0)) (mark_of t) from).1) (f from)) in
         one ∙ ap (λ l. F ∷ l) (sym two)
 
-    of_number : (n : ℤ) (place : ℕ) (b : Bool) → turn way Flags (state level Flagging) (cond b (Number n) Other) place ≡ (Some (Flag false), (turn way Flags (state level (Counting 0)) (cond b (Number n) Other) place).1)
+    of_number : (n : ℤ) (place : ℕ) (b : Bool) → turn way Flags (state level Flagging) (cond b (Number n) Other) place
+        ≡ (Some (Flag false), (turn way Flags (state level (Counting 0)) (cond b (Number n) Other) place).1)
     of_number n place true = refl
     of_number n place false = refl
 
@@ -91,7 +99,8 @@ first_flagged vector {text = text} way level v ts {from = from} {end = end} insi
     by_value (a_seq vs) r = alike r (λ place. refl) (λ place. refl)
 
 -- an integer
-int_law : (dialect : Dialect) (vector : ℕ → Value) {text : List ℕ} (way : List Component) (level : ℕ) → slice_get way level ≡ None → (n : ℤ) → IsInteger dialect n → {from end : ℕ} → from ≤ length text → HasTokens text from (integer n ∷ []) end
+int_law : (dialect : Dialect) (vector : ℕ → Value) {text : List ℕ} (way : List Component) (level : ℕ) → slice_get way level ≡ None → (n : ℤ) →
+    IsInteger dialect n → {from end : ℕ} → from ≤ length text → HasTokens text from (integer n ∷ []) end
     → cells vector text way Ints from (state level ValueNext) ≡ int_cell n ∷ cells vector text way Ints end (state level Behind)
 int_law dialect vector {text = text} way level ahead n ranged {from = from} inside r =
     let w = turned inside r in
@@ -99,7 +108,8 @@ int_law dialect vector {text = text} way level ahead n ranged {from = from} insi
     (ap (λ o. at_value o Ints level (mark_of (integer n)) from) ahead ∙ ap (λ m. at_leaf Ints level m from) (cond-true _ _ _ (wide dialect n ranged)))
     ∙ ap (λ at. int_cell n ∷ cells vector text way Ints at (state level Behind)) (unread w.rest)
 
-bool_law : (vector : ℕ → Value) {text : List ℕ} (way : List Component) (level : ℕ) → slice_get way level ≡ None → (b : Bool) → {from end : ℕ} → from ≤ length text → HasTokens text from (value_tokens (a_bool b)) end
+bool_law : (vector : ℕ → Value) {text : List ℕ} (way : List Component) (level : ℕ) → slice_get way level ≡ None → (b : Bool) → {from end : ℕ} →
+    from ≤ length text → HasTokens text from (value_tokens (a_bool b)) end
     → cells vector text way Bools from (state level ValueNext) ≡ flag b ∷ cells vector text way Bools end (state level Behind)
 bool_law vector {text = text} way level ahead true {from = from} inside r =
     let w = turned inside r in
@@ -110,7 +120,9 @@ bool_law vector {text = text} way level ahead false {from = from} inside r =
     then_wrote vector way Bools (state level ValueNext) (Flag false) level Behind w (ap (λ o. at_value o Bools level (Truth false) from) ahead)
     ∙ ap (λ at. flag false ∷ cells vector text way Bools at (state level Behind)) (unread w.rest)
 
-vector_law : (dialect : Dialect) (a : Ty) (vector : ℕ → Value) {text : List ℕ} → TellsValues vector text → (way : List Component) (level : ℕ) → slice_get way level ≡ None → (vs : Values) → HasType dialect (a_vec vs) (vec a) → {from end : ℕ} → from ≤ length text → HasTokens text from (value_tokens (a_vec vs)) end
+vector_law : (dialect : Dialect) (a : Ty) (vector : ℕ → Value) {text : List ℕ} → TellsValues vector text → (way : List Component) (level : ℕ) →
+    slice_get way level ≡ None → (vs : Values) → HasType dialect (a_vec vs) (vec a) → {from end : ℕ} → from ≤ length text →
+    HasTokens text from (value_tokens (a_vec vs)) end
     → cells vector text way Vectors from (state level ValueNext) ≡ datum (a_vec vs) ∷ cells vector text way Vectors end (state level Behind)
 vector_law dialect a vector {text = text} tells way level ahead vs typed {from = from} {end = end} inside r =
     let opening = turned inside r in
@@ -123,7 +135,8 @@ vector_law dialect a vector {text = text} tells way level ahead vs typed {from =
     ∙ ap (λ at. cells vector text way Vectors at (state level Behind)) (unread closing.rest))
 
 -- flags
-further_flags : (vector : ℕ → Value) {text : List ℕ} (way : List Component) (level : ℕ) (vs : Values) {from end : ℕ} → from ≤ length text → HasTokens text from (further_tokens vs ++ right_brace ∷ []) end
+further_flags : (vector : ℕ → Value) {text : List ℕ} (way : List Component) (level : ℕ) (vs : Values) {from end : ℕ} → from ≤ length text →
+    HasTokens text from (further_tokens vs ++ right_brace ∷ []) end
     → cells vector text way Flags from (state level (Counting 0)) ≡ elements (length (list_of vs)) (T ∷ []) ++ cells vector text way Flags end (state level Behind)
 further_flags vector {text = text} way level no_values inside r =
     let closing = turned inside r in
@@ -131,12 +144,14 @@ further_flags vector {text = text} way level no_values inside r =
     ∙ ap (λ at. T ∷ cells vector text way Flags at (state level Behind)) (unread closing.rest)
 further_flags vector {text = text} way level (more_values v vs) {end = end} inside r =
     let parting = turned inside r in
-    let first = reads-split (value_tokens v) (further_tokens vs ++ right_brace ∷ []) (subst (λ ts. HasTokens text parting.at ts end) (append_assoc (value_tokens v) (further_tokens vs) (right_brace ∷ [])) parting.rest) in
+    let first = reads-split (value_tokens v) (further_tokens vs ++ right_brace ∷ [])
+    (subst (λ ts. HasTokens text parting.at ts end) (append_assoc (value_tokens v) (further_tokens vs) (right_brace ∷ [])) parting.rest) in
     then_wrote vector way Flags (state level (Counting 0)) (Flag false) level (Counting 0) parting refl
     ∙ ap (λ l. F ∷ l) (over_value vector way Flags level Counting (counting_passes way Flags level) v 0 parting.inside first.1
     ∙ further_flags vector way level vs (ends_inside (value_tokens v) parting.inside first.1) first.2)
 
-flags_law : (vector : ℕ → Value) {text : List ℕ} (way : List Component) (level : ℕ) → slice_get way level ≡ None → (vs : Values) → {from end : ℕ} → from ≤ length text → HasTokens text from (value_tokens (a_seq vs)) end
+flags_law : (vector : ℕ → Value) {text : List ℕ} (way : List Component) (level : ℕ) → slice_get way level ≡ None → (vs : Values) → {from end : ℕ} →
+    from ≤ length text → HasTokens text from (value_tokens (a_seq vs)) end
     → cells vector text way Flags from (state level ValueNext) ≡ elements (length (list_of vs)) (T ∷ []) ++ cells vector text way Flags end (state level Behind)
 flags_law vector {text = text} way level ahead vs {from = from} {end = end} inside r =
     let opening = turned inside r in
@@ -163,7 +178,8 @@ Leaves vector text way leaf level rest v = (from end : ℕ) → from ≤ length 
 
 -- the elements after the first one
 further_elements : (dialect : Dialect) (vector : ℕ → Value) {text : List ℕ} (way : List Component) (leaf : Leaf) (level : ℕ) (rest : List Component) (a : Ty) → slice_get way level ≡ Some Elements
-    → ((v : Value) → HasType dialect v a → Leaves vector text way leaf (level + 1) rest v) → (vs : Values) → AllHaveType dialect vs a → {from end : ℕ} → from ≤ length text → HasTokens text from (further_tokens vs ++ right_brace ∷ []) end
+    → ((v : Value) → HasType dialect v a → Leaves vector text way leaf (level + 1) rest v) → (vs : Values) → AllHaveType dialect vs a → {from end : ℕ}
+    → from ≤ length text → HasTokens text from (further_tokens vs ++ right_brace ∷ []) end
     → cells vector text way leaf from (state (level + 1) Behind) ≡ concatenation_by (items_on_edge rest leaf) (list_of vs) ++ cells vector text way leaf end (state level Behind)
 further_elements dialect vector {text = text} way leaf level rest a ahead each no_values typed inside r =
     let closing = turned inside r in
@@ -171,7 +187,8 @@ further_elements dialect vector {text = text} way leaf level rest a ahead each n
     ∙ ap (λ at. cells vector text way leaf at (state level Behind)) (unread closing.rest)
 further_elements dialect vector {text = text} way leaf level rest a ahead each (more_values v vs) typed {end = end} inside r =
     let parting = turned inside r in
-    let first = reads-split (value_tokens v) (further_tokens vs ++ right_brace ∷ []) (subst (λ ts. HasTokens text parting.at ts end) (append_assoc (value_tokens v) (further_tokens vs) (right_brace ∷ [])) parting.rest) in
+    let first = reads-split (value_tokens v) (further_tokens vs ++ right_brace ∷ [])
+    (subst (λ ts. HasTokens text parting.at ts end) (append_assoc (value_tokens v) (further_tokens vs) (right_brace ∷ [])) parting.rest) in
     then_moved vector way leaf (state (level + 1) Behind) (level + 1) ValueNext parting (ap (λ o. turn_after_value o (level + 1) Comma) (made-next way level ∙ ahead))
     ∙ each v typed.0 _ _ parting.inside first.1
     ∙ ap (λ l. items_on_edge rest leaf v ++ l) (further_elements dialect vector way leaf level rest a ahead each vs typed.1 (ends_inside (value_tokens v) parting.inside first.1) first.2)
@@ -232,7 +249,8 @@ second_law vector text way leaf level rest a b ahead two from end inside r =
     ∙ ap (λ at. cells vector text way leaf at (state level Behind)) (unread closing.rest))
 
 -- the law on every way
-pub law : {t : Ty} {rest : List Component} {leaf : Leaf} → LeadsToEdge t rest leaf → (dialect : Dialect) (vector : ℕ → Value) (text : List ℕ) → TellsValues vector text → (way : List Component) (level : ℕ) → Ahead way level rest
+pub law : {t : Ty} {rest : List Component} {leaf : Leaf} → LeadsToEdge t rest leaf → (dialect : Dialect) (vector : ℕ → Value) (text : List ℕ) →
+    TellsValues vector text → (way : List Component) (level : ℕ) → Ahead way level rest
     → (v : Value) → HasType dialect v t → Leaves vector text way leaf level rest v
 law to_int dialect vector text tells way level ahead (an_int n) typed from end inside r = int_law dialect vector way level ahead n typed inside r
 law to_bool dialect vector text tells way level ahead (a_bool b) typed from end inside r = bool_law vector way level ahead b inside r

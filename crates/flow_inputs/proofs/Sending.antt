@@ -47,12 +47,14 @@ nexts all rest x others is e =
     }
 
 -- what is written next
-next_cell : (text : List ℕ) (way : List Component) (leaf : Leaf) (place at : ℕ) (s : State) (x : Piece) (others : List Piece) → Nexts (left text way leaf place opening_state) (left text way leaf at s) x others
+next_cell : (text : List ℕ) (way : List Component) (leaf : Leaf) (place at : ℕ) (s : State) (x : Piece) (others : List Piece) →
+    Nexts (left text way leaf place opening_state) (left text way leaf at s) x others
     → slice_get (items_from text way leaf place).cells (written_of (left text way leaf place opening_state) (left text way leaf at s)) ≡ Some (cell (value_at text) x)
 next_cell text way leaf place at s x others n =
     slice_get-map (cell (value_at text)) (left text way leaf place opening_state) _ ∙ ap (option_map (cell (value_at text))) n.next
 
-pub sends_piece : (text : List ℕ) (way : List Component) (leaf : Leaf) (place at end : ℕ) (s u : State) (ended : Bool) (x : Piece) (c : Cell) → IsWrite (source_want (text_state text way leaf place at s ended))
+pub sends_piece : (text : List ℕ) (way : List Component) (leaf : Leaf) (place at end : ℕ) (s u : State) (ended : Bool) (x : Piece) (c : Cell) →
+    IsWrite (source_want (text_state text way leaf place at s ended))
     → Nexts (left text way leaf place opening_state) (left text way leaf at s) x (left text way leaf end u) → c ≡ cell (value_at text) x
     → (carry c ≡ source_signal (text_state text way leaf place at s ended)) × (text_state text way leaf place end u ended ≡ source_after_write (text_state text way leaf place at s ended))
 sends_piece text way leaf place at end s u true x c h n e = absurd h
@@ -62,7 +64,8 @@ sends_piece text way leaf place at end s u false x c h n e =
     let here = next_cell text way leaf place at s x (left text way leaf end u) n in
     (ap carry e ∙ sym (ap next_signal here), ap (sending items) n.more ∙ sym (ap (next_state items count) here))
 
-pub sends_end : (text : List ℕ) (way : List Component) (leaf : Leaf) (place at : ℕ) (s : State) (ended : Bool) → IsWrite (source_want (text_state text way leaf place at s ended)) → left text way leaf at s ≡ []
+pub sends_end : (text : List ℕ) (way : List Component) (leaf : Leaf) (place at : ℕ) (s : State) (ended : Bool) →
+    IsWrite (source_want (text_state text way leaf place at s ended)) → left text way leaf at s ≡ []
     → (stop ≡ source_signal (text_state text way leaf place at s ended)) × (finished (items_from text way leaf place) ≡ source_after_write (text_state text way leaf place at s ended))
 sends_end text way leaf place at s true h e = absurd h
 sends_end text way leaf place at s false h e =
@@ -75,7 +78,9 @@ sends_end text way leaf place at s false h e =
     (sym (ap next_signal here), sym (ap (next_state items count) here))
 
 -- where the next item is no vector, no memory is taken
-pub takes : (text : List ℕ) (way : List Component) (leaf : Leaf) (place at : ℕ) (s : State) (ended : Bool) (x : Piece) (others : List Piece) → IsWrite (source_want (text_state text way leaf place at s ended))
-    → Nexts (left text way leaf place opening_state) (left text way leaf at s) x others → source_takes_memory (text_state text way leaf place at s ended) ≡ false → is_of VecKind (cell (value_at text) x) ≡ false
+pub takes : (text : List ℕ) (way : List Component) (leaf : Leaf) (place at : ℕ) (s : State) (ended : Bool) (x : Piece) (others : List Piece) →
+    IsWrite (source_want (text_state text way leaf place at s ended))
+    → Nexts (left text way leaf place opening_state) (left text way leaf at s) x others →
+    source_takes_memory (text_state text way leaf place at s ended) ≡ false → is_of VecKind (cell (value_at text) x) ≡ false
 takes text way leaf place at s true x others h n e = absurd h
 takes text way leaf place at s false x others h n e = sym (ap is_vector (next_cell text way leaf place at s x others n)) ∙ e

@@ -1,5 +1,6 @@
 -- What is left to write after a byte that a scanner passes over: the same as before it.
-use Rattle.std.proofs.Common.{◌≡◌, ℕ, zero, suc, ℤ, pos, ◌+◌, ◌-◌, ◌<◌, ◌≤◌, Bool, true, false, cond, eqb, List, [], ◌∷◌, length, drop, get_or, option_map, Option, Some, None, refl, sym, ap, ◌∙◌, subst, arith, drop-drop, length-drop}
+use Rattle.std.proofs.Common.{◌≡◌, ℕ, zero, suc, ℤ, pos, ◌+◌, ◌-◌, ◌<◌, ◌≤◌, Bool, true, false, cond, eqb, List, [], ◌∷◌, length, drop, get_or}
+use Rattle.std.proofs.Common.{option_map, Option, Some, None, refl, sym, ap, ◌∙◌, subst, arith, drop-drop, length-drop}
 use Rattle.std.proofs.lemmas.Bool.{cond-true, cond-false}
 use Rattle.std.specs.Str.{bytes_eq}
 use Rattle.std.specs.Prelude.{not, ◌==◌, ◌&&◌, IsTrue, codes}
@@ -136,8 +137,21 @@ plain_first b bs plain = by_class (is_ascii_alphabetic b) (is_ascii_digit b) (eq
         → IsPlain (b ∷ bs) (cond t (Some (word (take_while is_word (b ∷ bs)), length (take_while is_word (b ∷ bs))))
         (cond u (Some (integer (pos (value_from 0 (take_while is_ascii_digit (b ∷ bs)))), length (take_while is_ascii_digit (b ∷ bs))))
         (cond v (Some (minus_lexeme (take_while is_ascii_digit bs))) (cond w (Some (sign b, 1)) (Some (bad, 1))))))
-    by_class true u v w = record { token = (word (take_while is_word (b ∷ bs)), length (take_while is_word (b ∷ bs))); is = refl; most = taken_plain is_word word_plain (b ∷ bs); calm = calm_word (take_while is_word (b ∷ bs)) }
-    by_class false true v w = record { token = (integer (pos (value_from 0 (take_while is_ascii_digit (b ∷ bs)))), length (take_while is_ascii_digit (b ∷ bs))); is = refl; most = taken_plain is_ascii_digit digit_plain (b ∷ bs); calm = calm_integer (pos (value_from 0 (take_while is_ascii_digit (b ∷ bs)))) }
+    by_class true u v w =
+        record {
+          token = (word (take_while is_word (b ∷ bs)), length (take_while is_word (b ∷ bs)));
+          is = refl;
+          most =
+              taken_plain is_word word_plain (b ∷ bs);
+          calm = calm_word (take_while is_word (b ∷ bs));
+        }
+    by_class false true v w =
+        record {
+          token = (integer (pos (value_from 0 (take_while is_ascii_digit (b ∷ bs)))), length (take_while is_ascii_digit (b ∷ bs)));
+          is = refl;
+          most = taken_plain is_ascii_digit digit_plain (b ∷ bs);
+          calm = calm_integer (pos (value_from 0 (take_while is_ascii_digit (b ∷ bs))));
+        }
     by_class false false true w = plain_minus (b ∷ bs) (take_while is_ascii_digit bs) (omega (arith, some, taken_plain is_ascii_digit digit_plain bs))
     by_class false false false true = record { token = (sign b, 1); is = refl; most = omega (arith, some); calm = calm_sign b plain }
     by_class false false false false = record { token = (bad, 1); is = refl; most = omega (arith, some); calm = tt }
@@ -317,16 +331,19 @@ turn_past way leaf level mode p commas q Comma depth deeper place e =
     let w = after_comma depth deeper (depth == 0 && not commas) e in
     by_depth depth commas q w.0 ∙ ap (λ n. writes_nothing level (mode n)) w.1
   where
-    by_depth : (depth : ℕ) (commas : Bool) → (IsTrue commas → PassesParts way leaf level mode 0) → (depth == 0 && not commas) ≡ false → turn way leaf (state level (mode depth)) Comma place ≡ writes_nothing level (mode depth)
+    by_depth : (depth : ℕ) (commas : Bool) → (IsTrue commas → PassesParts way leaf level mode 0) → (depth == 0 && not commas) ≡ false →
+        turn way leaf (state level (mode depth)) Comma place ≡ writes_nothing level (mode depth)
     by_depth zero true q e = q refl place
     by_depth zero false q e = absurd (cc)
-    by_depth (suc depth) commas q e = let one : depth + 1 ≡ suc depth = omega arith in subst (λ n. turn way leaf (state level (mode n)) Comma place ≡ writes_nothing level (mode n)) one (p.parts depth place)
+    by_depth (suc depth) commas q e = let one : depth + 1 ≡ suc depth = omega arith in
+        subst (λ n. turn way leaf (state level (mode n)) Comma place ≡ writes_nothing level (mode n)) one (p.parts depth place)
 turn_past way leaf level mode p commas q (Truth b) depth deeper place e = p.truths depth place b ∙ ap (λ n. writes_nothing level (mode n)) (some_same e)
 turn_past way leaf level mode p commas q (Number n) depth deeper place e = p.numbers depth place n ∙ ap (λ n. writes_nothing level (mode n)) (some_same e)
 turn_past way leaf level mode p commas q Other depth deeper place e = p.others depth place ∙ ap (λ n. writes_nothing level (mode n)) (some_same e)
 
 -- after a byte that a scanner passes over
-pub byte_past : (text : List ℕ) (commas : Bool) (at depth deeper : ℕ) → at < length text → Some deeper ≡ depth_after (sign_mark (get_or text at 0)) depth commas → SameLeft text commas at depth (at + 1) deeper
+pub byte_past : (text : List ℕ) (commas : Bool) (at depth deeper : ℕ) → at < length text → Some deeper
+    ≡ depth_after (sign_mark (get_or text at 0)) depth commas → SameLeft text commas at depth (at + 1) deeper
 byte_past text commas at depth deeper inside e way leaf level mode p q = by_test (is_plain b) refl
   where
     b : ℕ

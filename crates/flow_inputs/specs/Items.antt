@@ -123,7 +123,8 @@ module _ (vector : ℕ → Value) where
   turn_fine Lost way leaf level mark place e = (tt, tt)
 
   -- what one turn writes, and what comes after it
-  with_rest : (kind : Kind) (o : Option Piece) (rest : List Piece) → AllOf kind (map (cell vector) (option_to_list o)) → AllOf kind (map (cell vector) rest) → AllOf kind (map (cell vector) (option_to_list o ++ rest))
+  with_rest : (kind : Kind) (o : Option Piece) (rest : List Piece) → AllOf kind (map (cell vector) (option_to_list o)) →
+      AllOf kind (map (cell vector) rest) → AllOf kind (map (cell vector) (option_to_list o ++ rest))
   with_rest kind None rest h k = k
   with_rest kind (Some x) rest h k = (h.0, k)
 

@@ -13,7 +13,8 @@ use Rattle.flow_inputs.specs.Items.{items_from, leaf_kind}
 
 -- the items of a source at an edge of the type are the edge's part of what the value puts on the edges of its type
 abbrev pub TextHoldsEdges : Type 0
-TextHoldsEdges = (dialect : Dialect) (t : Ty) (edge : ℕ) (text : List ℕ) (from end : ℕ) (v : Value) → edge < width t → HasType dialect v t → from ≤ length text → HasTokens text from (value_tokens v) end
+TextHoldsEdges = (dialect : Dialect) (t : Ty) (edge : ℕ) (text : List ℕ) (from end : ℕ) (v : Value) → edge < width t → HasType dialect v t →
+    from ≤ length text → HasTokens text from (value_tokens v) end
     → (items_from text (way_to t edge) (leaf_at t edge) from).cells ≡ flat t 0 (v ∷ []) edge
 
 -- the items of a source at an edge of the type are of the kind of the edge

@@ -38,5 +38,11 @@ drained old by_a by_b hs held later i (Some m) low taken ahead some succeeds =
 -- so many of what comes first were taken, and the rest comes still
 pub skipped : (n : ℕ) (first rest hs now : List Msg) → n ≤ length first → hs ≡ first ++ rest → now ≡ drop n first ++ rest → (take n first ≡ take n hs) × IsPrefix hs (take n hs ++ now)
 skipped n first rest hs now low is now_is =
-    let same : take n hs ≡ take n first = ap (take n) is ∙ take-append-le n first rest low in
-    (sym same, ([], append-nil hs ∙ is ∙ ap (λ l. l ++ rest) (sym (take-append-drop n first)) ∙ append_assoc (take n first) (drop n first) rest ∙ ap (λ l. take n first ++ l) (sym now_is) ∙ ap (λ l. l ++ now) (sym same)))
+    let same : take n hs ≡ take n first = ap (take n) is ∙ take-append-le n first rest low in (
+      sym same,
+      (
+        [],
+        append-nil hs ∙ is ∙ ap (λ l. l ++ rest) (sym (take-append-drop n first)) ∙ append_assoc (take n first) (drop n first) rest
+            ∙ ap (λ l. take n first ++ l) (sym now_is) ∙ ap (λ l. l ++ now) (sym same),
+      ),
+    )

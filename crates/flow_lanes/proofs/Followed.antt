@@ -1,5 +1,6 @@
 -- Many messages put one after another.
-use Rattle.std.proofs.Common.{◌≡◌, ℕ, ◌+◌, ◌<◌, ◌≤◌, ◌↔◌, true, false, cond, List, [], ◌∷◌, ◌++◌, length, take, get_or, ap, sym, ◌∙◌, arith, add-one, append_assoc, append-nil, length-append, inl, inr, ◌⊎◌}
+use Rattle.std.proofs.Common.{◌≡◌, ℕ, ◌+◌, ◌<◌, ◌≤◌, ◌↔◌, true, false, cond, List, [], ◌∷◌, ◌++◌, length, take, get_or, ap, sym, ◌∙◌, arith, add-one}
+use Rattle.std.proofs.Common.{append_assoc, append-nil, length-append, inl, inr, ◌⊎◌}
 use Rattle.std.proofs.Math.Seq.{take-suc}
 use Rattle.std.proofs.lemmas.List.{map-append, replicate-append-replicate}
 use Rattle.std.proofs.lemmas.Bool.{cases_Bool}
@@ -46,7 +47,10 @@ followed_more before ms ns no_end = by_end (cases_Bool (ended (signals before)))
       ap (λ l. followed_unless_ended l ns) (followed_free before ms free) ∙ followed_free (before ++ ms) ns still ∙ append_assoc before ms ns ∙ sym (followed_free before (ms ++ ns) free)
 
 -- what a put of one message leaves, where room was certain
-pub followed_one : (before after : List Msg) (m : Msg) (room left : ℕ) (r : Result (Unit {0}) Refused) → 0 < room → OnOk r ((after ≡ before ++ m ∷ []) × (room ≤ left + 1)) → IfErr r (λ e. (e.message ≡ m) × (after ≡ before) × (room ≤ left)) → IsErrAnd r (λ e. e.why ≡ Closed) ↔ (ended (signals before) ≡ true) → (ended (signals before) ≡ false → 0 < room → IsOk r) → (after ≡ followed_unless_ended before (m ∷ [])) × (room ≤ left + 1)
+pub followed_one : (before after : List Msg) (m : Msg) (room left : ℕ) (r : Result (Unit {0}) Refused) → 0 < room →
+    OnOk r ((after ≡ before ++ m ∷ []) × (room ≤ left + 1)) → IfErr r (λ e. (e.message ≡ m) × (after ≡ before) × (room ≤ left)) →
+    IsErrAnd r (λ e. e.why ≡ Closed) ↔ (ended (signals before) ≡ true) → (ended (signals before) ≡ false → 0 < room → IsOk r) →
+    (after ≡ followed_unless_ended before (m ∷ [])) × (room ≤ left + 1)
 followed_one before after m room left (Ok x) some ok refused closed succeeds = by_end (cases_Bool (ended (signals before))) where
   by_end : (ended (signals before) ≡ true) ⊎ (ended (signals before) ≡ false) → (after ≡ followed_unless_ended before (m ∷ [])) × (room ≤ left + 1)
   by_end (inl shut) = absurd (closed.1 shut)

@@ -16,7 +16,8 @@ use Rattle.flow_rings.specs.declared.ring.Held.{Held}
 use Rattle.flow_lanes.specs.declared.rings.Rings.{Rings}
 use Rattle.flow_lanes.specs.Lane.{sent, received, certain_room, certain_held, edge_capacity, IsLane, IsOut, SameWriter, SameReader}
 use Rattle.flow_lanes.specs.SameLanes.{lane_stays, same_kind, same_capacity}
-use Rattle.flow_lanes.specs.Rings.{kind_seen, sent_of, room_of, writes_of, received_of, coming_of, reads_of, capacity_of, ends_of, writer_at, reader_at, capacity_at, OutOf, SameWriters, SameReaders, SameRings, Joins, Kept, RingsHaveMet}
+use Rattle.flow_lanes.specs.Rings.{kind_seen, sent_of, room_of, writes_of, received_of, coming_of, reads_of, capacity_of, ends_of, writer_at}
+use Rattle.flow_lanes.specs.Rings.{reader_at, capacity_at, OutOf, SameWriters, SameReaders, SameRings, Joins, Kept, RingsHaveMet}
 use Rattle.flow_words.specs.Edge as words
 use Rattle.flow_lanes.proofs.Beside.{all_orderly}
 use Rattle.flow_lanes.proofs.RingLines.{signals-append}
@@ -72,13 +73,16 @@ pub met_here : (ws : List (Option LaneWriter)) (rs : List (Option LaneReader)) (
     → received r ++ certain_held r ≡ sent w → found.count ≡ length (certain_held r) → found.room ≤ certain_room w → found.count + found.room ≡ edge_capacity w → IsOut w
     → RingsHaveMet a b e found
 met_here ws rs a b e w r found hw hr is-a is-b fifo count room whole out =
-    let coming : at_line coming_of b.readers.items e [] ≡ signals (certain_held r) = ap (λ (l : List (Option LaneReader)). at_line coming_of l e []) is-b ∙ at_line-same coming_of rs e [] (Some r) hr in
-    let taken : at_line received_of b.readers.items e [] ≡ signals (received r) = ap (λ (l : List (Option LaneReader)). at_line received_of l e []) is-b ∙ at_line-same received_of rs e [] (Some r) hr in
+    let coming : at_line coming_of b.readers.items e [] ≡ signals (certain_held r) =
+    ap (λ (l : List (Option LaneReader)). at_line coming_of l e []) is-b ∙ at_line-same coming_of rs e [] (Some r) hr in
+    let taken : at_line received_of b.readers.items e [] ≡ signals (received r) =
+    ap (λ (l : List (Option LaneReader)). at_line received_of l e []) is-b ∙ at_line-same received_of rs e [] (Some r) hr in
     let put : at_line sent_of a.writers.items e [] ≡ signals (sent w) = ap (λ (l : List (Option LaneWriter)). at_line sent_of l e []) is-a ∙ at_line-same sent_of ws e [] (Some w) hw in
     let free : at_line room_of a.writers.items e 0 ≡ certain_room w = ap (λ (l : List (Option LaneWriter)). at_line room_of l e 0) is-a ∙ at_line-same room_of ws e 0 (Some w) hw in
     let places : at_line capacity_of a.writers.items e 0 ≡ edge_capacity w = ap (λ (l : List (Option LaneWriter)). at_line capacity_of l e 0) is-a ∙ at_line-same capacity_of ws e 0 (Some w) hw in
     record {
-      in_order = ap (λ xs. xs ++ at_line coming_of b.readers.items e []) taken ∙ ap (λ xs. signals (received r) ++ xs) coming ∙ sym (signals-append (received r) (certain_held r)) ∙ ap signals fifo ∙ sym put;
+      in_order = ap (λ xs. xs ++ at_line coming_of b.readers.items e []) taken ∙ ap (λ xs. signals (received r) ++ xs) coming
+          ∙ sym (signals-append (received r) (certain_held r)) ∙ ap signals fifo ∙ sym put;
       count = count ∙ sym (signals-length (certain_held r)) ∙ sym (ap length coming);
       room = omega (arith, free, room);
       whole = whole ∙ sym places;

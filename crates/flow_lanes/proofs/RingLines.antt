@@ -32,11 +32,13 @@ signals-prefix ms ns p = (signals p.0, sym (signals-append ms p.0) ∙ ap signal
 -- what many puts leave says what they say, and what was put before
 signals-followed : (before ms : List Msg) → signals (followed_unless_ended before ms) ≡ cond (ended (signals before)) (signals before) (signals before ++ signals ms)
 signals-followed before ms = by_end (cases_Bool (ended (signals before))) where
-  by_end : (ended (signals before) ≡ true) ⊎ (ended (signals before) ≡ false) → signals (followed_unless_ended before ms) ≡ cond (ended (signals before)) (signals before) (signals before ++ signals ms)
+  by_end : (ended (signals before) ≡ true) ⊎ (ended (signals before) ≡ false) → signals (followed_unless_ended before ms)
+      ≡ cond (ended (signals before)) (signals before) (signals before ++ signals ms)
   by_end (inl shut) = ap signals (followed_shut before ms shut) ∙ sym (ap (λ b. cond b (signals before) (signals before ++ signals ms)) shut)
   by_end (inr free) = ap signals (followed_free before ms free) ∙ signals-append before ms ∙ sym (ap (λ b. cond b (signals before) (signals before ++ signals ms)) free)
 
-module _ (ws : List (Option LaneWriter)) (rs : List (Option LaneReader)) (e : ℕ) (old : Option LaneWriter) (w v : LaneWriter) (h : e < length ws) (is : old ≡ get_or ws e old) (was : old ≡ Some w) (alike : SameWriter w v) where
+module _ (ws : List (Option LaneWriter)) (rs : List (Option LaneReader)) (e : ℕ) (old : Option LaneWriter) (w v : LaneWriter) (h : e < length ws)
+    (is : old ≡ get_or ws e old) (was : old ≡ Some w) (alike : SameWriter w v) where
   abbrev before : View
   before = view_of_rings ws rs
 
@@ -44,7 +46,12 @@ module _ (ws : List (Option LaneWriter)) (rs : List (Option LaneReader)) (e : �
   after = view_of_rings (set ws e (Some v)) rs
 
   writer_ends : SameEnds before after
-  writer_ends = record { kinds = at_line-kept kind_seen ws e None old (Some v) h is (same_kind w v alike ∙ sym (ap kind_seen was)); writes = at_line-kept writes_of ws e false old (Some v) h is (sym (ap writes_of was)); reads = λ k. refl }
+  writer_ends = record {
+    kinds = at_line-kept kind_seen ws e None old (Some v) h is (same_kind w v alike ∙ sym (ap kind_seen was));
+    writes =
+        at_line-kept writes_of ws e false old (Some v) h is (sym (ap writes_of was));
+    reads = λ k. refl;
+  }
 
   pub writer-room : after.room e ≡ certain_room v
   writer-room = at_line-same room_of ws e 0 (Some v) h
@@ -94,16 +101,44 @@ module _ (ws : List (Option LaneWriter)) (rs : List (Option LaneReader)) (e : �
   -- where all that counts of the writer is as it was, the view is too
   pub writer-kept : sent v ≡ sent w → certain_room v ≡ certain_room w → after ≡ before
   writer-kept put room =
-      let by_sent : (ℕ → List Signal) → View = λ s. record { sent = s; received = before.received; coming = before.coming; room = after.room; kind = after.kind; writes = after.writes; reads = before.reads } in
+      let by_sent : (ℕ → List Signal) → View =
+      λ s. record {
+        sent = s;
+        received = before.received;
+        coming = before.coming;
+        room = after.room;
+        kind = after.kind;
+        writes = after.writes;
+        reads = before.reads;
+      } in
       let by_room : (ℕ → ℕ) → View = λ r. record { sent = before.sent; received = before.received; coming = before.coming; room = r; kind = after.kind; writes = after.writes; reads = before.reads } in
-      let by_kind : (ℕ → Option Kind) → View = λ k. record { sent = before.sent; received = before.received; coming = before.coming; room = before.room; kind = k; writes = after.writes; reads = before.reads } in
-      let by_writes : (ℕ → Bool) → View = λ t. record { sent = before.sent; received = before.received; coming = before.coming; room = before.room; kind = before.kind; writes = t; reads = before.reads } in
+      let by_kind : (ℕ → Option Kind) → View =
+      λ k. record {
+        sent = before.sent;
+        received = before.received;
+        coming = before.coming;
+        room = before.room;
+        kind = k;
+        writes = after.writes;
+        reads = before.reads;
+      } in
+      let by_writes : (ℕ → Bool) → View =
+      λ t. record {
+        sent = before.sent;
+        received = before.received;
+        coming = before.coming;
+        room = before.room;
+        kind = before.kind;
+        writes = t;
+        reads = before.reads;
+      } in
       ap by_sent (fun_ext (at_line-kept sent_of ws e [] old (Some v) h is (ap signals put ∙ sym (ap sent_of was))))
       ∙ ap by_room (fun_ext (at_line-kept room_of ws e 0 old (Some v) h is (room ∙ sym (ap room_of was))))
       ∙ ap by_kind (fun_ext writer_ends.kinds)
       ∙ ap by_writes (fun_ext writer_ends.writes)
 
-module _ (ws : List (Option LaneWriter)) (rs : List (Option LaneReader)) (e : ℕ) (old : Option LaneReader) (r v : LaneReader) (h : e < length rs) (is : old ≡ get_or rs e old) (was : old ≡ Some r) where
+module _ (ws : List (Option LaneWriter)) (rs : List (Option LaneReader)) (e : ℕ) (old : Option LaneReader) (r v : LaneReader) (h : e < length rs)
+    (is : old ≡ get_or rs e old) (was : old ≡ Some r) where
   abbrev from : View
   from = view_of_rings ws rs
 

@@ -16,7 +16,8 @@ use Rattle.flow_lanes.specs.declared.pocket.Pocket.{Pocket}
 use Rattle.flow_lanes.specs.Credits.{credit}
 use Rattle.flow_lanes.proofs.Lists.{credit-prefix}
 
-module _ (w : CountedWriter) (p : Pocket) (met_writer : WordWriter) (met_reader : WordReader) (sent_same : sent met_writer ≡ sent w.edge) (received_same : received met_reader ≡ received p.edge) (fifo : received met_reader ++ certain_held met_reader ≡ sent met_writer) where
+module _ (w : CountedWriter) (p : Pocket) (met_writer : WordWriter) (met_reader : WordReader) (sent_same : sent met_writer ≡ sent w.edge)
+    (received_same : received met_reader ≡ received p.edge) (fifo : received met_reader ++ certain_held met_reader ≡ sent met_writer) where
   abbrev taken : ℕ
   taken = length (received_of p.inbox)
 
@@ -25,7 +26,16 @@ module _ (w : CountedWriter) (p : Pocket) (met_writer : WordWriter) (met_reader 
 
   -- what is held is what was put and not taken
   pub all_held : taken + held ≡ length (sent w.edge)
-  all_held = omega (arith, sent_length p.inbox.arrived.items (content_of p.inbox.store) p.inbox.fifo, ap length p.arrived, ap length p.all, ap length received_same, ap length sent_same, ap length fifo, length-append (received met_reader) (certain_held met_reader))
+  all_held = omega (
+    arith,
+    sent_length p.inbox.arrived.items (content_of p.inbox.store) p.inbox.fifo,
+    ap length p.arrived,
+    ap length p.all,
+    ap length received_same,
+    ap length sent_same,
+    ap length fifo,
+    length-append (received met_reader) (certain_held met_reader),
+  )
 
   -- what has arrived in the pocket once it holds all is what was put
   pub gathered : (i : Inbox) → HasCome (certain_held met_reader) p.inbox i → i.arrived.items ≡ sent met_writer

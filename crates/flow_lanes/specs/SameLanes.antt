@@ -55,7 +55,11 @@ same_reader_trans (ScalarsFrom a) (ScalarsFrom b) (MessagesFrom c) p q = absurd 
 -- the ends of a lane stay so
 pub lane_stays : (w v : LaneWriter) (r s : LaneReader) → IsLane w r → SameWriter w v → SameReader r s → IsLane v s
 lane_stays (MessagesTo w) (MessagesTo v) (MessagesFrom r) (MessagesFrom s) joined p q = edge_stays w v r s joined p q
-lane_stays (ScalarsTo w) (ScalarsTo v) (ScalarsFrom r) (ScalarsFrom s) joined p q = (words_stay w.edge v.edge r.edge s.edge joined.0 p.0 q.0, edge_stays r.back s.back w.back v.back joined.1 q.1 p.1, omega (arith, joined.2, p.0.1, q.2))
+lane_stays (ScalarsTo w) (ScalarsTo v) (ScalarsFrom r) (ScalarsFrom s) joined p q = (
+  words_stay w.edge v.edge r.edge s.edge joined.0 p.0 q.0,
+  edge_stays r.back s.back w.back v.back joined.1 q.1 p.1,
+  omega (arith, joined.2, p.0.1, q.2),
+)
 lane_stays (MessagesTo w) v (ScalarsFrom r) s joined p q = absurd joined
 lane_stays (ScalarsTo w) v (MessagesFrom r) s joined p q = absurd joined
 lane_stays (MessagesTo w) (ScalarsTo v) (MessagesFrom r) s joined p q = absurd p

@@ -67,7 +67,16 @@ module _ {X : Type 0} {t : Ghosts X} (capacity : ℕ) (share : List ℕ) (edges 
 
   pub at_rest : AtRest t.behaviour.process (net_of nodes edges) (Some capacity) c
   at_rest (Reads e m) (l, wants, (rest, is)) =
-      absurd (omega (arith, sent_count e l, received_count e l, met_held _ _ _ _ (met e l), nothing_comes e l wants, ap length is, length-append (c.received e ++ m ∷ []) rest, length_push (c.received e) m))
+      absurd (omega (
+        arith,
+        sent_count e l,
+        received_count e l,
+        met_held _ _ _ _ (met e l),
+        nothing_comes e l wants,
+        ap length is,
+        length-append (c.received e ++ m ∷ []) rest,
+        length_push (c.received e) m,
+      ))
   at_rest (Writes e m) (l, wants, is, room) = absurd (omega (arith, sent_count e l, received_count e l, (met e l).room, no_room e l wants, room))
 
 pub stuck_shares_rest : {X : Type 0} (t : Ghosts X) → StuckSharesRest t

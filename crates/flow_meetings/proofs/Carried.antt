@@ -14,7 +14,8 @@ use Rattle.flow_meetings.proofs.Views.{sent_at, received_at, none_sent, none_rec
 
 -- it is enough that nothing was sent or received at the ends of each edge
 module _ (share : List ℕ) (edges : List Edge) (view_at after : ℕ → View)
-    (writers : (e : ℕ) → e < length edges → SameTraffic (writer_view share edges view_at e) (writer_view share edges after e)) (readers : (e : ℕ) → e < length edges → SameTraffic (reader_view share edges view_at e) (reader_view share edges after e)) where
+    (writers : (e : ℕ) → e < length edges → SameTraffic (writer_view share edges view_at e) (writer_view share edges after e))
+    (readers : (e : ℕ) → e < length edges → SameTraffic (reader_view share edges view_at e) (reader_view share edges after e)) where
   same_sent : (e : ℕ) → ((e < length edges) ⊎ (length edges ≤ e)) → (end_view share edges after).sent e ≡ (end_view share edges view_at).sent e
   same_sent e (inl l) = sent_at share edges after e l ∙ (writers e l).sent e ∙ sym (sent_at share edges view_at e l)
   same_sent e (inr above) = none_sent share edges after e above ∙ sym (none_sent share edges view_at e above)

@@ -44,8 +44,10 @@ rows_apart {A} row of port name (x ∷ xs) at one k j p q l m same =
         go (inl low) = low
         go (inr past) = absurd (omega (arith, inside, ap length (get_or_past (map row (x ∷ xs)) i [] (omega (arith, past, length-map (x ∷ xs) row)))))
 
-module _ {X : Type 0} {t : Ghosts X} (share : List ℕ) (edges : List Edge) (nodes : List (Placed X t)) (fit : FitTogether nodes edges) (opened : AreOpened t.behaviour (states_in nodes)) (owners : List EdgeOwners) (are : AreOwners share edges owners)
-    (dealt : List (List (Placed X t))) (just : AreJustDealt share nodes dealt) (capacity s : ℕ) (there : s < length dealt) (v : View) (fresh : HasFreshEnds owners (edge_kinds t.behaviour (states_in nodes) edges) capacity s v) where
+module _ {X : Type 0} {t : Ghosts X} (share : List ℕ) (edges : List Edge) (nodes : List (Placed X t)) (fit : FitTogether nodes edges)
+    (opened : AreOpened t.behaviour (states_in nodes)) (owners : List EdgeOwners) (are : AreOwners share edges owners)
+    (dealt : List (List (Placed X t))) (just : AreJustDealt share nodes dealt) (capacity s : ℕ) (there : s < length dealt) (v : View)
+    (fresh : HasFreshEnds owners (edge_kinds t.behaviour (states_in nodes) edges) capacity s v) where
   abbrev kinds : List Kind
   kinds = edge_kinds t.behaviour (states_in nodes) edges
 
@@ -117,7 +119,8 @@ module _ {X : Type 0} {t : Ghosts X} (share : List ℕ) (edges : List Edge) (nod
       kind_is : kind_at kinds (get_or x.outputs.items q 0) ≡ t.behaviour.kind_out (t.behaviour.opening (placed_state x)) q
       kind_is =
           let e = get_or x.outputs.items q 0 in
-          get_or-map (λ (edge : Edge). t.behaviour.kind_out (state_at t.behaviour (states_in nodes) edge.writer) edge.writer_port) edges e (record { writer = 0; writer_port = 0; reader = 0; reader_port = 0 }) UnitKind output_at.0
+          get_or-map (λ (edge : Edge). t.behaviour.kind_out (state_at t.behaviour (states_in nodes) edge.writer) edge.writer_port) edges e
+          (record { writer = 0; writer_port = 0; reader = 0; reader_port = 0 }) UnitKind output_at.0
           ∙ ap (λ j. t.behaviour.kind_out (state_at t.behaviour (states_in nodes) j) (edge_at edges e).writer_port) output_at.1
           ∙ ap (t.behaviour.kind_out (state_at t.behaviour (states_in nodes) k)) output_at.2
           ∙ ap (λ state. t.behaviour.kind_out state q) (sym (state_here nodes k x low is) ∙ sym is_opened)

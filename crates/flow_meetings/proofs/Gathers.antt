@@ -18,7 +18,8 @@ use Rattle.flow_meetings.specs.SharedNetworks.{SharedNetwork}
 use Rattle.flow_meetings.proofs.Lists.{mapped_twice}
 
 module _ {X Y : Type 0} {t : Ghosts X} {u : EndsGhosts Y} (network : SharedNetwork t) (shares : List (Share X Y t u)) (deals : AreDealt network.share network.nodes (nodes_in shares))
-    (share : List ℕ) (named : share ≡ network.share) (lists : List (List (Placed X t))) (taken : lists ≡ nodes_in shares) (gathered : List (Placed X t)) (gives : AreJustDealt share gathered lists) (keeps : AreSameAsDealt share lists gathered) where
+    (share : List ℕ) (named : share ≡ network.share) (lists : List (List (Placed X t))) (taken : lists ≡ nodes_in shares)
+    (gathered : List (Placed X t)) (gives : AreJustDealt share gathered lists) (keeps : AreSameAsDealt share lists gathered) where
   just : AreJustDealt network.share gathered (nodes_in shares)
   just = subst (λ l. AreJustDealt network.share gathered l) taken (subst (λ s. AreJustDealt s gathered lists) named gives)
 

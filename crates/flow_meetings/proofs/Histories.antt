@@ -48,7 +48,8 @@ module _ {X : Type 0} {t : Ghosts X} where
           (moved.sent at.i at.p d at.inside stands.inside ∙ ap (λ h. a.sent (edge_of (outputs_of (get_or nodes at.i d)) at.p) ++ writes at.p h) (none at.i at.inside) ∙ append-nil _)
       sent e (inr away) = moved.other_sent e away
 
-module _ {X : Type 0} {t : Ghosts X} (share : List ℕ) (nodes : List (Placed X t)) (dealt later : List (List (Placed X t))) (deals : AreDealt share nodes dealt) (boxes after : List Contents) (gone : HaveGoneOn dealt later boxes after) where
+module _ {X : Type 0} {t : Ghosts X} (share : List ℕ) (nodes : List (Placed X t)) (dealt later : List (List (Placed X t)))
+    (deals : AreDealt share nodes dealt) (boxes after : List Contents) (gone : HaveGoneOn dealt later boxes after) where
   -- what the nodes of share s did, and nothing where there is no such share
   abbrev did : (s : ℕ) → (s < length dealt) ⊎ (length dealt ≤ s) → ℕ → List (Event Signal)
   did s (inl there) = (gone.moved s there).history
@@ -62,7 +63,8 @@ module _ {X : Type 0} {t : Ghosts X} (share : List ℕ) (nodes : List (Placed X 
   history_of k = done (share_of share k) (deals.place k)
 
   -- what is so of the histories of share s
-  of_share : (s : ℕ) → s < length dealt → (Q : (ℕ → List (Event Signal)) → Type 0) → ((moved : HaveMoved (nodes_at dealt s) (nodes_at later s) (boxes_at boxes s).ends (boxes_at after s).ends) → Q moved.history) → Q (done s)
+  of_share : (s : ℕ) → s < length dealt → (Q : (ℕ → List (Event Signal)) → Type 0) →
+      ((moved : HaveMoved (nodes_at dealt s) (nodes_at later s) (boxes_at boxes s).ends (boxes_at after s).ends) → Q moved.history) → Q (done s)
   of_share s inside Q each = at (cases_lt s (length dealt))
     where
       at : (which : (s < length dealt) ⊎ (length dealt ≤ s)) → Q (did s which)
@@ -93,12 +95,17 @@ module _ {X : Type 0} {t : Ghosts X} (share : List ℕ) (nodes : List (Placed X 
           let here = deals.inside k l in
           let same : still.place k ≡ i = same_place edges nodes fit share dealt deals later gone.places still k l in
           let after_is : state_at t.behaviour states' k ≡ placed_state (get_or (nodes_at later s) i d) = are'.each k d l ∙ ap (λ j. placed_state (get_or (nodes_at later s) j d)) same in
-          let does : Does t.behaviour.process (placed_state (get_or (nodes_at dealt s) i d)) (history_of k) (placed_state (get_or (nodes_at later s) i d)) = of_share s here.0 (λ h. Does t.behaviour.process (placed_state (get_or (nodes_at dealt s) i d)) (h i) (placed_state (get_or (nodes_at later s) i d))) (λ moved. moved.does i d here.1) in
-          subst (λ x. Does t.behaviour.process x (history_of k) (state_at t.behaviour states' k)) (sym (are.each k d l)) (subst (λ y. Does t.behaviour.process (placed_state (get_or (nodes_at dealt s) i d)) (history_of k) y) (sym after_is) does)
+          let does : Does t.behaviour.process (placed_state (get_or (nodes_at dealt s) i d)) (history_of k)
+          (placed_state (get_or (nodes_at later s) i d)) =
+          of_share s here.0 (λ h. Does t.behaviour.process (placed_state (get_or (nodes_at dealt s) i d)) (h i)
+          (placed_state (get_or (nodes_at later s) i d))) (λ moved. moved.does i d here.1) in
+          subst (λ x. Does t.behaviour.process x (history_of k) (state_at t.behaviour states' k)) (sym (are.each k d l))
+          (subst (λ y. Does t.behaviour.process (placed_state (get_or (nodes_at dealt s) i d)) (history_of k) y) (sym after_is) does)
 
     module _ (e : ℕ) (l : e < length edges) where
       -- what came to the edge by its reader and by its writer
-      pub received_own : (reader_boxes share edges after e).ends.received e ≡ (reader_boxes share edges boxes e).ends.received e ++ reads (edge_at edges e).reader_port (history_of (edge_at edges e).reader)
+      pub received_own : (reader_boxes share edges after e).ends.received e ≡ (reader_boxes share edges boxes e).ends.received e
+          ++ reads (edge_at edges e).reader_port (history_of (edge_at edges e).reader)
       received_own =
           let k = (edge_at edges e).reader in
           let p = (edge_at edges e).reader_port in
@@ -107,7 +114,9 @@ module _ {X : Type 0} {t : Ghosts X} (share : List ℕ) (nodes : List (Placed X 
           let here = deals.inside k inside in
           let stands = seat_reads edges nodes fit share dealt deals e l d in
           subst (λ f. (reader_boxes share edges after e).ends.received f ≡ (reader_boxes share edges boxes e).ends.received f ++ reads p (history_of k)) stands.is
-          (of_share (share_of share k) here.0 (λ h. (reader_boxes share edges after e).ends.received _ ≡ (reader_boxes share edges boxes e).ends.received _ ++ reads p (h (deals.place k))) (λ moved. moved.received (deals.place k) p d here.1 stands.inside))
+          (of_share (share_of share k) here.0
+          (λ h. (reader_boxes share edges after e).ends.received _ ≡ (reader_boxes share edges boxes e).ends.received _
+          ++ reads p (h (deals.place k))) (λ moved. moved.received (deals.place k) p d here.1 stands.inside))
 
       pub sent_own : (writer_boxes share edges after e).ends.sent e ≡ (writer_boxes share edges boxes e).ends.sent e ++ writes (edge_at edges e).writer_port (history_of (edge_at edges e).writer)
       sent_own =
@@ -118,7 +127,9 @@ module _ {X : Type 0} {t : Ghosts X} (share : List ℕ) (nodes : List (Placed X 
           let here = deals.inside k inside in
           let stands = seat_writes edges nodes fit share dealt deals e l d in
           subst (λ f. (writer_boxes share edges after e).ends.sent f ≡ (writer_boxes share edges boxes e).ends.sent f ++ writes q (history_of k)) stands.is
-          (of_share (share_of share k) here.0 (λ h. (writer_boxes share edges after e).ends.sent _ ≡ (writer_boxes share edges boxes e).ends.sent _ ++ writes q (h (deals.place k))) (λ moved. moved.sent (deals.place k) q d here.1 stands.inside))
+          (of_share (share_of share k) here.0
+          (λ h. (writer_boxes share edges after e).ends.sent _ ≡ (writer_boxes share edges boxes e).ends.sent _ ++ writes q (h (deals.place k)))
+          (λ moved. moved.sent (deals.place k) q d here.1 stands.inside))
 
       kept_reader : KeepsRound (reader_boxes share edges boxes e) (reader_boxes share edges after e)
       kept_reader = gone.kept (share_of share (edge_at edges e).reader) (deals.inside (edge_at edges e).reader (reader_inside edges nodes fit e l)).0
@@ -128,14 +139,18 @@ module _ {X : Type 0} {t : Ghosts X} (share : List ℕ) (nodes : List (Placed X 
 
       module _ (capacity : ℕ) (met : BoxesHaveMet share edges boxes capacity) where
         -- what was read had come before the round
-        pub had_come : Begins ((reader_boxes share edges boxes e).ends.received e ++ reads (edge_at edges e).reader_port (history_of (edge_at edges e).reader)) ((writer_boxes share edges boxes e).ends.sent e)
+        pub had_come : Begins
+            ((reader_boxes share edges boxes e).ends.received e ++ reads (edge_at edges e).reader_port (history_of (edge_at edges e).reader))
+            ((writer_boxes share edges boxes e).ends.sent e)
         had_come = (
           (reader_boxes share edges after e).ends.coming e,
           ap (λ l. l ++ (reader_boxes share edges after e).ends.coming e) (sym received_own) ∙ sym (kept_reader.arrived e) ∙ (met.carried e l).arrived,
         )
 
         -- what was written found room without what was read in the round
-        pub found_room : length ((writer_boxes share edges boxes e).ends.sent e ++ writes (edge_at edges e).writer_port (history_of (edge_at edges e).writer)) - length ((reader_boxes share edges boxes e).ends.received e) ≤ capacity
+        pub found_room : length
+            ((writer_boxes share edges boxes e).ends.sent e ++ writes (edge_at edges e).writer_port (history_of (edge_at edges e).writer)) - length
+            ((reader_boxes share edges boxes e).ends.received e) ≤ capacity
         found_room =
             let r = (reader_boxes share edges boxes e).ends in
             omega (arith, ap length sent_own, kept_writer.places e, (met.carried e l).room, met.capacity e l, ap length (met.carried e l).arrived, length-append (r.received e) (r.coming e))

@@ -16,7 +16,8 @@ written_back now old n even long =
     ∙ ap (take n) (append-nil now) ∙ take_all n now (omega (arith, even, long))
 
 -- what holds place by place holds of two lists of one length
-pub all_zipped : {A B : Type 0} (R : A → B → Type 0) (xs : List A) (ys : List B) → length ys ≡ length xs → ((k : ℕ) (x : A) (y : B) → k < length xs → R (get_or xs k x) (get_or ys k y)) → AllZip R xs ys
+pub all_zipped : {A B : Type 0} (R : A → B → Type 0) (xs : List A) (ys : List B) → length ys ≡ length xs →
+    ((k : ℕ) (x : A) (y : B) → k < length xs → R (get_or xs k x) (get_or ys k y)) → AllZip R xs ys
 all_zipped R [] [] long each = tt
 all_zipped R [] (y ∷ ys) long each = absurd (omega (arith, long))
 all_zipped R (x ∷ xs) [] long each = absurd (omega (arith, long))

@@ -57,7 +57,9 @@ module _ {X Y : Type 0} {t : Ghosts X} {u : EndsGhosts Y} where
         go (inl at) =
             subst (λ (i : ℕ). IsLookedAt (get_or shares s d) (get_or (set mid k y) i d)) (sym at)
             (subst (λ (z : Share X Y t u). IsLookedAt (get_or shares s d) z) (sym (now_is d))
-            (looked_then (get_or shares s d) x y (subst (λ (z : Share X Y t u). IsLookedAt (get_or shares s d) z) (it_is d) (subst (λ (i : ℕ). IsLookedAt (get_or shares s d) (get_or mid i d)) at before)) one))
+            (looked_then (get_or shares s d) x y
+            (subst (λ (z : Share X Y t u). IsLookedAt (get_or shares s d) z) (it_is d)
+            (subst (λ (i : ℕ). IsLookedAt (get_or shares s d) (get_or mid i d)) at before)) one))
         go (inr other) = subst (λ (z : Share X Y t u). IsLookedAt (get_or shares s d) z) (sym (get_or-set_other mid k s y d other)) before
 
     pub looked_next : AreLookedAt shares (set mid k y)

@@ -63,14 +63,19 @@ module _ {X : Type 0} {t : Ghosts X} (share : List ℕ) (edges : List Edge) (nod
   reached_at : (k : ℕ) (d : Placed X t) → k < length nodes → HasHistory (view_at (share_of share k)) (seat edges nodes fit share dealt deals k d) → IsReached t.behaviour.process net c k
   reached_at k d l has = record {
     history = has.history;
-    does = subst (λ s. Does t.behaviour.process s has.history (c.state k)) (sym (opening_is k d l)) (subst (λ s. Does t.behaviour.process (t.behaviour.opening (placed_state x)) has.history s) (sym (are.each k d l)) has.does);
+    does = subst (λ s. Does t.behaviour.process s has.history (c.state k)) (sym (opening_is k d l))
+        (subst (λ s. Does t.behaviour.process (t.behaviour.opening (placed_state x)) has.history s) (sym (are.each k d l)) has.does);
     received = λ e low at.
-        let stands : StandsAt (inputs_of x) (net.reader_port e) e = subst (λ j. StandsAt (inputs_of (seat edges nodes fit share dealt deals j d)) (net.reader_port e) e) at (seat_reads edges nodes fit share dealt deals e low d) in
+        let stands : StandsAt (inputs_of x) (net.reader_port e) e =
+        subst (λ j. StandsAt (inputs_of (seat edges nodes fit share dealt deals j d)) (net.reader_port e) e) at
+        (seat_reads edges nodes fit share dealt deals e low d) in
         received_at share edges view_at e low
         ∙ ap (λ j. (view_at (share_of share j)).received e) at
         ∙ subst (λ f. view.received f ≡ reads (net.reader_port e) has.history) stands.is (has.received (net.reader_port e) stands.inside);
     sent = λ e low at.
-        let stands : StandsAt (outputs_of x) (net.writer_port e) e = subst (λ j. StandsAt (outputs_of (seat edges nodes fit share dealt deals j d)) (net.writer_port e) e) at (seat_writes edges nodes fit share dealt deals e low d) in
+        let stands : StandsAt (outputs_of x) (net.writer_port e) e =
+        subst (λ j. StandsAt (outputs_of (seat edges nodes fit share dealt deals j d)) (net.writer_port e) e) at
+        (seat_writes edges nodes fit share dealt deals e low d) in
         sent_at share edges view_at e low
         ∙ ap (λ j. (view_at (share_of share j)).sent e) at
         ∙ subst (λ f. view.sent f ≡ writes (net.writer_port e) has.history) stands.is (has.sent (net.writer_port e) stands.inside);

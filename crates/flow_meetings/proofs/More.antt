@@ -34,7 +34,8 @@ or_none true = refl
 or_none false = refl
 
 -- an end is there where it is named
-named : (f : EdgeOwners → ℕ) (owners : List EdgeOwners) (s e : ℕ) (w : EdgeOwners) (there : ℕ → Bool) → ((k : ℕ) → there k ≡ at_line (λ owner. f owner == s) owners k false) → e < length owners → f (get_or owners e w) ≡ s → there e ≡ true
+named : (f : EdgeOwners → ℕ) (owners : List EdgeOwners) (s e : ℕ) (w : EdgeOwners) (there : ℕ → Bool) →
+    ((k : ℕ) → there k ≡ at_line (λ owner. f owner == s) owners k false) → e < length owners → f (get_or owners e w) ≡ s → there e ≡ true
 named f owners s e w there is inside at = is e ∙ get_or-map (λ owner. f owner == s) owners e w false inside ∙ eq-eqb (f (get_or owners e w)) s at
 
 module _ (owners : List EdgeOwners) (kinds : List Kind) (capacity s e : ℕ) (w : EdgeOwners) (v : View) (fresh : HasFreshEnds owners kinds capacity s v) (inside : e < length owners) where
@@ -55,10 +56,12 @@ fresh_met a b capacity e sent room received coming = record {
 
 -- The edge n is opened, of which the writer's end comes where x.
 module _ (n : ℕ) (x : Bool) (wa wb : ℕ → Bool) (elsewhere : (k : ℕ) → k ≢ n → wb k ≡ wa k) where
-  now_there : (f : EdgeOwners → Bool) (owners : List EdgeOwners) (owner : EdgeOwners) → length owners ≡ n → f owner ≡ x → wb n ≡ cond x true (wa n) → ((k : ℕ) → wa k ≡ at_line f owners k false) → (k : ℕ) → wb k ≡ at_line f (owners ++ owner ∷ []) k false
+  now_there : (f : EdgeOwners → Bool) (owners : List EdgeOwners) (owner : EdgeOwners) → length owners ≡ n → f owner ≡ x → wb n ≡ cond x true (wa n) →
+      ((k : ℕ) → wa k ≡ at_line f owners k false) → (k : ℕ) → wb k ≡ at_line f (owners ++ owner ∷ []) k false
   now_there f owners owner count is here was =
       everywhere (λ k. wb k ≡ at_line f (owners ++ owner ∷ []) k false) n
-      (here ∙ ap (cond x true) (was n ∙ ap (λ m. at_line f owners m false) (sym count) ∙ none_here f owners) ∙ or_none x ∙ sym is ∙ sym (more_here f owners owner) ∙ ap (λ m. at_line f (owners ++ owner ∷ []) m false) count)
+      (here ∙ ap (cond x true) (was n ∙ ap (λ m. at_line f owners m false) (sym count) ∙ none_here f owners) ∙ or_none x ∙ sym is
+      ∙ sym (more_here f owners owner) ∙ ap (λ m. at_line f (owners ++ owner ∷ []) m false) count)
       (λ k ne. elsewhere k ne ∙ was k ∙ sym (more_other f owners owner k (λ h. ne (h ∙ count))))
 
   now_fresh : {Y : Type 0} (z : Y) (fa fb : ℕ → Y) → wb n ≡ x → fb n ≡ cond x z (fa n) → ((k : ℕ) → k ≢ n → fb k ≡ fa k) → ((k : ℕ) → wa k ≡ true → fa k ≡ z) → (k : ℕ) → wb k ≡ true → fb k ≡ z
@@ -67,7 +70,10 @@ module _ (n : ℕ) (x : Bool) (wa wb : ℕ → Bool) (elsewhere : (k : ℕ) → 
       (λ h. here ∙ ap (λ y. cond y z (fa n)) (sym at ∙ h))
       (λ k ne h. others k ne ∙ was k (sym (elsewhere k ne) ∙ h))
 
-fresh_more : (owners : List EdgeOwners) (owner : EdgeOwners) (kinds : List Kind) (capacity s : ℕ) (a b : View) → HasFreshEnds owners kinds capacity s a → OpensAt (length owners) (kind_at kinds (length owners)) capacity (owner.writer == s) (owner.reader == s) a b → HasFreshEnds (owners ++ owner ∷ []) kinds capacity s b
+fresh_more : (owners : List EdgeOwners) (owner : EdgeOwners) (kinds : List Kind) (capacity s : ℕ) (a b : View) →
+    HasFreshEnds owners kinds capacity s a →
+    OpensAt (length owners) (kind_at kinds (length owners)) capacity (owner.writer == s) (owner.reader == s) a b →
+    HasFreshEnds (owners ++ owner ∷ []) kinds capacity s b
 fresh_more owners owner kinds capacity s a b was opens =
     let n = length owners in
     let w = owner.writer == s in
@@ -90,7 +96,9 @@ fresh_more owners owner kinds capacity s a b was opens =
     }
 
 -- what f reads of each owner so far, and of the next
-pub owner_more : (f : EdgeOwners → ℕ) (of : ℕ → ℕ) (owners later : List EdgeOwners) (owner : EdgeOwners) (n : ℕ) → later ≡ owners ++ owner ∷ [] → length owners ≡ n → ((e : ℕ) (w : EdgeOwners) → e < n → f (get_or owners e w) ≡ of e) → f owner ≡ of n → (e : ℕ) (w : EdgeOwners) → e < n + 1 → f (get_or later e w) ≡ of e
+pub owner_more : (f : EdgeOwners → ℕ) (of : ℕ → ℕ) (owners later : List EdgeOwners) (owner : EdgeOwners) (n : ℕ) → later ≡ owners ++ owner ∷ [] →
+    length owners ≡ n → ((e : ℕ) (w : EdgeOwners) → e < n → f (get_or owners e w) ≡ of e) → f owner ≡ of n → (e : ℕ) (w : EdgeOwners) → e < n + 1 →
+    f (get_or later e w) ≡ of e
 owner_more f of owners later owner n is count was here e w low =
     ap (λ l. f (get_or l e w)) is
     ∙ everywhere (λ k. k < n + 1 → f (get_or (owners ++ owner ∷ []) k w) ≡ of k) n
@@ -128,7 +136,9 @@ module _ {X : Type 0} (view : X → View) (joins : X → X → ℕ → Type 0) (
       (owners : List EdgeOwners) (owner : EdgeOwners) (old new : List X) (count : length new ≡ length old)
       (writers : All (λ w. w.writer < length old) (owners ++ owner ∷ [])) (readers : All (λ w. w.reader < length old) (owners ++ owner ∷ []))
       (opened : (s : ℕ) (d : X) → s < length old → opens (length owners) (get_or old s d) (get_or new s d))
-      (fresh : (s : ℕ) (d : X) → s < length old → OpensAt (length owners) (kind_at kinds (length owners)) capacity (owner.writer == s) (owner.reader == s) (view (get_or old s d)) (view (get_or new s d)))
+      (fresh : (s : ℕ) (d : X) → s < length old →
+      OpensAt (length owners) (kind_at kinds (length owners)) capacity (owner.writer == s) (owner.reader == s) (view (get_or old s d))
+      (view (get_or new s d)))
       (joined : (d : X) → joins (get_or new owner.writer d) (get_or new owner.reader d) (length owners))
       (room : (d : X) → places (get_or new owner.writer d) (length owners) ≡ capacity) (was : Open owners old) where
     abbrev n : ℕ
@@ -179,7 +189,9 @@ module _ {X : Type 0} (view : X → View) (joins : X → X → ℕ → Type 0) (
     }
 
 -- fresh ends, where the lists are named otherwise
-pub fresh_as : {X : Type 0} (view : X → View) (joins : X → X → ℕ → Type 0) (places : X → ℕ → ℕ) (capacity : ℕ) {ws ws' : List EdgeOwners} {ks ks' : List Kind} {es es' : List X} → ws ≡ ws' → ks ≡ ks' → es ≡ es' → AreFreshEnds view joins places ws ks capacity es → AreFreshEnds view joins places ws' ks' capacity es'
+pub fresh_as : {X : Type 0} (view : X → View) (joins : X → X → ℕ → Type 0) (places : X → ℕ → ℕ) (capacity : ℕ) {ws ws' : List EdgeOwners}
+    {ks ks' : List Kind} {es es' : List X} → ws ≡ ws' → ks ≡ ks' → es ≡ es' → AreFreshEnds view joins places ws ks capacity es →
+    AreFreshEnds view joins places ws' ks' capacity es'
 fresh_as view joins places capacity {ws} {ws'} {ks} {ks'} {es} {es'} p q r all =
     subst (λ ws. AreFreshEnds view joins places ws ks' capacity es') p
     (subst (λ ks. AreFreshEnds view joins places ws ks capacity es') q

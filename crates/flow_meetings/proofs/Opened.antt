@@ -163,7 +163,9 @@ rings_then e a m b p q = record {
 }
 
 module _ (a b : Rings) (e : ℕ) (kind : Kind) (capacity : ℕ) where
-  pub rings_writer : (w : LaneWriter) → b.writers.items ≡ set a.writers.items e (Some w) → b.readers.items ≡ a.readers.items → e < length a.writers.items → sent w ≡ [] → certain_room w ≡ capacity → TakesKind (kind_of w) kind → RingsOpen e a b × OpensAt e kind capacity true false (ends_of a) (ends_of b)
+  pub rings_writer : (w : LaneWriter) → b.writers.items ≡ set a.writers.items e (Some w) → b.readers.items ≡ a.readers.items →
+      e < length a.writers.items → sent w ≡ [] → certain_room w ≡ capacity → TakesKind (kind_of w) kind → RingsOpen e a b
+      × OpensAt e kind capacity true false (ends_of a) (ends_of b)
   rings_writer w put same h none room takes = (
     record {
       writer_count = ap length put ∙ length-set a.writers.items e (Some w);
@@ -172,10 +174,12 @@ module _ (a b : Rings) (e : ℕ) (kind : Kind) (capacity : ℕ) where
       readers = λ k ne. ap (λ l. get_or l k None) same;
     },
     subst (λ ws. OpensAt e kind capacity true false (ends_of a) (view_of_rings ws b.readers.items)) (sym put)
-        (subst (λ rs. OpensAt e kind capacity true false (ends_of a) (view_of_rings (set a.writers.items e (Some w)) rs)) (sym same) (ring_writer a.writers.items a.readers.items e kind capacity w h none room takes)),
+        (subst (λ rs. OpensAt e kind capacity true false (ends_of a) (view_of_rings (set a.writers.items e (Some w)) rs)) (sym same)
+        (ring_writer a.writers.items a.readers.items e kind capacity w h none room takes)),
   )
 
-  pub rings_reader : (r : LaneReader) → b.readers.items ≡ set a.readers.items e (Some r) → b.writers.items ≡ a.writers.items → e < length a.readers.items → received r ≡ [] → certain_held r ≡ [] → RingsOpen e a b × OpensAt e kind capacity false true (ends_of a) (ends_of b)
+  pub rings_reader : (r : LaneReader) → b.readers.items ≡ set a.readers.items e (Some r) → b.writers.items ≡ a.writers.items →
+      e < length a.readers.items → received r ≡ [] → certain_held r ≡ [] → RingsOpen e a b × OpensAt e kind capacity false true (ends_of a) (ends_of b)
   rings_reader r put same h none empty = (
     record {
       writer_count = ap length same;
@@ -184,5 +188,6 @@ module _ (a b : Rings) (e : ℕ) (kind : Kind) (capacity : ℕ) where
       readers = λ k ne. ap (λ l. get_or l k None) put ∙ get_or-set_other a.readers.items e k (Some r) None ne;
     },
     subst (λ rs. OpensAt e kind capacity false true (ends_of a) (view_of_rings b.writers.items rs)) (sym put)
-        (subst (λ ws. OpensAt e kind capacity false true (ends_of a) (view_of_rings ws (set a.readers.items e (Some r)))) (sym same) (ring_reader a.writers.items a.readers.items e kind capacity r h none empty)),
+        (subst (λ ws. OpensAt e kind capacity false true (ends_of a) (view_of_rings ws (set a.readers.items e (Some r)))) (sym same)
+        (ring_reader a.writers.items a.readers.items e kind capacity r h none empty)),
   )

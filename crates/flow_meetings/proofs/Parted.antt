@@ -1,5 +1,6 @@
 -- One end in the front and one in the back of a list that was split.
-use Rattle.std.proofs.Common.{◌≡◌, ◌≢◌, ◌==◌, ℕ, ◌-◌, ◌<◌, Bool, true, false, List, length, ◌++◌, get_or, set, refl, sym, ap, ◌∙◌, subst, arith, length-set, get_or-set_same, get_or-set_other, ◌⊎◌, inl, inr}
+use Rattle.std.proofs.Common.{◌≡◌, ◌≢◌, ◌==◌, ℕ, ◌-◌, ◌<◌, Bool, true, false, List, length, ◌++◌, get_or, set, refl, sym, ap, ◌∙◌, subst, arith}
+use Rattle.std.proofs.Common.{length-set, get_or-set_same, get_or-set_other, ◌⊎◌, inl, inr}
 use Rattle.std.specs.Prelude.{Result, Ok, Err, OnOk}
 use Rattle.std.proofs.lemmas.Bool.{cases_eq, eq-eqb, ne_eqb}
 use Rattle.std.proofs.lemmas.List.{get_or_default, get_or_append_left, get_or-append-add, set-append_left, set-append_right, length-append}
@@ -29,7 +30,8 @@ opened_as : (e : ℕ) (kind : Kind) (capacity : ℕ) (w r w' r' : Bool) (a b : V
 opened_as e kind capacity w r w' r' a b p q opens = subst (λ w. OpensAt e kind capacity w r a b) (sym p) (subst (λ r. OpensAt e kind capacity w' r a b) (sym q) opens)
 
 -- the list is split at m; x is at i in the front, and y at m, and a and b come there
-module _ {X : Type 0} (old front back : List X) (m i : ℕ) (is : old ≡ front ++ back) (count : length front ≡ m) (li : i < m) (some : m < length old) (x y a b : X) (x_is : x ≡ get_or front i x) (y_is : y ≡ get_or back 0 y) where
+module _ {X : Type 0} (old front back : List X) (m i : ℕ) (is : old ≡ front ++ back) (count : length front ≡ m) (li : i < m) (some : m < length old)
+    (x y a b : X) (x_is : x ≡ get_or front i x) (y_is : y ≡ get_or back 0 y) where
   abbrev now : List X
   now = set front i a ++ set back 0 b
 
@@ -84,7 +86,8 @@ on_three (Ok x) f p q s = f p q s
 on_three (Err e) f p q s = tt
 
 -- Edge e is opened, and its owner names these shares.
-module _ {X : Type 0} (view : X → View) (joins : X → X → ℕ → Type 0) (slots_of : X → ℕ → ℕ) (opens_at : ℕ → X → X → Type 0) (opens_refl : (e : ℕ) (a : X) → opens_at e a a) (owner : EdgeOwners) (e : ℕ) (kind : Kind) (capacity : ℕ) where
+module _ {X : Type 0} (view : X → View) (joins : X → X → ℕ → Type 0) (slots_of : X → ℕ → ℕ) (opens_at : ℕ → X → X → Type 0)
+    (opens_refl : (e : ℕ) (a : X) → opens_at e a a) (owner : EdgeOwners) (e : ℕ) (kind : Kind) (capacity : ℕ) where
   abbrev w : ℕ
   w = owner.writer
 
@@ -108,7 +111,8 @@ module _ {X : Type 0} (view : X → View) (joins : X → X → ℕ → Type 0) (
   here : (s : ℕ) (p q : Bool) (x a : X) → (w == s) ≡ p → (r == s) ≡ q → OpensHere p q x a → Each s x a
   here s p q x a at_w at_r step = (step.0, opened_as e kind capacity (w == s) (r == s) p q (view x) (view a) at_w at_r step.1)
 
-  whole : (old new : List X) (a b : X) → ((s : ℕ) (d : X) → Each s (get_or old s d) (get_or new s d)) → ((d : X) → get_or new w d ≡ a) → ((d : X) → get_or new r d ≡ b) → joins a b e → slots_of a e ≡ capacity → Whole old new
+  whole : (old new : List X) (a b : X) → ((s : ℕ) (d : X) → Each s (get_or old s d) (get_or new s d)) → ((d : X) → get_or new w d ≡ a) →
+      ((d : X) → get_or new r d ≡ b) → joins a b e → slots_of a e ≡ capacity → Whole old new
   whole old new a b each at_w at_r joined room = record {
     opens = λ s d l. (each s d).0;
     fresh = λ s d l. (each s d).1;
@@ -134,7 +138,9 @@ module _ {X : Type 0} (view : X → View) (joins : X → X → ℕ → Type 0) (
 
   module _ (old front back : List X) (is : old ≡ front ++ back) (x y a b : X) where
     -- the writer's end comes to the front, and the reader's to the back
-    pub opened_before : length front ≡ r → w < r → r < length old → x ≡ get_or front w x → y ≡ get_or back 0 y → OpensHere true false (get_or front w x) a → OpensHere false true (get_or back 0 y) b → joins a b e → slots_of a e ≡ capacity → Whole old (set front w a ++ set back 0 b)
+    pub opened_before : length front ≡ r → w < r → r < length old → x ≡ get_or front w x → y ≡ get_or back 0 y →
+        OpensHere true false (get_or front w x) a → OpensHere false true (get_or back 0 y) b → joins a b e → slots_of a e ≡ capacity →
+        Whole old (set front w a ++ set back 0 b)
     opened_before count less inside x_is y_is at_w at_r joined room =
         whole old (set front w a ++ set back 0 b) a b
         (each_place old front back r w is count less inside x y a b x_is y_is Each
@@ -144,7 +150,9 @@ module _ {X : Type 0} (view : X → View) (joins : X → X → ℕ → Type 0) (
         (front_now old front back r w is count less inside x y a b x_is y_is) (back_now old front back r w is count less inside x y a b x_is y_is) joined room
 
     -- the reader's end comes to the front, and the writer's to the back
-    pub opened_after : length front ≡ w → r < w → w < length old → x ≡ get_or front r x → y ≡ get_or back 0 y → OpensHere false true (get_or front r x) a → OpensHere true false (get_or back 0 y) b → joins b a e → slots_of b e ≡ capacity → Whole old (set front r a ++ set back 0 b)
+    pub opened_after : length front ≡ w → r < w → w < length old → x ≡ get_or front r x → y ≡ get_or back 0 y →
+        OpensHere false true (get_or front r x) a → OpensHere true false (get_or back 0 y) b → joins b a e → slots_of b e ≡ capacity →
+        Whole old (set front r a ++ set back 0 b)
     opened_after count less inside x_is y_is at_r at_w joined room =
         whole old (set front r a ++ set back 0 b) b a
         (each_place old front back w r is count less inside x y a b x_is y_is Each

@@ -100,14 +100,16 @@ module _ {X : Type 0} {t : Ghosts X} (edges : List Edge) (nodes : List (Placed X
       port_reads p port =
           let here : p < inputs_at t.behaviour (states_in nodes) node.number = omega (arith, port, ap length same_inputs, inputs_here nodes node.number known back.0 known_is) in
           let place = fit.built.wired.in_edge node.number p states_inside here in
-          let is : edge_of (inputs_of node) p ≡ in_edge edges node.number p = ap (λ row. edge_of row p) same_inputs ∙ input_here nodes node.number known back.0 known_is edges fit.built.joined fit.seated p here in
+          let is : edge_of (inputs_of node) p ≡ in_edge edges node.number p = ap (λ row. edge_of row p) same_inputs
+          ∙ input_here nodes node.number known back.0 known_is edges fit.built.joined fit.seated p here in
           subst (λ e. (e < length edges) × (share_of share (edge_at edges e).reader ≡ s)) (sym is) (place.0, ap (share_of share) place.1 ∙ back.1)
 
       pub port_writes : (q : ℕ) → q < length (outputs_of node) → let e = edge_of (outputs_of node) q in (e < length edges) × (share_of share (edge_at edges e).writer ≡ s)
       port_writes q port =
           let here : q < outputs_at t.behaviour (states_in nodes) node.number = omega (arith, port, ap length same_outputs, outputs_here nodes node.number known back.0 known_is) in
           let place = fit.built.wired.out_edge node.number q states_inside here in
-          let is : edge_of (outputs_of node) q ≡ out_edge edges node.number q = ap (λ row. edge_of row q) same_outputs ∙ output_here nodes node.number known back.0 known_is edges fit.built.joined fit.seated q here in
+          let is : edge_of (outputs_of node) q ≡ out_edge edges node.number q = ap (λ row. edge_of row q) same_outputs
+          ∙ output_here nodes node.number known back.0 known_is edges fit.built.joined fit.seated q here in
           subst (λ e. (e < length edges) × (share_of share (edge_at edges e).writer ≡ s)) (sym is) (place.0, ap (share_of share) place.1 ∙ back.1)
 
     module _ (later : List (List (Placed X t))) (places : (s : ℕ) → s < length dealt → AreSamePlaces (nodes_at dealt s) (nodes_at later s)) where

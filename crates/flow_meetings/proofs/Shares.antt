@@ -9,7 +9,8 @@ use Rattle.flow_shares.specs.declared.share.Share.{Share}
 use Rattle.flow_meetings.specs.Deals.{IsNew, AreNew}
 
 -- what f reads of the elements so far, with what is left, is all
-pub one_more : {A C : Type 0} (f : A → C) (made later : List A) (x : A) (left less : List C) (z : C) (all : List C) → later ≡ made ++ x ∷ [] → left ≡ z ∷ less → f x ≡ z → map f made ++ left ≡ all → map f later ++ less ≡ all
+pub one_more : {A C : Type 0} (f : A → C) (made later : List A) (x : A) (left less : List C) (z : C) (all : List C) → later ≡ made ++ x ∷ [] → left
+    ≡ z ∷ less → f x ≡ z → map f made ++ left ≡ all → map f later ++ less ≡ all
 one_more f made later x left less z all is split same was =
     ap (λ l. map f l ++ less) is ∙ ap (λ l. l ++ less) (map-append f made (x ∷ [])) ∙ append_assoc (map f made) (f x ∷ []) less
     ∙ ap (λ y. map f made ++ y ∷ less) same ∙ ap (λ l. map f made ++ l) (sym split) ∙ was

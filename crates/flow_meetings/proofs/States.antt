@@ -15,7 +15,8 @@ use Rattle.flow_meetings.proofs.Seats.{number_is, same_place}
 same_places_refl : {X : Type 0} {t : Ghosts X} (nodes : List (Placed X t)) → AreSamePlaces nodes nodes
 same_places_refl nodes = record { count = refl; each = λ k d l. record { number = refl; inputs = refl; outputs = refl; opening = refl } }
 
-module _ {X : Type 0} {t : Ghosts X} (share : List ℕ) (edges : List Edge) (nodes : List (Placed X t)) (fit : FitTogether nodes edges) (dealt : List (List (Placed X t))) (deals : AreDealt share nodes dealt) where
+module _ {X : Type 0} {t : Ghosts X} (share : List ℕ) (edges : List Edge) (nodes : List (Placed X t)) (fit : FitTogether nodes edges)
+    (dealt : List (List (Placed X t))) (deals : AreDealt share nodes dealt) where
   -- the state of node k in its share
   abbrev state_of : ℕ → Placed X t → t.State
   state_of k d = placed_state (get_or (nodes_at dealt (share_of share k)) (deals.place k) d)

@@ -54,7 +54,8 @@ pub record AreFreshEnds {X : Type 0} (view : X → View) (joins : X → X → �
   -- each edge holds at most the capacity
   pub places : (e : ℕ) (w : EdgeOwners) (d : X) → e < length owners → slots_of (slice_index_or ends (slice_index_or owners e w).writer d) e ≡ capacity
   -- the two ends of each edge stand as after a meeting
-  pub met : (e : ℕ) (w : EdgeOwners) (d : X) → e < length owners → let owner = slice_index_or owners e w in Met (view (slice_index_or ends owner.writer d)) (view (slice_index_or ends owner.reader d)) capacity e
+  pub met : (e : ℕ) (w : EdgeOwners) (d : X) → e < length owners → let owner = slice_index_or owners e w in
+      Met (view (slice_index_or ends owner.writer d)) (view (slice_index_or ends owner.reader d)) capacity e
 
 -- the kinds of the edges of a graph
 abbrev pub graph_kinds : {X : Type 0} {t : Ghosts X} → Graph X t → List Kind

@@ -49,7 +49,8 @@ module _ {X : Type 0} (opens : ℕ → X → X → Type 0) (view : X → View) (
   BringsBoth = opens e old new × OpensAt e kind capacity true true (view old) (view new)
 
 -- Edge e is opened among the ends of all shares: its ends come to the shares that its owner names.
-pub record OpensEdge {X : Type 0} (view : X → View) (joins : X → X → ℕ → Type 0) (slots_of : X → ℕ → ℕ) (opens_at : ℕ → X → X → Type 0) (owner : EdgeOwners) (e : ℕ) (kind : Kind) (capacity : ℕ) (old new : List X) : Type 0 where
+pub record OpensEdge {X : Type 0} (view : X → View) (joins : X → X → ℕ → Type 0) (slots_of : X → ℕ → ℕ) (opens_at : ℕ → X → X → Type 0)
+    (owner : EdgeOwners) (e : ℕ) (kind : Kind) (capacity : ℕ) (old new : List X) : Type 0 where
   -- each share is as before, or as after an opening of e
   pub opens : (s : ℕ) (d : X) → s < length old → opens_at e (slice_index_or old s d) (slice_index_or new s d)
   -- the fresh ends are in the shares that are named, and else all is as it was

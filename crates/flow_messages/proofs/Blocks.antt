@@ -1,5 +1,6 @@
 -- Many messages of one edge, one after another.
-use Rattle.std.proofs.Common.{◌≡◌, ℕ, zero, suc, ◌+◌, ◌<◌, ◌↔◌, true, false, cond, ◌||◌, List, [], ◌∷◌, ◌++◌, length, map, take, refl, ap, sym, ◌∙◌, arith, add-one, append_assoc, append-nil, length-append, get_or, inl, inr}
+use Rattle.std.proofs.Common.{◌≡◌, ℕ, zero, suc, ◌+◌, ◌<◌, ◌↔◌, true, false, cond, ◌||◌, List, [], ◌∷◌, ◌++◌, length, map, take, refl, ap, sym, ◌∙◌}
+use Rattle.std.proofs.Common.{arith, add-one, append_assoc, append-nil, length-append, get_or, inl, inr}
 use Rattle.std.proofs.Math.Seq.{take-suc}
 use Rattle.std.proofs.lemmas.List.{map-append, length-take-le}
 use Rattle.std.proofs.lemmas.Bool.{cases_Bool}
@@ -25,7 +26,11 @@ next_is (x ∷ c) v w zero m low all first = let (more, is) = prefix_then (x ∷
 next_is (x ∷ c) v w (suc i) m low (more, is) first = ap (λ l. x ∷ l) (next_is c v w i m (omega arith) (more, cc) first)
 
 rest_comes : (c v w : List Signal) (i : ℕ) (m : Signal) → take (suc i) c ≡ take i c ++ m ∷ [] → IsPrefix c (take i c ++ v) → IsPrefix v (m ∷ w) → IsPrefix c (take (suc i) c ++ w)
-rest_comes c v w i m one (more, is) (rest, all) = (more ++ rest, sym (append_assoc c more rest) ∙ ap (λ l. l ++ rest) is ∙ append_assoc (take i c) v rest ∙ ap (λ l. take i c ++ l) all ∙ sym (append_assoc (take i c) (m ∷ []) w) ∙ ap (λ l. l ++ w) (sym one))
+rest_comes c v w i m one (more, is) (rest, all) = (
+  more ++ rest,
+  sym (append_assoc c more rest) ∙ ap (λ l. l ++ rest) is ∙ append_assoc (take i c) v rest ∙ ap (λ l. take i c ++ l) all
+      ∙ sym (append_assoc (take i c) (m ∷ []) w) ∙ ap (λ l. l ++ w) (sym one),
+)
 
 more_waits : (c v : List Signal) (i : ℕ) → i < length c → IsPrefix c (take i c ++ v) → 0 < length v
 more_waits c v i low (more, is) = omega (arith, ap length is, length-append c more, length-append (take i c) v, length-take-le i c)
@@ -44,7 +49,8 @@ taken_none a e = record {
 }
 
 -- one message more was taken, of those that were certain
-pub taken_next : (a v w : View) (e i : ℕ) (r : Option Msg) → i < length (a.coming e) → TakenAll a e (take i (a.coming e)) v → IfSome r (λ m. Taken v e (signal_of m) w) → (0 < held v e → IsSome r) → TakenAll a e (take (suc i) (a.coming e)) w
+pub taken_next : (a v w : View) (e i : ℕ) (r : Option Msg) → i < length (a.coming e) → TakenAll a e (take i (a.coming e)) v →
+    IfSome r (λ m. Taken v e (signal_of m) w) → (0 < held v e → IsSome r) → TakenAll a e (take (suc i) (a.coming e)) w
 taken_next a v w e i None low all some succeeds = absurd (let no = succeeds (more_waits (a.coming e) (v.coming e) i low all.coming_here) in cc)
 taken_next a v w e i (Some x) low all some succeeds =
     let m = signal_of x in
@@ -94,11 +100,14 @@ module _ (a v w : View) (e : ℕ) (ms : List Signal) (m : Signal) (message : Msg
   shut_sent now shut is = is ∙ ap (λ b. cond b (a.sent e) (a.sent e ++ (ms ++ m ∷ []))) (sym shut)
 
   open_sent : (now : List Signal) → ended (a.sent e) ≡ false → now ≡ v.sent e ++ m ∷ [] → now ≡ cond (ended (a.sent e)) (a.sent e) (a.sent e ++ (ms ++ m ∷ []))
-  open_sent now free is = is ∙ ap (λ l. l ++ m ∷ []) (all.sent ∙ ap (λ b. cond b (a.sent e) (a.sent e ++ ms)) free) ∙ append_assoc (a.sent e) ms (m ∷ []) ∙ ap (λ b. cond b (a.sent e) (a.sent e ++ (ms ++ m ∷ []))) (sym free)
+  open_sent now free is = is ∙ ap (λ l. l ++ m ∷ []) (all.sent ∙ ap (λ b. cond b (a.sent e) (a.sent e ++ ms)) free)
+      ∙ append_assoc (a.sent e) ms (m ∷ []) ∙ ap (λ b. cond b (a.sent e) (a.sent e ++ (ms ++ m ∷ []))) (sym free)
 
-  pub put_more : 0 < v.room e → OnOk r (Put v e m w) → IfErr r (λ x. (x.message ≡ message) × LookedForRoom v e w) → IsErrAnd r (λ x. x.why ≡ Closed) ↔ (ended (v.sent e) ≡ true) → (ended (v.sent e) ≡ false → 0 < v.room e → IsOk r) → PutAll a e (ms ++ m ∷ []) w
+  pub put_more : 0 < v.room e → OnOk r (Put v e m w) → IfErr r (λ x. (x.message ≡ message) × LookedForRoom v e w) →
+      IsErrAnd r (λ x. x.why ≡ Closed) ↔ (ended (v.sent e) ≡ true) → (ended (v.sent e) ≡ false → 0 < v.room e → IsOk r) → PutAll a e (ms ++ m ∷ []) w
   put_more some ok refused closed succeeds = by_answer r ok refused closed succeeds where
-    by_answer : (r : Result (Unit {0}) Refused) → OnOk r (Put v e m w) → IfErr r (λ x. (x.message ≡ message) × LookedForRoom v e w) → IsErrAnd r (λ x. x.why ≡ Closed) ↔ (ended (v.sent e) ≡ true) → (ended (v.sent e) ≡ false → 0 < v.room e → IsOk r) → PutAll a e (ms ++ m ∷ []) w
+    by_answer : (r : Result (Unit {0}) Refused) → OnOk r (Put v e m w) → IfErr r (λ x. (x.message ≡ message) × LookedForRoom v e w) →
+        IsErrAnd r (λ x. x.why ≡ Closed) ↔ (ended (v.sent e) ≡ true) → (ended (v.sent e) ≡ false → 0 < v.room e → IsOk r) → PutAll a e (ms ++ m ∷ []) w
     by_answer (Ok x) ok refused closed succeeds = record {
       ends = same_ends_then a v w all.ends ok.ends;
       sent = elim (cases_Bool (ended (a.sent e))) [
@@ -126,7 +135,8 @@ module _ (a v w : View) (e : ℕ) (ms : List Signal) (m : Signal) (message : Msg
       room_here = omega (arith, all.room_here, refused.1.more, length-append ms (m ∷ []));
     }
 
-  pub put_next : length ms < a.room e → OnOk r (Put v e m w) → IfErr r (λ x. (x.message ≡ message) × LookedForRoom v e w) → IsErrAnd r (λ x. x.why ≡ Closed) ↔ (ended (v.sent e) ≡ true) → (ended (v.sent e) ≡ false → 0 < v.room e → IsOk r) → PutAll a e (ms ++ m ∷ []) w
+  pub put_next : length ms < a.room e → OnOk r (Put v e m w) → IfErr r (λ x. (x.message ≡ message) × LookedForRoom v e w) →
+      IsErrAnd r (λ x. x.why ≡ Closed) ↔ (ended (v.sent e) ≡ true) → (ended (v.sent e) ≡ false → 0 < v.room e → IsOk r) → PutAll a e (ms ++ m ∷ []) w
   put_next room ok refused closed succeeds = put_more (omega (arith, room, all.room_here)) ok refused closed succeeds
 
 -- what a block says, with one item more

@@ -1,5 +1,6 @@
 -- Messages in blocks: what is put, taken and seen.
-use Rattle.std.proofs.Common.{◌≡◌, ℕ, ℤ, zero, suc, ◌+◌, ◌-◌, ◌<◌, ◌≤◌, Bool, true, false, List, [], ◌∷◌, ◌++◌, length, drop, take, map, get_or, min, refl, sym, ap, subst, ◌∙◌, arith, add-one, suc-add, zero-add, append_assoc, append-nil, length-append, length-drop}
+use Rattle.std.proofs.Common.{◌≡◌, ℕ, ℤ, zero, suc, ◌+◌, ◌-◌, ◌<◌, ◌≤◌, Bool, true, false, List, [], ◌∷◌, ◌++◌, length, drop, take, map, get_or, min}
+use Rattle.std.proofs.Common.{refl, sym, ap, subst, ◌∙◌, arith, add-one, suc-add, zero-add, append_assoc, append-nil, length-append, length-drop}
 use Rattle.std.proofs.lemmas.List.{length-map, length-replicate, replicate-append-replicate, drop-replicate, drop-append-le, drop-map, map-append, replicate_more}
 use Rattle.std.proofs.lemmas.Grind.{take_at_read}
 use Rattle.std.proofs.Math.Seq.{drop-nil, drop-append_seam}
@@ -179,7 +180,8 @@ flags_skipped (suc n) u f i q b low low' gone =
     ap (λ (k : ℕ). drop (suc n) (content k f i q)) none ∙ ap (λ (k : ℕ). drop k (content 0 f i q)) split ∙ drop_more b (suc n - b) (content 0 f i q)
     ∙ ap (drop (suc n - b)) (skip_flags b f i q low') ∙ ap (λ (k : ℕ). drop (suc n - b) (content k (drop b f) i q)) (sym none)
 
-ints_skipped : (n u : ℕ) (f : List Bool) (i : List ℤ) (q : List Msg) (c : ℕ) → c ≤ n → c ≤ length i → (0 < n → u ≡ 0) → (0 < n → length f ≡ 0) → drop n (content u f i q) ≡ drop (n - c) (content u f (drop c i) q)
+ints_skipped : (n u : ℕ) (f : List Bool) (i : List ℤ) (q : List Msg) (c : ℕ) → c ≤ n → c ≤ length i → (0 < n → u ≡ 0) → (0 < n → length f ≡ 0) →
+    drop n (content u f i q) ≡ drop (n - c) (content u f (drop c i) q)
 ints_skipped zero u f i q c low low' gone gone' =
     let none : 0 ≡ c = omega arith in
     ap (λ (k : ℕ). drop (0 - k) (content u f (drop k i) q)) none
@@ -201,7 +203,8 @@ queue_skipped (suc n) u f i q gone gone' gone'' =
     ap (drop (suc n)) (only_queue u f i q (gone some) none' none'') ∙ sym (only_queue u f i (drop (suc n) q) (gone some) none' none'')
 
 -- so many units, then so many truth values, then so many integers, and the rest from the queue
-pub skip_all : (n u : ℕ) (f : List Bool) (i : List ℤ) (q : List Msg) (a b c : ℕ) → a ≡ min n u → b ≡ min (n - a) (length f) → c ≡ min (n - a - b) (length i) → drop n (content u f i q) ≡ content (u - a) (drop b f) (drop c i) (drop (n - a - b - c) q)
+pub skip_all : (n u : ℕ) (f : List Bool) (i : List ℤ) (q : List Msg) (a b c : ℕ) → a ≡ min n u → b ≡ min (n - a) (length f) → c
+    ≡ min (n - a - b) (length i) → drop n (content u f i q) ≡ content (u - a) (drop b f) (drop c i) (drop (n - a - b - c) q)
 skip_all n u f i q a b c of_units of_flags of_ints =
     units_skipped n u f i q a (omega arith) (omega arith)
     ∙ flags_skipped (n - a) (u - a) f i q b (omega arith) (omega arith) (λ more. omega arith)
@@ -220,7 +223,8 @@ unit_more q q' q'' n is next =
     next ∙ ap (λ (l : List Msg). l ++ ItemMsg UnitItem ∷ []) is ∙ append_assoc q (unit_messages n) (ItemMsg UnitItem ∷ [])
     ∙ ap (λ (l : List Msg). q ++ l) (replicate_more n (ItemMsg UnitItem))
 
-pub block_more : {X : Type 0} (f : X → Msg) (xs : List X) (k : ℕ) (d : X) (q q' q'' : List Msg) → k < length xs → q' ≡ q ++ map f (take k xs) → q'' ≡ q' ++ f (get_or xs k d) ∷ [] → q'' ≡ q ++ map f (take (k + 1) xs)
+pub block_more : {X : Type 0} (f : X → Msg) (xs : List X) (k : ℕ) (d : X) (q q' q'' : List Msg) → k < length xs → q' ≡ q ++ map f (take k xs) → q''
+    ≡ q' ++ f (get_or xs k d) ∷ [] → q'' ≡ q ++ map f (take (k + 1) xs)
 block_more {X} f xs k d q q' q'' low is next =
     let x = get_or xs k d in
     let longer : take (k + 1) xs ≡ take k xs ++ x ∷ [] = (take_at_read xs k d low).1 in

@@ -1,5 +1,6 @@
 -- Blocks of scalar messages: what is put and taken.
-use Rattle.std.proofs.Common.{◌≡◌, ℕ, zero, suc, ◌+◌, ◌<◌, ◌≤◌, true, false, cond, List, [], ◌∷◌, ◌++◌, length, take, drop, refl, sym, ap, subst, ◌∙◌, arith, inl, inr, add-one, get_or, append_assoc, append-nil}
+use Rattle.std.proofs.Common.{◌≡◌, ℕ, zero, suc, ◌+◌, ◌<◌, ◌≤◌, true, false, cond, List, [], ◌∷◌, ◌++◌, length, take, drop, refl, sym, ap, subst, ◌∙◌}
+use Rattle.std.proofs.Common.{arith, inl, inr, add-one, get_or, append_assoc, append-nil}
 use Rattle.std.proofs.Math.Seq.{drop-append_seam, take-suc}
 use Rattle.std.proofs.lemmas.List.{length-map, map-append}
 use mathlib.Core.List.{IsPrefix}
@@ -145,7 +146,8 @@ module _ (old now new : List Flat) (x : Flat) (is : now ≡ old ++ drop (length 
   appended_after = more ∙ ap (λ (l : List Flat). l ++ x ∷ []) is ∙ append_assoc old (drop (length old) now) (x ∷ []) ∙ ap (λ (l : List Flat). old ++ l) (sym appended_is)
 
 -- where a scalar was certain to come, none is missing only after some were taken
-pub some_were_taken : (a v w : View) (e : ℕ) (xs : List Flat) → TakenAll a e (flat_signals xs) v → LookedForMessages v e w → scalar_first (a.coming e) ≡ true → false ≡ scalar_first (w.coming e) → 0 < length xs
+pub some_were_taken : (a v w : View) (e : ℕ) (xs : List Flat) → TakenAll a e (flat_signals xs) v → LookedForMessages v e w → scalar_first (a.coming e)
+    ≡ true → false ≡ scalar_first (w.coming e) → 0 < length xs
 unfolding signals
 some_were_taken a v w e [] all look first none =
     let was = still_first (a.coming e) (v.coming e) all.coming_here first in
@@ -155,10 +157,12 @@ some_were_taken a v w e (x ∷ xs) all look first none = omega arith
 
 -- the message at a place of a block
 
-pub fits_at : (k : Option Kind) (xs ys : List Flat) (i : ℕ) (d : Flat) (m : Msg) → ys ≡ xs → All (λ x. FitsEdge k (signal_of (message_of x))) xs → i < length ys → m ≡ message_of (get_or ys i d) → FitsEdge k (signal_of m)
+pub fits_at : (k : Option Kind) (xs ys : List Flat) (i : ℕ) (d : Flat) (m : Msg) → ys ≡ xs → All (λ x. FitsEdge k (signal_of (message_of x))) xs →
+    i < length ys → m ≡ message_of (get_or ys i d) → FitsEdge k (signal_of m)
 fits_at k xs ys i d m is fit low at = subst (λ (n : Msg). FitsEdge k (signal_of n)) (sym (at ∙ ap (λ l. message_of (get_or l i d)) is)) (fit i d (omega (arith, low, ap length is)))
 
-pub said_at : (xs ys : List Flat) (i : ℕ) (d : Flat) (m : Msg) → ys ≡ xs → i < length ys → m ≡ message_of (get_or ys i d) → flat_signals (take (i + 1) xs) ≡ flat_signals (take i xs) ++ signal_of m ∷ []
+pub said_at : (xs ys : List Flat) (i : ℕ) (d : Flat) (m : Msg) → ys ≡ xs → i < length ys → m ≡ message_of (get_or ys i d) →
+    flat_signals (take (i + 1) xs) ≡ flat_signals (take i xs) ++ signal_of m ∷ []
 said_at xs ys i d m is low at = said_more xs i d (omega (arith, low, ap length is)) ∙ ap (λ (n : Msg). flat_signals (take i xs) ++ signal_of n ∷ []) (sym (at ∙ ap (λ l. message_of (get_or l i d)) is))
 
 -- an edge on which these were put was open before, if it is now
@@ -184,7 +188,8 @@ module _ (a v w : View) (e : ℕ) (ms : List Signal) (message : Msg) (all : PutA
   pub not_refused : (r : Result (Unit {0}) Refused) → (IsOk r → ⊥) → (ended (v.sent e) ≡ false → 0 < v.room e → IsOk r) → ended (a.sent e) ≡ false → ⊥
   not_refused r bad succeeds free = bad (succeeds (still_open a v w e ms (signal_of message) message r all no_end free) some)
 
-  pub refused_first : (r : Result (Unit {0}) Refused) (i : ℕ) → (IsOk r → ⊥) → IfErr r (λ x. (x.message ≡ message) × LookedForRoom v e w) → (ended (v.sent e) ≡ false → 0 < v.room e → IsOk r) → (i ≡ 0 → LookedForRoom a e v) → (0 < i → ended (a.sent e) ≡ false) → LookedForRoom a e w
+  pub refused_first : (r : Result (Unit {0}) Refused) (i : ℕ) → (IsOk r → ⊥) → IfErr r (λ x. (x.message ≡ message) × LookedForRoom v e w) →
+      (ended (v.sent e) ≡ false → 0 < v.room e → IsOk r) → (i ≡ 0 → LookedForRoom a e v) → (0 < i → ended (a.sent e) ≡ false) → LookedForRoom a e w
   refused_first (Ok x) i bad refused succeeds looked free = absurd (bad refl)
   refused_first (Err x) zero bad refused succeeds looked free = looked_then a v w e (looked refl) refused.1
   refused_first (Err x) (suc i) bad refused succeeds looked free = absurd (not_refused (Err x) bad succeeds (free (omega arith)))

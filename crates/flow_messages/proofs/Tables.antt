@@ -1,5 +1,6 @@
 -- One line of a table, and the others.
-use Rattle.std.proofs.Common.{◌≡◌, ◌≢◌, ℕ, zero, suc, ◌+◌, ◌-◌, ◌<◌, ◌≤◌, true, false, cond, List, [], ◌∷◌, ◌++◌, length, map, refl, ap, subst, sym, ◌∙◌, get_or, set, arith, length-set, length-append, append-nil, ◌⊎◌, inl, inr}
+use Rattle.std.proofs.Common.{◌≡◌, ◌≢◌, ℕ, zero, suc, ◌+◌, ◌-◌, ◌<◌, ◌≤◌, true, false, cond, List, [], ◌∷◌, ◌++◌, length, map, refl, ap, subst, sym}
+use Rattle.std.proofs.Common.{◌∙◌, get_or, set, arith, length-set, length-append, append-nil, ◌⊎◌, inl, inr}
 use Rattle.std.proofs.lemmas.List.{get_or-map, map-set, get_or-set_same, get_or-set_other, length-map}
 use Rattle.std.proofs.lemmas.List.Elements.{All-append}
 use Rattle.std.proofs.lemmas.Bool.{cases_eq, cases_Bool}
@@ -55,7 +56,18 @@ room_on l = l.store.capacity - length (content_of l.store)
 
 -- a block of one message
 pub taken_one : (a b : View) (e : ℕ) (m : Signal) → TakenAll a e (m ∷ []) b → Taken a e m b
-taken_one a b e m all = record { ends = all.ends; received = all.received; others = all.others; sent = all.sent; room = all.room; room_here = all.room_here; coming = all.coming; coming_here = all.coming_here }
+taken_one a b e m all =
+    record {
+      ends = all.ends;
+      received = all.received;
+      others = all.others;
+      sent = all.sent;
+      room = all.room;
+      room_here = all.room_here;
+      coming =
+          all.coming;
+      coming_here = all.coming_here;
+    }
 
 -- the ends of a table, with one line changed
 module _ (ls : List Line) (e : ℕ) (old new : Line) (h : e < length ls) (is : old ≡ get_or ls e old) where
@@ -86,9 +98,11 @@ module _ (ls : List Line) (e : ℕ) (old new : Line) (h : e < length ls) (is : o
     )
 
     put_room : before.room e ≤ after.room e + length ms
-    put_room = let longer : length (content_of new.store) ≡ length (content_of old.store) + length ms = ap length held ∙ length-append (content_of old.store) ms in omega (arith, at_line-same room_on ls e 0 new h, at_line-here room_on ls e 0 old h is)
+    put_room = let longer : length (content_of new.store) ≡ length (content_of old.store) + length ms = ap length held
+        ∙ length-append (content_of old.store) ms in omega (arith, at_line-same room_on ls e 0 new h, at_line-here room_on ls e 0 old h is)
 
-  pub line-put : (m : Msg) → new.sent.items ≡ old.sent.items ++ m ∷ [] → content_of new.store ≡ content_of old.store ++ m ∷ [] → new.store.capacity ≡ old.store.capacity → Put before e (signal_of m) after
+  pub line-put : (m : Msg) → new.sent.items ≡ old.sent.items ++ m ∷ [] → content_of new.store ≡ content_of old.store ++ m ∷ [] → new.store.capacity
+      ≡ old.store.capacity → Put before e (signal_of m) after
   line-put m sent held capacity = record {
     ends = same_ends;
     sent = put_sent (m ∷ []) sent held capacity ∙ ap (λ l. before.sent e ++ l) (signals-cons m [] ∙ ap (λ l. signal_of m ∷ l) signals-nil);
@@ -101,7 +115,8 @@ module _ (ls : List Line) (e : ℕ) (old new : Line) (h : e < length ls) (is : o
   }
 
   -- these messages were taken from it
-  pub line-taken_all : (ms : List Msg) → new.sent.items ≡ old.sent.items → content_of old.store ≡ ms ++ content_of new.store → new.store.capacity ≡ old.store.capacity → TakenAll before e (signals ms) after
+  pub line-taken_all : (ms : List Msg) → new.sent.items ≡ old.sent.items → content_of old.store ≡ ms ++ content_of new.store → new.store.capacity
+      ≡ old.store.capacity → TakenAll before e (signals ms) after
   line-taken_all ms sent held capacity =
       let more = ap (λ s. gone s (content_of new.store)) sent ∙ gone_rest old.sent.items (content_of old.store) old.fifo ms (content_of new.store) held in
       let shorter : length (content_of old.store) ≡ length ms + length (content_of new.store) = ap length held ∙ length-append ms (content_of new.store) in
@@ -113,17 +128,21 @@ module _ (ls : List Line) (e : ℕ) (old new : Line) (h : e < length ls) (is : o
         coming = at_line-other coming_on ls e [] new;
         coming_here = (
           [],
-          append-nil (before.coming e) ∙ at_line-here coming_on ls e [] old h is ∙ ap signals held ∙ signals-append ms (content_of new.store) ∙ ap (λ xs. signals ms ++ xs) (sym (at_line-same coming_on ls e [] new h)),
+          append-nil (before.coming e) ∙ at_line-here coming_on ls e [] old h is ∙ ap signals held ∙ signals-append ms (content_of new.store)
+              ∙ ap (λ xs. signals ms ++ xs) (sym (at_line-same coming_on ls e [] new h)),
         );
         room = at_line-other room_on ls e 0 new;
         room_here = omega (arith, at_line-same room_on ls e 0 new h, at_line-here room_on ls e 0 old h is);
       }
 
   pub line-taken : (m : Msg) → new.sent.items ≡ old.sent.items → content_of old.store ≡ m ∷ content_of new.store → new.store.capacity ≡ old.store.capacity → Taken before e (signal_of m) after
-  line-taken m sent held capacity = taken_one before after e (signal_of m) (subst (λ l. TakenAll before e l after) (signals-cons m [] ∙ ap (λ l. signal_of m ∷ l) signals-nil) (line-taken_all (m ∷ []) sent held capacity))
+  line-taken m sent held capacity =
+      taken_one before after e (signal_of m)
+      (subst (λ l. TakenAll before e l after) (signals-cons m [] ∙ ap (λ l. signal_of m ∷ l) signals-nil) (line-taken_all (m ∷ []) sent held capacity))
 
   -- a line that says the same as before
-  pub line-kept : new.sent.items ≡ old.sent.items → content_of new.store ≡ content_of old.store → new.store.capacity ≡ old.store.capacity → LookedForRoom before e after × LookedForMessages before e after
+  pub line-kept : new.sent.items ≡ old.sent.items → content_of new.store ≡ content_of old.store → new.store.capacity ≡ old.store.capacity →
+      LookedForRoom before e after × LookedForMessages before e after
   line-kept sent held capacity =
       let traffic : SameTraffic before after = record {
         sent = at_line-kept sent_on ls e [] old new h is (ap signals sent);
@@ -136,7 +155,9 @@ module _ (ls : List Line) (e : ℕ) (old new : Line) (h : e < length ls) (is : o
       )
 
   -- a block was put on it, unless it had ended
-  pub line-put_block : (ms : List Msg) → new.sent.items ≡ cond (ended (signals old.sent.items)) old.sent.items (old.sent.items ++ ms) → content_of new.store ≡ cond (ended (signals old.sent.items)) (content_of old.store) (content_of old.store ++ ms) → new.store.capacity ≡ old.store.capacity → PutAll before e (signals ms) after
+  pub line-put_block : (ms : List Msg) → new.sent.items ≡ cond (ended (signals old.sent.items)) old.sent.items (old.sent.items ++ ms) →
+      content_of new.store ≡ cond (ended (signals old.sent.items)) (content_of old.store) (content_of old.store ++ ms) → new.store.capacity
+      ≡ old.store.capacity → PutAll before e (signals ms) after
   line-put_block ms sent held capacity = by_end (cases_Bool (ended (signals old.sent.items))) where
     here : ended (before.sent e) ≡ ended (signals old.sent.items)
     here = ap ended (at_line-here sent_on ls e [] old h is)

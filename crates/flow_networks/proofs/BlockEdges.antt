@@ -1,5 +1,6 @@
 -- What a block makes of the edges at the ports of a node.
-use Rattle.std.proofs.Common.{◌≡◌, ◌≢◌, ℕ, zero, suc, ◌+◌, ◌*◌, ◌<◌, ◌≤◌, Bool, true, false, cond, eqb, List, [], ◌∷◌, ◌++◌, length, ◌⊎◌, inl, inr, refl, sym, ◌∙◌, ap, subst, arith, append-nil, append_assoc, eq-eqb, ne_eqb, IsTrue}
+use Rattle.std.proofs.Common.{◌≡◌, ◌≢◌, ℕ, zero, suc, ◌+◌, ◌*◌, ◌<◌, ◌≤◌, Bool, true, false, cond, eqb, List, [], ◌∷◌, ◌++◌, length, ◌⊎◌, inl, inr}
+use Rattle.std.proofs.Common.{refl, sym, ◌∙◌, ap, subst, arith, append-nil, append_assoc, eq-eqb, ne_eqb, IsTrue}
 use Rattle.std.specs.List.{All}
 use Rattle.std.proofs.lemmas.Bool.{cases_eq, cases_lt, cases_Bool}
 use mathlib.Core.List.{IsPrefix}
@@ -64,7 +65,9 @@ module _ (edges : List ℕ) (ms : List Signal) where
           sent = λ q below. elim (cases_lt q i) [
             | inl before ↦ put.others (edge_of edges q) (λ same. next_apart q before (sym same)) ∙ made.sent q before
             | inr past ↦ (let same : q ≡ i = omega (arith, below, past) in
-                subst (λ k. w.sent (edge_of edges k) ≡ cond (ended (a.sent (edge_of edges k))) (a.sent (edge_of edges k)) (a.sent (edge_of edges k) ++ ms)) (sym same) (put.sent ∙ ap (λ l. cond (ended l) l (l ++ ms)) here))
+                subst (λ k. w.sent (edge_of edges k)
+                ≡ cond (ended (a.sent (edge_of edges k))) (a.sent (edge_of edges k)) (a.sent (edge_of edges k) ++ ms)) (sym same)
+                (put.sent ∙ ap (λ l. cond (ended l) l (l ++ ms)) here))
           ];
           others = λ e away. put.others e (away i (omega arith)) ∙ made.others e (λ q before. away q (omega (arith, before)));
           room = λ e away. put.room e (away i (omega arith)) ∙ made.room e (λ q before. away q (omega (arith, before)));
@@ -86,15 +89,19 @@ taken_all_room v w f e ms t = elim (cases_eq e f) [
 ]
 
 module _ {S : Type 0} (b : Behaviour S) (laws : BehaviourLaws b) (inputs outputs : List ℕ) (apart : AreApart outputs) where
-  module _ (s : S) (reached : IsReached b s) (each_output : length outputs ≡ b.outputs s) (t : S) (read written : List Signal) (steps : ℕ) (block : InBlock b s read t written steps) (last : (q : ℕ) → q < length outputs → orderly written ≡ true) where
+  module _ (s : S) (reached : IsReached b s) (each_output : length outputs ≡ b.outputs s) (t : S) (read written : List Signal) (steps : ℕ)
+      (block : InBlock b s read t written steps) (last : (q : ℕ) → q < length outputs → orderly written ≡ true) where
     -- of messages that were taken and then put
-    pub went_block : (a u v : View) → TakenAll a (edge_of inputs 0) read u → ((e : ℕ) → IsNone inputs e → u.coming e ≡ a.coming e) → PutOnFirst outputs (length outputs) written u v → 0 < steps → Went inputs outputs b s a t v steps
+    pub went_block : (a u v : View) → TakenAll a (edge_of inputs 0) read u → ((e : ℕ) → IsNone inputs e → u.coming e ≡ a.coming e) →
+        PutOnFirst outputs (length outputs) written u v → 0 < steps → Went inputs outputs b s a t v steps
     went_block a u v taken kept put some = record {
       history = block.history;
       does = block.does;
       counts = block.counts;
       carried = record {
-        received = λ e. put.received e ∙ taken_all_received a u (edge_of inputs 0) e read taken ∙ ap (λ l. a.received e ++ cond (eqb e (edge_of inputs 0)) l []) (sym block.reads_are) ∙ ap (λ l. a.received e ++ l) (sym (read_block (edge_of inputs) e block.history block.no_others));
+        received = λ e. put.received e ∙ taken_all_received a u (edge_of inputs 0) e read taken
+            ∙ ap (λ l. a.received e ++ cond (eqb e (edge_of inputs 0)) l []) (sym block.reads_are)
+            ∙ ap (λ l. a.received e ++ l) (sym (read_block (edge_of inputs) e block.history block.no_others));
         sent = sent_is;
       };
       spares = record {
@@ -108,7 +115,8 @@ module _ {S : Type 0} (b : Behaviour S) (laws : BehaviourLaws b) (inputs outputs
         go : ((q : ℕ) × (q < length outputs) × (e ≡ edge_of outputs q)) ⊎ ((q : ℕ) → q < length outputs → e ≢ edge_of outputs q) → v.sent e ≡ sent_after (edge_of outputs) e (a.sent e) block.history
         go (inl (q, low, at)) =
             let there : writes q block.history ≡ written = block.writes_are q (omega (arith, low, each_output)) in
-            let sent : v.sent e ≡ cond (ended (u.sent e)) (u.sent e) (u.sent e ++ written) = subst (λ k. v.sent k ≡ cond (ended (u.sent k)) (u.sent k) (u.sent k ++ written)) (sym at) (put.sent q low) in
+            let sent : v.sent e ≡ cond (ended (u.sent e)) (u.sent e) (u.sent e ++ written) =
+            subst (λ k. v.sent k ≡ cond (ended (u.sent k)) (u.sent k) (u.sent k ++ written)) (sym at) (put.sent q low) in
             sent ∙ ap (λ l. cond (ended l) l (l ++ written)) (taken.sent e)
             ∙ sym (sent_some b laws outputs apart s reached each_output e q low at block.history t block.does (a.sent e) written there (last q low))
         go (inr away) = put.others e away ∙ taken.sent e ∙ sym (sent_other b laws outputs apart s reached each_output e away block.history t block.does (a.sent e))
@@ -124,7 +132,9 @@ module _ {S : Type 0} (b : Behaviour S) (laws : BehaviourLaws b) (inputs outputs
   only_looked s t a u same alone = subst (λ x. Went inputs outputs b s a x u 0) (sym same) (went_alone b inputs outputs (went_none b inputs outputs s a) u alone)
 
 -- the least of what the edges have room for, with one edge more
-pub least_room : (edges : List ℕ) (v w : View) (i least space least' : ℕ) → LookedForRoom v (edge_of edges i) w → ((q : ℕ) → q < i → least ≤ v.room (edge_of edges q)) → space ≤ w.room (edge_of edges i) → least' ≤ least → least' ≤ space → (q : ℕ) → q < i + 1 → least' ≤ w.room (edge_of edges q)
+pub least_room : (edges : List ℕ) (v w : View) (i least space least' : ℕ) → LookedForRoom v (edge_of edges i) w →
+    ((q : ℕ) → q < i → least ≤ v.room (edge_of edges q)) → space ≤ w.room (edge_of edges i) → least' ≤ least → least' ≤ space → (q : ℕ) → q < i + 1 →
+    least' ≤ w.room (edge_of edges q)
 least_room edges v w i least space least' looked before here low high q below = elim (cases_lt q i) [
   | inl under ↦ omega (arith, before q under, low, looked_room v w (edge_of edges i) (edge_of edges q) looked)
   | inr past ↦ (let same : q ≡ i = omega (arith, below, past) in omega (arith, here, high, ap (λ k. w.room (edge_of edges k)) same))

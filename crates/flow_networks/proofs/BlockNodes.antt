@@ -16,7 +16,8 @@ use Rattle.flow_networks.specs.Blocks.{AreApart, MovesBlock}
 use Rattle.flow_networks.proofs.Reached.{same_but, state_written}
 use Rattle.flow_networks.proofs.Seats.{state_here, inputs_here, outputs_here, input_here, output_here, states_after, openings_same}
 
-module _ {X : Type 0} {t : Ghosts X} (nodes : List (Placed X t)) (edges : List Edge) (built : IsBuilt t.behaviour (states_in nodes) edges) (seated : AreSeated nodes edges) (k : ℕ) (x : Placed X t) (inside : k < length nodes) (is : x ≡ get_or nodes k x) where
+module _ {X : Type 0} {t : Ghosts X} (nodes : List (Placed X t)) (edges : List Edge) (built : IsBuilt t.behaviour (states_in nodes) edges)
+    (seated : AreSeated nodes edges) (k : ℕ) (x : Placed X t) (inside : k < length nodes) (is : x ≡ get_or nodes k x) where
   port_there : (q : ℕ) → q < length x.outputs.items → q < outputs_at t.behaviour (states_in nodes) k
   port_there q low = omega (arith, low, outputs_here nodes k x inside is)
 
@@ -26,17 +27,21 @@ module _ {X : Type 0} {t : Ghosts X} (nodes : List (Placed X t)) (edges : List E
       let here : k < length (states_in nodes) = omega (arith, inside, length-map nodes placed_state) in
       let first = port_there p low in
       let next = port_there q high in
-      let joined : out_edge edges k p ≡ out_edge edges k q = sym (output_here nodes k x inside is edges built.joined seated p first) ∙ same ∙ output_here nodes k x inside is edges built.joined seated q next in
+      let joined : out_edge edges k p ≡ out_edge edges k q = sym (output_here nodes k x inside is edges built.joined seated p first) ∙ same
+      ∙ output_here nodes k x inside is edges built.joined seated q next in
       sym (built.wired.out_edge k p here first).2 ∙ ap (λ e. (edge_at edges e).writer_port) joined ∙ (built.wired.out_edge k q here next).2
 
   -- the edges at its output ports take what it writes
   pub node_takes : (v : View) → EdgesTake t.behaviour (states_in nodes) edges k v → TakeKinds x.outputs.items (t.behaviour.kind_out (placed_state x)) v
   node_takes v takes q low =
       let port = port_there q low in
-      let at_edge = subst (λ e. TakesKind (v.kind e) (t.behaviour.kind_out (state_at t.behaviour (states_in nodes) k) q)) (sym (output_here nodes k x inside is edges built.joined seated q port)) (takes q port) in
+      let at_edge = subst (λ e. TakesKind (v.kind e) (t.behaviour.kind_out (state_at t.behaviour (states_in nodes) k) q))
+      (sym (output_here nodes k x inside is edges built.joined seated q port)) (takes q port) in
       subst (λ s. TakesKind (v.kind (edge_of x.outputs.items q)) (t.behaviour.kind_out s q)) (sym (state_here nodes k x inside is)) at_edge
 
-  pub node_moves : BehaviourLaws t.behaviour → (y : Placed X t) → IsSamePlace x y → (a v : View) (steps : ℕ) → Went x.inputs.items x.outputs.items t.behaviour (placed_state x) a (placed_state y) v steps → MovesBlock t.behaviour k edges (states_in nodes) a (states_in (set nodes k y)) v steps
+  pub node_moves : BehaviourLaws t.behaviour → (y : Placed X t) → IsSamePlace x y → (a v : View) (steps : ℕ) →
+      Went x.inputs.items x.outputs.items t.behaviour (placed_state x) a (placed_state y) v steps →
+      MovesBlock t.behaviour k edges (states_in nodes) a (states_in (set nodes k y)) v steps
   node_moves laws y place a v steps went = record {
     inputs = x.inputs.items;
     outputs = x.outputs.items;

@@ -1,5 +1,6 @@
 -- What the events of a block carry over the edges at the ports of a node.
-use Rattle.std.proofs.Common.{◌≡◌, ◌≢◌, ℕ, zero, suc, ◌+◌, ◌*◌, ◌<◌, ◌≤◌, Bool, true, false, cond, eqb, List, [], ◌∷◌, ◌++◌, length, Option, ◌⊎◌, inl, inr, refl, sym, ◌∙◌, ap, subst, arith, append-nil, append_assoc, eq-eqb, ne_eqb, eqb-true}
+use Rattle.std.proofs.Common.{◌≡◌, ◌≢◌, ℕ, zero, suc, ◌+◌, ◌*◌, ◌<◌, ◌≤◌, Bool, true, false, cond, eqb, List, [], ◌∷◌, ◌++◌, length, Option, ◌⊎◌, inl}
+use Rattle.std.proofs.Common.{inr, refl, sym, ◌∙◌, ap, subst, arith, append-nil, append_assoc, eq-eqb, ne_eqb, eqb-true}
 use Rattle.std.proofs.Props.{props}
 use Rattle.std.specs.List.{All}
 use Rattle.std.proofs.lemmas.Bool.{cases_eq, cases_lt, cases_Bool}
@@ -114,23 +115,31 @@ module _ {S : Type 0} (b : Behaviour S) (laws : BehaviourLaws b) (outputs : List
   there_is s q opens wants reached = let same : b.outputs s ≡ b.outputs o = sym (laws.same_outputs s) ∙ ap b.outputs opens in omega (arith, wants_output b laws s q wants reached, same, each_output)
 
   -- what was sent on the edge at an output port, and on another
-  sent_at : (e q : ℕ) → q < length outputs → e ≡ edge_of outputs q → (h : List (Event Signal)) (s t : S) → b.opening s ≡ o → IsReached b s → Does b.process s h t → (l : List Signal) → sent_after (edge_of outputs) e l h ≡ with_more l (writes q h)
+  sent_at : (e q : ℕ) → q < length outputs → e ≡ edge_of outputs q → (h : List (Event Signal)) (s t : S) → b.opening s ≡ o → IsReached b s →
+      Does b.process s h t → (l : List Signal) → sent_after (edge_of outputs) e l h ≡ with_more l (writes q h)
   unfolding sent_after
   sent_at e q low at [] s t opens reached does l = refl
-  sent_at e q low at (Reads p m ∷ h) s t opens reached (wants, does) l = sent_at e q low at h (b.process.read s m) t (laws.read_opening s p m wants ∙ opens) (reached_read b laws s (b.process.read s m) p m wants refl reached) does l
+  sent_at e q low at (Reads p m ∷ h) s t opens reached (wants, does) l =
+      sent_at e q low at h (b.process.read s m) t (laws.read_opening s p m wants ∙ opens)
+      (reached_read b laws s (b.process.read s m) p m wants refl reached) does l
   sent_at e q low at (Writes p m ∷ h) s t opens reached (wants, is, does) l =
       let there = there_is s p opens wants reached in
       let test : eqb e (edge_of outputs p) ≡ eqb q p = same_test e (edge_of outputs p) q p (λ same. apart q p low there (sym at ∙ same)) (λ same. at ∙ ap (edge_of outputs) same) in
-      sent_at e q low at h (b.process.wrote s) t (laws.wrote_opening s p wants ∙ opens) (reached_wrote b laws s (b.process.wrote s) p wants refl reached) does (cond (eqb e (edge_of outputs p)) (longer l m) l)
+      sent_at e q low at h (b.process.wrote s) t (laws.wrote_opening s p wants ∙ opens)
+      (reached_wrote b laws s (b.process.wrote s) p wants refl reached) does (cond (eqb e (edge_of outputs p)) (longer l m) l)
       ∙ ap (λ c. with_more (cond c (longer l m) l) (writes q h)) test
       ∙ with_one (eqb q p) l m (writes q h)
 
-  sent_none : (e : ℕ) → ((q : ℕ) → q < length outputs → e ≢ edge_of outputs q) → (h : List (Event Signal)) (s t : S) → b.opening s ≡ o → IsReached b s → Does b.process s h t → (l : List Signal) → sent_after (edge_of outputs) e l h ≡ l
+  sent_none : (e : ℕ) → ((q : ℕ) → q < length outputs → e ≢ edge_of outputs q) → (h : List (Event Signal)) (s t : S) → b.opening s ≡ o → IsReached b s
+      → Does b.process s h t → (l : List Signal) → sent_after (edge_of outputs) e l h ≡ l
   unfolding sent_after
   sent_none e away [] s t opens reached does l = refl
-  sent_none e away (Reads p m ∷ h) s t opens reached (wants, does) l = sent_none e away h (b.process.read s m) t (laws.read_opening s p m wants ∙ opens) (reached_read b laws s (b.process.read s m) p m wants refl reached) does l
+  sent_none e away (Reads p m ∷ h) s t opens reached (wants, does) l =
+      sent_none e away h (b.process.read s m) t (laws.read_opening s p m wants ∙ opens)
+      (reached_read b laws s (b.process.read s m) p m wants refl reached) does l
   sent_none e away (Writes p m ∷ h) s t opens reached (wants, is, does) l =
-      sent_none e away h (b.process.wrote s) t (laws.wrote_opening s p wants ∙ opens) (reached_wrote b laws s (b.process.wrote s) p wants refl reached) does (cond (eqb e (edge_of outputs p)) (longer l m) l)
+      sent_none e away h (b.process.wrote s) t (laws.wrote_opening s p wants ∙ opens)
+      (reached_wrote b laws s (b.process.wrote s) p wants refl reached) does (cond (eqb e (edge_of outputs p)) (longer l m) l)
       ∙ ap (λ c. cond c (longer l m) l) (ne_eqb e (edge_of outputs p) (away p (there_is s p opens wants reached)))
 
 -- what a node writes to a port fits its kind
@@ -145,17 +154,23 @@ module _ {S : Type 0} (b : Behaviour S) (laws : BehaviourLaws b) where
 
   pub writes_of_kind : (k : Kind) (q : ℕ) (h : List (Event Signal)) (s t : S) → IsReached b s → b.kind_out s q ≡ k → Does b.process s h t → SignalsOfKind k (writes q h)
   writes_of_kind k q [] s t reached is does = tt
-  writes_of_kind k q (Reads p m ∷ h) s t reached is (wants, does) = writes_of_kind k q h (b.process.read s m) t (reached_read b laws s (b.process.read s m) p m wants refl reached) (kind_still s (b.process.read s m) q (laws.read_opening s p m wants) ∙ is) does
+  writes_of_kind k q (Reads p m ∷ h) s t reached is (wants, does) =
+      writes_of_kind k q h (b.process.read s m) t (reached_read b laws s (b.process.read s m) p m wants refl reached)
+      (kind_still s (b.process.read s m) q (laws.read_opening s p m wants) ∙ is) does
   writes_of_kind k q (Writes p m ∷ h) s t reached is (wants, told, does) =
       of_one k (eqb q p) m (writes q h)
-      (λ same. let at : q ≡ p = eqb-true q p same in subst (λ n. fits n m ≡ true) is (subst (λ n. fits (b.kind_out s n) m ≡ true) (sym at) (subst (λ n. fits (b.kind_out s p) n ≡ true) told (written_fits b laws s p wants reached))))
+      (λ same. let at : q ≡ p = eqb-true q p same in
+      subst (λ n. fits n m ≡ true) is
+      (subst (λ n. fits (b.kind_out s n) m ≡ true) (sym at)
+      (subst (λ n. fits (b.kind_out s p) n ≡ true) told (written_fits b laws s p wants reached))))
       (writes_of_kind k q h (b.process.wrote s) t (reached_wrote b laws s (b.process.wrote s) p wants refl reached) (kind_still s (b.process.wrote s) q (laws.wrote_opening s p wants) ∙ is) does)
 
   -- and nothing after the end
   abbrev InOrder : ℕ → List (Event Signal) → List (Event Signal) → Type 0
   InOrder q before h = (orderly (writes q h) ≡ true) × (ended (writes q before) ≡ true → writes q h ≡ [])
 
-  no_end_yet : (before : List (Event Signal)) (o s : S) (q : ℕ) → IsLawfulProcess b.process o (b.inputs o) (b.outputs o) → Does b.process o before s → b.process.want s ≡ Write q → ended (writes q before) ≡ true → ⊥
+  no_end_yet : (before : List (Event Signal)) (o s : S) (q : ℕ) → IsLawfulProcess b.process o (b.inputs o) (b.outputs o) → Does b.process o before s →
+      b.process.want s ≡ Write q → ended (writes q before) ≡ true → ⊥
   no_end_yet before o s q lawful did wants shut = lawful.open_out before s q did wants (ended_has b.process laws.end (writes q before) shut)
 
   ends_with : (ms : List Signal) → ended (ms ++ stop ∷ []) ≡ true
@@ -175,23 +190,30 @@ module _ {S : Type 0} (b : Behaviour S) (laws : BehaviourLaws b) where
   orderly_one (carry x) ms rest last none = last
   orderly_one stop ms rest last none = ap (λ l. orderly (stop ∷ l)) (none (ends_with ms))
 
-  in_order_one : (q p : ℕ) (o : S) → IsLawfulProcess b.process o (b.inputs o) (b.outputs o) → (before : List (Event Signal)) (m : Signal) (h : List (Event Signal)) (s : S) → Does b.process o before s → b.process.want s ≡ Write p → InOrder q (before ++ Writes p m ∷ []) h → (q ≡ p) ⊎ (q ≢ p) → InOrder q before (Writes p m ∷ h)
+  in_order_one : (q p : ℕ) (o : S) → IsLawfulProcess b.process o (b.inputs o) (b.outputs o) →
+      (before : List (Event Signal)) (m : Signal) (h : List (Event Signal)) (s : S) → Does b.process o before s → b.process.want s ≡ Write p →
+      InOrder q (before ++ Writes p m ∷ []) h → (q ≡ p) ⊎ (q ≢ p) → InOrder q before (Writes p m ∷ h)
   in_order_one q p o lawful before m h s did wants more (inl same) =
       let pushed = writes_push q p m before same in
-      let now : writes q (Writes p m ∷ h) ≡ m ∷ writes q h = ap (λ c. cond c (m ∷ writes q h) (writes q h)) (eq-eqb q p same) in
-      (ap orderly now ∙ orderly_one m (writes q before) (writes q h) more.0 (λ shut. more.1 (ap ended pushed ∙ shut)), λ shut. absurd (no_end_yet before o s q lawful did (wants ∙ ap Write (sym same)) shut))
+      let now : writes q (Writes p m ∷ h) ≡ m ∷ writes q h = ap (λ c. cond c (m ∷ writes q h) (writes q h)) (eq-eqb q p same) in (
+        ap orderly now ∙ orderly_one m (writes q before) (writes q h) more.0 (λ shut. more.1 (ap ended pushed ∙ shut)),
+        λ shut. absurd (no_end_yet before o s q lawful did (wants ∙ ap Write (sym same)) shut),
+      )
   in_order_one q p o lawful before m h s did wants more (inr other) =
       let now : writes q (Writes p m ∷ h) ≡ writes q h = ap (λ c. cond c (m ∷ writes q h) (writes q h)) (ne_eqb q p other) in
       (ap orderly now ∙ more.0, λ shut. now ∙ more.1 (ap ended (writes_push_other q p m before other) ∙ shut))
 
-  in_order : (q : ℕ) (o : S) → IsLawfulProcess b.process o (b.inputs o) (b.outputs o) → (before h : List (Event Signal)) (s t : S) → Does b.process o before s → Does b.process s h t → InOrder q before h
+  in_order : (q : ℕ) (o : S) → IsLawfulProcess b.process o (b.inputs o) (b.outputs o) → (before h : List (Event Signal)) (s t : S) →
+      Does b.process o before s → Does b.process s h t → InOrder q before h
   unfolding orderly
   in_order q o lawful before [] s t did does = (refl, λ shut. refl)
   in_order q o lawful before (Reads p m ∷ h) s t did (wants, does) =
       let more = in_order q o lawful (before ++ Reads p m ∷ []) h (b.process.read s m) t (does_then b.process o s (b.process.read s m) before (Reads p m ∷ []) did (wants, refl)) does in
       (more.0, λ shut. more.1 (ap ended (writes_push_read q p m before) ∙ shut))
   in_order q o lawful before (Writes p m ∷ h) s t did (wants, is, does) =
-      in_order_one q p o lawful before m h s did wants (in_order q o lawful (before ++ Writes p m ∷ []) h (b.process.wrote s) t (does_then b.process o s (b.process.wrote s) before (Writes p m ∷ []) did (wants, is, refl)) does) (cases_eq q p)
+      in_order_one q p o lawful before m h s did wants
+      (in_order q o lawful (before ++ Writes p m ∷ []) h (b.process.wrote s) t
+      (does_then b.process o s (b.process.wrote s) before (Writes p m ∷ []) did (wants, is, refl)) does) (cases_eq q p)
 
   pub writes_in_order : (q : ℕ) (h : List (Event Signal)) (s t : S) → IsReached b s → Does b.process s h t → orderly (writes q h) ≡ true
   writes_in_order q h s t reached does =
@@ -208,10 +230,13 @@ flats_fit k (EndFlat ∷ xs) of takes (is, more) = All-cons (λ x. FitsEdge of (
 
 -- what was sent on an edge after the events, where the edge is at an output port, and where it is not
 module _ {S : Type 0} (b : Behaviour S) (laws : BehaviourLaws b) (outputs : List ℕ) (apart : AreApart outputs) (s : S) (reached : IsReached b s) (each_output : length outputs ≡ b.outputs s) where
-  pub sent_some : (e q : ℕ) → q < length outputs → e ≡ edge_of outputs q → (h : List (Event Signal)) (t : S) → Does b.process s h t → (l written : List Signal) → writes q h ≡ written → orderly written ≡ true → sent_after (edge_of outputs) e l h ≡ cond (ended l) l (l ++ written)
-  sent_some e q low at h t does l written there last = sent_at b laws outputs apart (b.opening s) each_output' e q low at h s t refl reached does l ∙ ap (with_more l) there ∙ with_block l written last where
-    each_output' : length outputs ≡ b.outputs (b.opening s)
-    each_output' = each_output ∙ sym (laws.same_outputs s)
+  pub sent_some : (e q : ℕ) → q < length outputs → e ≡ edge_of outputs q → (h : List (Event Signal)) (t : S) → Does b.process s h t →
+      (l written : List Signal) → writes q h ≡ written → orderly written ≡ true → sent_after (edge_of outputs) e l h ≡ cond (ended l) l (l ++ written)
+  sent_some e q low at h t does l written there last = sent_at b laws outputs apart (b.opening s) each_output' e q low at h s t refl reached does l
+      ∙ ap (with_more l) there ∙ with_block l written last where
+        each_output' : length outputs ≡ b.outputs (b.opening s)
+        each_output' = each_output ∙ sym (laws.same_outputs s)
 
-  pub sent_other : (e : ℕ) → ((q : ℕ) → q < length outputs → e ≢ edge_of outputs q) → (h : List (Event Signal)) (t : S) → Does b.process s h t → (l : List Signal) → sent_after (edge_of outputs) e l h ≡ l
+  pub sent_other : (e : ℕ) → ((q : ℕ) → q < length outputs → e ≢ edge_of outputs q) → (h : List (Event Signal)) (t : S) → Does b.process s h t →
+      (l : List Signal) → sent_after (edge_of outputs) e l h ≡ l
   sent_other e away h t does l = sent_none b laws outputs apart (b.opening s) (each_output ∙ sym (laws.same_outputs s)) e away h s t refl reached does l

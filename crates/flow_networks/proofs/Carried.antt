@@ -1,5 +1,6 @@
 -- What the history of one node carries over the edges at its ports.
-use Rattle.std.proofs.Common.{◌≡◌, ℕ, ◌<◌, Bool, false, cond, eqb, List, [], ◌∷◌, ◌++◌, ◌⊎◌, inl, inr, refl, sym, ◌∙◌, ap, subst, append-nil, append_assoc, eq-eqb, ne_eqb, Result, Ok, Err, IfOk, OnErr}
+use Rattle.std.proofs.Common.{◌≡◌, ℕ, ◌<◌, Bool, false, cond, eqb, List, [], ◌∷◌, ◌++◌, ◌⊎◌, inl, inr, refl, sym, ◌∙◌, ap, subst, append-nil}
+use Rattle.std.proofs.Common.{append_assoc, eq-eqb, ne_eqb, Result, Ok, Err, IfOk, OnErr}
 use Rattle.std.specs.declared.alloc.AllocError.{AllocError}
 use Rattle.std.proofs.lemmas.Bool.{cases_eq, cases_Bool}
 use Rattle.kahn.specs.declared.want.Want.TheVariants.{Read, Write}
@@ -27,7 +28,8 @@ same_test e f p q to from = go (cases_eq e f)
     go (inl same) = eq-eqb e f same ∙ sym (eq-eqb p q (to same))
     go (inr other) = ne_eqb e f other ∙ sym (ne_eqb p q (λ h. other (from h)))
 
-module _ {S : Type 0} (P : Process S Signal) (is_end : P.end ≡ stop) (net : Network S) (wired : IsWired net) (k : ℕ) (inside : k < net.nodes) (lawful : IsLawfulProcess P (net.opening k) (net.inputs k) (net.outputs k))
+module _ {S : Type 0} (P : Process S Signal) (is_end : P.end ≡ stop) (net : Network S) (wired : IsWired net) (k : ℕ) (inside : k < net.nodes)
+    (lawful : IsLawfulProcess P (net.opening k) (net.inputs k) (net.outputs k))
     (into from : ℕ → ℕ) (into_is : (p : ℕ) → p < net.inputs k → into p ≡ net.in_edge k p) (from_is : (q : ℕ) → q < net.outputs k → from q ≡ net.out_edge k q) where
   -- the edge at an input port that the node wants to read, and at an output port that it wants to write
   place_in : (before : List (Event Signal)) (s : S) (p : ℕ) → Does P (net.opening k) before s → P.want s ≡ Read p → (into p < net.edges) × (net.reader (into p) ≡ k) × (net.reader_port (into p) ≡ p)
@@ -43,17 +45,21 @@ module _ {S : Type 0} (P : Process S Signal) (is_end : P.end ≡ stop) (net : Ne
   did_read : (before : List (Event Signal)) (s : S) (p : ℕ) (m : Signal) → Does P (net.opening k) before s → P.want s ≡ Read p → Does P (net.opening k) (before ++ Reads p m ∷ []) (P.read s m)
   did_read before s p m did wants = does_then P (net.opening k) s (P.read s m) before (Reads p m ∷ []) did (wants, refl)
 
-  did_write : (before : List (Event Signal)) (s : S) (q : ℕ) (m : Signal) → Does P (net.opening k) before s → P.want s ≡ Write q → P.written s ≡ m → Does P (net.opening k) (before ++ Writes q m ∷ []) (P.wrote s)
+  did_write : (before : List (Event Signal)) (s : S) (q : ℕ) (m : Signal) → Does P (net.opening k) before s → P.want s ≡ Write q → P.written s ≡ m →
+      Does P (net.opening k) (before ++ Writes q m ∷ []) (P.wrote s)
   did_write before s q m did wants is = does_then P (net.opening k) s (P.wrote s) before (Writes q m ∷ []) did (wants, is, refl)
 
   -- from an edge that goes to it, what it read at that port
-  pub read_own : (e : ℕ) → e < net.edges → net.reader e ≡ k → (before h : List (Event Signal)) (s t : S) → Does P (net.opening k) before s → Does P s h t → read_from into e h ≡ reads (net.reader_port e) h
+  pub read_own : (e : ℕ) → e < net.edges → net.reader e ≡ k → (before h : List (Event Signal)) (s t : S) → Does P (net.opening k) before s →
+      Does P s h t → read_from into e h ≡ reads (net.reader_port e) h
   unfolding read_from
   read_own e there at before [] s t did does = refl
   read_own e there at before (Reads p m ∷ h) s t did (wants, rest) =
       let place = place_in before s p did wants in
       let more = read_own e there at (before ++ Reads p m ∷ []) h (P.read s m) t (did_read before s p m did wants) rest in
-      ap (λ c. cond c (m ∷ read_from into e h) (read_from into e h)) (same_test e (into p) (net.reader_port e) p (λ h. ap net.reader_port h ∙ place.2) (λ h. wired.one_in e (into p) there place.0 (at ∙ sym place.1) (h ∙ sym place.2)))
+      ap (λ c. cond c (m ∷ read_from into e h) (read_from into e h))
+      (same_test e (into p) (net.reader_port e) p (λ h. ap net.reader_port h ∙ place.2)
+      (λ h. wired.one_in e (into p) there place.0 (at ∙ sym place.1) (h ∙ sym place.2)))
       ∙ ap (λ l. cond (eqb (net.reader_port e) p) (m ∷ l) l) more
   read_own e there at before (Writes q m ∷ h) s t did (wants, is, rest) = read_own e there at (before ++ Writes q m ∷ []) h (P.wrote s) t (did_write before s q m did wants is) rest
 
@@ -75,7 +81,8 @@ module _ {S : Type 0} (P : Process S Signal) (is_end : P.end ≡ stop) (net : Ne
   ]
 
   -- to an edge that comes from it, what it wrote at that port
-  pub sent_own : (e : ℕ) → e < net.edges → net.writer e ≡ k → (before h : List (Event Signal)) (s t : S) → Does P (net.opening k) before s → Does P s h t → (sent : List Signal) → sent ≡ writes (net.writer_port e) before
+  pub sent_own : (e : ℕ) → e < net.edges → net.writer e ≡ k → (before h : List (Event Signal)) (s t : S) → Does P (net.opening k) before s →
+      Does P s h t → (sent : List Signal) → sent ≡ writes (net.writer_port e) before
       → sent_after from e sent h ≡ sent ++ writes (net.writer_port e) h
   unfolding sent_after
   sent_own e there at before [] s t did does sent is = sym (append-nil sent)
@@ -101,11 +108,13 @@ module _ {S : Type 0} (P : Process S Signal) (is_end : P.end ≡ stop) (net : Ne
           ∙ sym (ap (λ c. sent ++ cond c (m ∷ writes (net.writer_port e) h) (writes (net.writer_port e) h)) (ne_eqb (net.writer_port e) q other))
 
   -- and nothing to others
-  pub sent_other : (e : ℕ) → (e < net.edges → net.writer e ≡ k → ⊥) → (before h : List (Event Signal)) (s t : S) → Does P (net.opening k) before s → Does P s h t → (sent : List Signal) → sent_after from e sent h ≡ sent
+  pub sent_other : (e : ℕ) → (e < net.edges → net.writer e ≡ k → ⊥) → (before h : List (Event Signal)) (s t : S) → Does P (net.opening k) before s →
+      Does P s h t → (sent : List Signal) → sent_after from e sent h ≡ sent
   unfolding sent_after
   sent_other e away before [] s t did does sent = refl
   sent_other e away before (Reads p m ∷ h) s t did (wants, rest) sent = sent_other e away (before ++ Reads p m ∷ []) h (P.read s m) t (did_read before s p m did wants) rest sent
   sent_other e away before (Writes q m ∷ h) s t did (wants, is, rest) sent =
       let place = place_out before s q did wants in
-      ap (λ c. sent_after from e (cond c (cond (ended sent) sent (sent ++ m ∷ [])) sent) h) (ne_eqb e (from q) (λ same. away (subst (λ f. f < net.edges) (sym same) place.0) (ap net.writer same ∙ place.1)))
+      ap (λ c. sent_after from e (cond c (cond (ended sent) sent (sent ++ m ∷ [])) sent) h)
+      (ne_eqb e (from q) (λ same. away (subst (λ f. f < net.edges) (sym same) place.0) (ap net.writer same ∙ place.1)))
       ∙ sent_other e away (before ++ Writes q m ∷ []) h (P.wrote s) t (did_write before s q m did wants is) rest sent

@@ -98,7 +98,8 @@ module _ {S : Type 0} (b : Behaviour S) (laws : BehaviourLaws b) (s : S) where
         scalar_fits (b.kind_out t q) (b.process.written t) (λ is. scalar (sym kind ∙ is)) (written_fits b laws t q wants now_reached)
 
     -- one message more
-    pub drew_next : IsWrite (b.process.want t) → (message : Msg) (u : S) (x : Flat) (ys : List Flat) → signal_of message ≡ b.process.written t → u ≡ b.process.wrote t → message_of x ≡ message → ys ≡ xs ++ x ∷ [] → InBlock b s [] u (flat_signals ys) (length ys)
+    pub drew_next : IsWrite (b.process.want t) → (message : Msg) (u : S) (x : Flat) (ys : List Flat) → signal_of message ≡ b.process.written t → u
+        ≡ b.process.wrote t → message_of x ≡ message → ys ≡ xs ++ x ∷ [] → InBlock b s [] u (flat_signals ys) (length ys)
     drew_next writing message u x ys told is stands all =
         let (q, wants) = writes_port (b.process.want t) writing in
         let m = signal_of message in
@@ -121,7 +122,9 @@ module _ {S : Type 0} (b : Behaviour S) (laws : BehaviourLaws b) (s : S) where
     still (a ∷ h) does counts = absurd (omega (arith, counts, none))
 
   -- the edges may take what was written
-  pub may_take : {t : S} {read : List Signal} {steps : ℕ} (inputs outputs : List ℕ) (a u : View) (xs : List Flat) (n : ℕ) → IsPlaced b inputs outputs s a → SameEnds a u → InBlock b s read t (flat_signals xs) steps → ((q : ℕ) → q < length outputs → n ≤ u.room (edge_of outputs q)) → length xs ≤ n → MayTake outputs xs u
+  pub may_take : {t : S} {read : List Signal} {steps : ℕ} (inputs outputs : List ℕ) (a u : View) (xs : List Flat) (n : ℕ) →
+      IsPlaced b inputs outputs s a → SameEnds a u → InBlock b s read t (flat_signals xs) steps →
+      ((q : ℕ) → q < length outputs → n ≤ u.room (edge_of outputs q)) → length xs ≤ n → MayTake outputs xs u
   may_take {t} {read} {steps} inputs outputs a u xs n placed same block room few =
       let low_there : (q : ℕ) → q < length outputs → q < b.outputs s = λ q low. omega (arith, low, placed.each_output) in
       record {
@@ -148,7 +151,9 @@ module _ {S : Type 0} (b : Behaviour S) (laws : BehaviourLaws b) (inputs outputs
   last_of {t} block q low = subst (λ l. orderly l ≡ true) (block.writes_are q (omega (arith, low, placed.each_output))) (writes_in_order b laws q block.history s t placed.reached block.does)
 
   -- it looked, and then passed a block on
-  pub went_passed : (one : length inputs ≡ 1) (e : ℕ) → e ≡ edge_of inputs 0 → (w u v : View) (t : S) (read written : List Signal) (steps : ℕ) → LeavesAlone inputs outputs a w → PassedOn b s read t written → TakenAll w e read u → PutOnFirst outputs (length outputs) written u v → 0 < length read → steps ≡ length read + length outputs * length written → Went inputs outputs b s a t v steps
+  pub went_passed : (one : length inputs ≡ 1) (e : ℕ) → e ≡ edge_of inputs 0 → (w u v : View) (t : S) (read written : List Signal) (steps : ℕ) →
+      LeavesAlone inputs outputs a w → PassedOn b s read t written → TakenAll w e read u → PutOnFirst outputs (length outputs) written u v →
+      0 < length read → steps ≡ length read + length outputs * length written → Went inputs outputs b s a t v steps
   went_passed one e at w u v t read written steps alone passed taken put some is =
       let block : InBlock b s read t written steps = passed_block b laws s passed steps (is ∙ ap (λ n. length read + n * length written) placed.each_output) in
       let here = subst (λ f. TakenAll w f read u) at taken in
@@ -156,6 +161,9 @@ module _ {S : Type 0} (b : Behaviour S) (laws : BehaviourLaws b) (inputs outputs
       (λ f none. here.coming f (not_at inputs f 0 none (omega (arith, one)))) put (omega (arith, is, some)))
 
   -- it looked, and then drew a block
-  pub went_drawn : (w v : View) (t : S) (written : List Signal) (steps : ℕ) → LeavesAlone inputs outputs a w → InBlock b s [] t written steps → PutOnFirst outputs (length outputs) written w v → 0 < steps → Went inputs outputs b s a t v steps
+  pub went_drawn : (w v : View) (t : S) (written : List Signal) (steps : ℕ) → LeavesAlone inputs outputs a w → InBlock b s [] t written steps →
+      PutOnFirst outputs (length outputs) written w v → 0 < steps → Went inputs outputs b s a t v steps
   went_drawn w v t written steps alone block put some =
-      went_looked b laws inputs outputs apart alone (went_block b laws inputs outputs apart s placed.reached placed.each_output t [] written steps block (last_of block) w w v (taken_none w (edge_of inputs 0)) (λ f none. refl) put some)
+      went_looked b laws inputs outputs apart alone
+      (went_block b laws inputs outputs apart s placed.reached placed.each_output t [] written steps block (last_of block) w w v
+      (taken_none w (edge_of inputs 0)) (λ f none. refl) put some)

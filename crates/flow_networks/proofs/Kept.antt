@@ -58,7 +58,8 @@ module _ {S : Type 0} (b : Behaviour S) (states : List S) (ports : List Ports) (
       let port : edge.reader_port < length (row_at (ins ports) edge.reader) = row_inside (ins ports) edge.reader edge.reader_port e (wired.ins.stands e l) in
       omega (arith, node_inside (ins ports) edge.reader edge.reader_port port, length-map ports (λ (n : Ports). n.inputs.items), nodes_are)
 
-  pub kept_node : IsWiring ports edges → (s : S) (after : List Ports) → map length (ins after) ≡ map length (ins ports) ++ b.inputs s ∷ [] → map length (outs after) ≡ map length (outs ports) ++ b.outputs s ∷ [] → length states < most_nodes → IsKept b (states ++ s ∷ []) after edges
+  pub kept_node : IsWiring ports edges → (s : S) (after : List Ports) → map length (ins after) ≡ map length (ins ports) ++ b.inputs s ∷ [] →
+      map length (outs after) ≡ map length (outs ports) ++ b.outputs s ∷ [] → length states < most_nodes → IsKept b (states ++ s ∷ []) after edges
   kept_node wired s after i o few = record {
     inputs = i ∙ ap (λ (l : List ℕ). l ++ b.inputs s ∷ []) kept.inputs ∙ sym (map-append b.inputs states (s ∷ []));
     outputs = o ∙ ap (λ (l : List ℕ). l ++ b.outputs s ∷ []) kept.outputs ∙ sym (map-append b.outputs states (s ∷ []));
@@ -75,7 +76,8 @@ module _ {S : Type 0} (b : Behaviour S) (states : List S) (ports : List Ports) (
           ap (λ (ks : List Kind). get_or ks k UnitKind) (map-append f states (s ∷ []))
           ∙ get_or_append_left (map f states) (f s ∷ []) UnitKind k (omega (arith, length-map states f))
 
-  pub kept_edge : (x : Edge) (after : List Ports) → MayJoin b states edges x → map length (ins after) ≡ map length (ins ports) → map length (outs after) ≡ map length (outs ports) → length edges < most_edges → IsKept b states after (edges ++ x ∷ [])
+  pub kept_edge : (x : Edge) (after : List Ports) → MayJoin b states edges x → map length (ins after) ≡ map length (ins ports) →
+      map length (outs after) ≡ map length (outs ports) → length edges < most_edges → IsKept b states after (edges ++ x ∷ [])
   kept_edge x after may i o few = record {
     inputs = i ∙ kept.inputs;
     outputs = o ∙ kept.outputs;

@@ -45,20 +45,28 @@ module _ (before seen after : View) (e : ℕ) (m : Signal) (message : Msg) (look
   put_ends (Ok x) ok refused = same_ends_then before seen after looked.ends ok.ends
   put_ends (Err x) ok refused = same_ends_then before seen after looked.ends refused.1.ends
 
-  pub put_or_lost : (r : Result (Unit {0}) Refused) → 0 < seen.room e → OnOk r (Put seen e m after) → IfErr r (λ x. (x.message ≡ message) × LookedForRoom seen e after) → IsErrAnd r (λ x. x.why ≡ Closed) ↔ (ended (seen.sent e) ≡ true) → (ended (seen.sent e) ≡ false → 0 < seen.room e → IsOk r) → (ended (before.sent e) ≡ false → PutInRoom before e m after) × (ended (before.sent e) ≡ true → LookedForRoom before e after)
+  pub put_or_lost : (r : Result (Unit {0}) Refused) → 0 < seen.room e → OnOk r (Put seen e m after) →
+      IfErr r (λ x. (x.message ≡ message) × LookedForRoom seen e after) → IsErrAnd r (λ x. x.why ≡ Closed) ↔ (ended (seen.sent e) ≡ true) →
+      (ended (seen.sent e) ≡ false → 0 < seen.room e → IsOk r) → (ended (before.sent e) ≡ false → PutInRoom before e m after)
+      × (ended (before.sent e) ≡ true → LookedForRoom before e after)
   put_or_lost (Ok x) certain ok refused closed succeeds =
       (λ free. record { seen = seen; looked = looked; certain = certain; put = ok }, λ shut. absurd (closed.1 (ap ended (looked.traffic.sent e) ∙ shut)))
   put_or_lost (Err x) certain ok refused closed succeeds =
       (λ free. absurd (let no = succeeds (ap ended (looked.traffic.sent e) ∙ free) certain in cc), λ shut. looked_twice before e seen after looked refused.1)
 
 -- a node that read, where a message was taken
-pub moves_read : {S : Type 0} (b : Behaviour S) (edges : List Edge) (node : ℕ) (s s' : S) (before after : View) (p e : ℕ) (m : Signal) → b.process.want s ≡ Read p → e ≡ in_edge edges node p → Taken before e m after → s' ≡ b.process.read s m → Moves b edges node s s' before after (b.process.want s)
+pub moves_read : {S : Type 0} (b : Behaviour S) (edges : List Edge) (node : ℕ) (s s' : S) (before after : View) (p e : ℕ) (m : Signal) →
+    b.process.want s ≡ Read p → e ≡ in_edge edges node p → Taken before e m after → s' ≡ b.process.read s m →
+    Moves b edges node s s' before after (b.process.want s)
 moves_read b edges node s s' before after p e m wants edge taken is =
     let parts : Moves b edges node s s' before after (Read p) = (m, subst (λ f. Taken before f m after) edge taken, is) in
     subst (Moves b edges node s s' before after) (sym wants) parts
 
 -- a node that wrote, where its message was put or lost
-pub moves_write : {S : Type 0} (b : Behaviour S) (edges : List Edge) (node : ℕ) (s s' : S) (before after : View) (q e : ℕ) (m : Signal) → b.process.want s ≡ Write q → e ≡ out_edge edges node q → m ≡ b.process.written s → s' ≡ b.process.wrote s → (ended (before.sent e) ≡ false → PutInRoom before e m after) × (ended (before.sent e) ≡ true → LookedForRoom before e after) → Moves b edges node s s' before after (b.process.want s)
+pub moves_write : {S : Type 0} (b : Behaviour S) (edges : List Edge) (node : ℕ) (s s' : S) (before after : View) (q e : ℕ) (m : Signal) →
+    b.process.want s ≡ Write q → e ≡ out_edge edges node q → m ≡ b.process.written s → s' ≡ b.process.wrote s →
+    (ended (before.sent e) ≡ false → PutInRoom before e m after) × (ended (before.sent e) ≡ true → LookedForRoom before e after) →
+    Moves b edges node s s' before after (b.process.want s)
 moves_write b edges node s s' before after q e m wants edge message is put =
     let at_edge = subst (λ f. (ended (before.sent f) ≡ false → PutInRoom before f m after) × (ended (before.sent f) ≡ true → LookedForRoom before f after)) edge put in
     let parts : Moves b edges node s s' before after (Write q) = (is, (λ free. subst (λ n. PutInRoom before (out_edge edges node q) n after) message (at_edge.0 free)), at_edge.1) in

@@ -22,7 +22,8 @@ use Rattle.flow_networks.proofs.Tables.{row_inside}
 use Rattle.flow_networks.proofs.Wirings.{row_length, input_side, output_side, table_some}
 use Rattle.flow_networks.proofs.Kept.{count_inputs, count_outputs, reader_there}
 
-module _ {S : Type 0} (b : Behaviour S) (states : List S) (ports : List Ports) (edges : List Edge) (wired : IsWiring ports edges) (kept : IsKept b states ports edges) (joined : IsJoined b states edges) where
+module _ {S : Type 0} (b : Behaviour S) (states : List S) (ports : List Ports) (edges : List Edge) (wired : IsWiring ports edges)
+    (kept : IsKept b states ports edges) (joined : IsJoined b states edges) where
   same_some : (e f : ℕ) (o : Option ℕ) → o ≡ Some e → o ≡ Some f → e ≡ f
   same_some e f o a c = cc
 
@@ -34,8 +35,18 @@ module _ {S : Type 0} (b : Behaviour S) (states : List S) (ports : List Ports) (
         (ap (λ k. entry_at (ins ports) k (edge_at edges e).reader_port) node ∙ ap (λ p. entry_at (ins ports) (edge_at edges f).reader p) port ∙ wired.ins.stands f m);
     one_out = λ e f l m node port. same_some e f (entry_at (outs ports) (edge_at edges e).writer (edge_at edges e).writer_port) (wired.outs.stands e l)
         (ap (λ k. entry_at (outs ports) k (edge_at edges e).writer_port) node ∙ ap (λ p. entry_at (outs ports) (edge_at edges f).writer p) port ∙ wired.outs.stands f m);
-    reader_in = λ e l. omega (arith, row_inside (ins ports) (edge_at edges e).reader (edge_at edges e).reader_port e (wired.ins.stands e l), row_length (ins ports) (edge_at edges e).reader, count_inputs b states ports edges kept (edge_at edges e).reader);
-    writer_out = λ e l. omega (arith, row_inside (outs ports) (edge_at edges e).writer (edge_at edges e).writer_port e (wired.outs.stands e l), row_length (outs ports) (edge_at edges e).writer, count_outputs b states ports edges kept (edge_at edges e).writer);
+    reader_in = λ e l. omega (
+      arith,
+      row_inside (ins ports) (edge_at edges e).reader (edge_at edges e).reader_port e (wired.ins.stands e l),
+      row_length (ins ports) (edge_at edges e).reader,
+      count_inputs b states ports edges kept (edge_at edges e).reader,
+    );
+    writer_out = λ e l. omega (
+      arith,
+      row_inside (outs ports) (edge_at edges e).writer (edge_at edges e).writer_port e (wired.outs.stands e l),
+      row_length (outs ports) (edge_at edges e).writer,
+      count_outputs b states ports edges kept (edge_at edges e).writer,
+    );
     in_edge = λ k p l m.
         let some : entry_at (ins ports) k p ≡ Some (in_edge edges k p) = table_some input_side ports edges wired.ins k p (joined.inputs k p m) in
         (joined.inputs k p m, wired.ins.of_node k p (in_edge edges k p) some, wired.ins.of_port k p (in_edge edges k p) some);
@@ -51,7 +62,9 @@ module _ {S : Type 0} (b : Behaviour S) (states : List S) (edges : List Edge) wh
       let i : b.inputs (b.opening s) ≡ inputs_at b states k = laws.same_inputs s ∙ sym (get_or-map b.inputs states k b.sample 0 l) in
       let o : b.outputs (b.opening s) ≡ outputs_at b states k = laws.same_outputs s ∙ sym (get_or-map b.outputs states k b.sample 0 l) in
       let lawful = (laws.opened (b.opening s) (laws.same_opening s)).lawful in
-      let with_ports : IsLawfulProcess b.process (b.opening s) (inputs_at b states k) (outputs_at b states k) = subst (λ n. IsLawfulProcess b.process (b.opening s) n (outputs_at b states k)) i (subst (λ n. IsLawfulProcess b.process (b.opening s) (b.inputs (b.opening s)) n) o lawful) in
+      let with_ports : IsLawfulProcess b.process (b.opening s) (inputs_at b states k) (outputs_at b states k) =
+      subst (λ n. IsLawfulProcess b.process (b.opening s) n (outputs_at b states k)) i
+      (subst (λ n. IsLawfulProcess b.process (b.opening s) (b.inputs (b.opening s)) n) o lawful) in
       subst (λ t. IsLawfulProcess b.process t (inputs_at b states k) (outputs_at b states k)) (sym (get_or-map b.opening states k b.sample b.sample l)) with_ports
 
 -- the same of a graph
@@ -70,7 +83,8 @@ map_fixed : {X : Type 0} (f : X → X) (xs : List X) → All (λ x. f x ≡ x) x
 map_fixed f [] all = refl
 map_fixed f (x ∷ xs) all = ap (λ y. y ∷ map f xs) (all 0 x (omega arith)) ∙ ap (λ l. x ∷ l) (map_fixed f xs (λ k d l. all (suc k) d (omega arith)))
 
-pub opens : {S : Type 0} (b : Behaviour S) (states : List S) (edges : List Edge) (view : View) → All (λ s. b.opening s ≡ s) states → IsFresh (length edges) view → configuration_of b states view ≡ start (network_of b states edges)
+pub opens : {S : Type 0} (b : Behaviour S) (states : List S) (edges : List Edge) (view : View) → All (λ s. b.opening s ≡ s) states →
+    IsFresh (length edges) view → configuration_of b states view ≡ start (network_of b states edges)
 opens b states edges view opened fresh = λ i. record {
   state = state_at b (sym (map_fixed b.opening states opened) i);
   sent = λ e. fresh.sent e i;

@@ -38,63 +38,81 @@ module _ {S : Type 0} (b : Behaviour S) (capacity : ℕ) (states : List S) (edge
         let net = network_of b states edges in
         most_events b.process net wired settles (start net) (λ e inside. ([], refl)) - moved net (configuration_of b states view)
 
-    module _ (states' : List S) (edges' : List Edge) (view' : View) (same : IsSameNetwork b states edges states' edges') (capacity' : ℕ) (even : capacity' ≡ capacity) (reached : RunLeadsTo b capacity states edges states' view') (nodes : List ℕ) (states'' : List S) (view'' : View) where
-      visited : (any : Bool) → Visits b capacity' nodes edges' states' view' states'' view'' any
-          → IsVisited b.process (network_of b states edges) (Some capacity) nodes (configuration_of b states' view') (configuration_of b states'' view'') any
-      visited any visits =
-          let sound : IsSound b.process (network_of b states edges) (configuration_of b states' view') =
-          sound_run b.process (network_of b states edges) wired (Some capacity) reached.0 (start (network_of b states edges)) (configuration_of b states' view')
-          (sound_start b.process (network_of b states edges)) reached.1 in
-          in_network b capacity states edges view' wired states' edges' view' same capacity' even nodes states'' view'' any sound visits
+    module _ (states' : List S) (edges' : List Edge) (view' : View) (same : IsSameNetwork b states edges states' edges') (capacity' : ℕ)
+        (even : capacity' ≡ capacity) (reached : RunLeadsTo b capacity states edges states' view') (nodes : List ℕ) (states'' : List S) (view'' : View)
+      where
+        visited : (any : Bool) → Visits b capacity' nodes edges' states' view' states'' view'' any
+            → IsVisited b.process (network_of b states edges) (Some capacity) nodes (configuration_of b states' view') (configuration_of b states'' view'') any
+        visited any visits =
+            let sound : IsSound b.process (network_of b states edges) (configuration_of b states' view') =
+            sound_run b.process (network_of b states edges) wired (Some capacity) reached.0 (start (network_of b states edges)) (configuration_of b states' view')
+            (sound_start b.process (network_of b states edges)) reached.1 in
+            in_network b capacity states edges view' wired states' edges' view' same capacity' even nodes states'' view'' any sound visits
 
-      pub reached_then : (any : Bool) → Visits b capacity' nodes edges' states' view' states'' view'' any → RunLeadsTo b capacity states edges states'' view''
-      reached_then any visits =
-          reaches_then b.process (network_of b states edges) (Some capacity) (start (network_of b states edges)) (configuration_of b states' view') (configuration_of b states'' view'') reached (visited any visits).reaches
+        pub reached_then : (any : Bool) → Visits b capacity' nodes edges' states' view' states'' view'' any → RunLeadsTo b capacity states edges states'' view''
+        reached_then any visits =
+            reaches_then b.process (network_of b states edges) (Some capacity) (start (network_of b states edges)) (configuration_of b states' view')
+            (configuration_of b states'' view'') reached (visited any visits).reaches
 
-      -- where nothing moved the run is maximal
-      pub ends_run : (any : Bool) → any ≡ false → Visits b capacity' nodes edges' states' view' states'' view'' any → OthersAreOver states' nodes → EndsMaximalRun b capacity states edges states'' view''
-      ends_run true h visits others = absurd (cc)
-      ends_run false h visits others =
-          let all = reached_then false visits in (
-            all.0,
-            record {
-              run = all.1;
-              rest = visited_rest b.process (network_of b states edges) (Some capacity) wired nodes (configuration_of b states' view') (configuration_of b states'' view'') (visited false visits) others;
-            },
-          )
+        -- where nothing moved the run is maximal
+        pub ends_run : (any : Bool) → any ≡ false → Visits b capacity' nodes edges' states' view' states'' view'' any → OthersAreOver states' nodes →
+            EndsMaximalRun b capacity states edges states'' view''
+        ends_run true h visits others = absurd (cc)
+        ends_run false h visits others =
+            let all = reached_then false visits in (
+              all.0,
+              record {
+                run = all.1;
+                rest = visited_rest b.process (network_of b states edges) (Some capacity) wired nodes (configuration_of b states' view')
+                    (configuration_of b states'' view'') (visited false visits) others;
+              },
+            )
 
-      -- those that are over stay so
-      pub others_then : (any : Bool) → Visits b capacity' nodes edges' states' view' states'' view'' any → OthersAreOver states' nodes
-          → (left : List ℕ) → ((k : ℕ) → Contains nodes k → Contains left k ⊎ (is_over (b.process.want (state_at b states'' k)) ≡ true)) → OthersAreOver states'' left
-      others_then any visits others left drops k inside = go (others k inside)
-        where
-          go : Contains nodes k ⊎ (is_over (b.process.want (state_at b states' k)) ≡ true) → Contains left k ⊎ (is_over (b.process.want (state_at b states'' k)) ≡ true)
-          go (inl has) = drops k has
-          go (inr over) =
-              let s = (visited any visits).reaches in
-              inr (ap (λ t. is_over (b.process.want t)) (over_stays b.process (network_of b states edges) (Some capacity) s.0 (configuration_of b states' view') (configuration_of b states'' view'') s.1 k over) ∙ over)
+        -- those that are over stay so
+        pub others_then : (any : Bool) → Visits b capacity' nodes edges' states' view' states'' view'' any → OthersAreOver states' nodes
+            → (left : List ℕ) → ((k : ℕ) → Contains nodes k → Contains left k ⊎ (is_over (b.process.want (state_at b states'' k)) ≡ true)) → OthersAreOver states'' left
+        others_then any visits others left drops k inside = go (others k inside)
+          where
+            go : Contains nodes k ⊎ (is_over (b.process.want (state_at b states' k)) ≡ true) → Contains left k ⊎ (is_over (b.process.want (state_at b states'' k)) ≡ true)
+            go (inl has) = drops k has
+            go (inr over) =
+                let s = (visited any visits).reaches in
+                inr (ap (λ t. is_over (b.process.want t))
+                (over_stays b.process (network_of b states edges) (Some capacity) s.0 (configuration_of b states' view')
+                (configuration_of b states'' view'') s.1 k over) ∙ over)
 
-      pub left_falls : (settles : Settles b.process) (any : Bool) → any ≡ true → Visits b capacity' nodes edges' states' view' states'' view'' any → left_of settles view'' < left_of settles view'
-      unfolding left_of
-      left_falls settles false h visits = absurd (cc)
-      left_falls settles true h visits =
-          visited_falls b.process (network_of b states edges) (Some capacity) wired settles nodes (configuration_of b states' view') (configuration_of b states'' view'') reached (visited true visits)
+        pub left_falls : (settles : Settles b.process) (any : Bool) → any ≡ true → Visits b capacity' nodes edges' states' view' states'' view'' any → left_of settles view'' < left_of settles view'
+        unfolding left_of
+        left_falls settles false h visits = absurd (cc)
+        left_falls settles true h visits =
+            visited_falls b.process (network_of b states edges) (Some capacity) wired settles nodes (configuration_of b states' view') (configuration_of b states'' view'') reached (visited true visits)
 
 -- the same of a graph and its ends, after one pass more
-module _ {X Y : Type 0} {t : Ghosts X} (Same : Y → Y → Type 0) (view : Y → View) (capacity : Y → ℕ) (even : (x y : Y) → Same x y → capacity y ≡ capacity x) (g : Graph X t) (e : Y) (g' : Graph X t) (e' : Y) (g'' : Graph X t) (e'' : Y)
-    (shape : KeepsShape Same view g e g' e') (reached : RunLeadsTo t.behaviour (capacity e) (states_of g) (edges_of g) (states_of g') (view e')) (nodes : List ℕ) (any : Bool) (visits : Visits t.behaviour (capacity e') nodes (edges_of g') (states_of g') (view e') (states_of g'') (view e'') any) where
+module _ {X Y : Type 0} {t : Ghosts X} (Same : Y → Y → Type 0) (view : Y → View) (capacity : Y → ℕ)
+    (even : (x y : Y) → Same x y → capacity y ≡ capacity x) (g : Graph X t) (e : Y) (g' : Graph X t) (e' : Y) (g'' : Graph X t) (e'' : Y)
+    (shape : KeepsShape Same view g e g' e') (reached : RunLeadsTo t.behaviour (capacity e) (states_of g) (edges_of g) (states_of g') (view e'))
+    (nodes : List ℕ) (any : Bool)
+    (visits : Visits t.behaviour (capacity e') nodes (edges_of g') (states_of g') (view e') (states_of g'') (view e'') any) where
   pub pass_reached : RunLeadsTo t.behaviour (capacity e) (states_of g) (edges_of g) (states_of g'') (view e'')
-  pass_reached = reached_then t.behaviour (capacity e) (states_of g) (edges_of g) (graph_wired g) (states_of g') (edges_of g') (view e') shape.network (capacity e') (even e e' shape.same) reached nodes (states_of g'') (view e'') any visits
+  pass_reached = reached_then t.behaviour (capacity e) (states_of g) (edges_of g) (graph_wired g) (states_of g') (edges_of g') (view e') shape.network
+      (capacity e') (even e e' shape.same) reached nodes (states_of g'') (view e'') any visits
 
-  pub pass_ends : any ≡ false → OthersAreOver t.behaviour (capacity e) (states_of g) (edges_of g) (states_of g') nodes → EndsMaximalRun t.behaviour (capacity e) (states_of g) (edges_of g) (states_of g'') (view e'')
+  pub pass_ends : any ≡ false → OthersAreOver t.behaviour (capacity e) (states_of g) (edges_of g) (states_of g') nodes →
+      EndsMaximalRun t.behaviour (capacity e) (states_of g) (edges_of g) (states_of g'') (view e'')
   pass_ends none others =
-      ends_run t.behaviour (capacity e) (states_of g) (edges_of g) (graph_wired g) (states_of g') (edges_of g') (view e') shape.network (capacity e') (even e e' shape.same) reached nodes (states_of g'') (view e'') any none visits others
+      ends_run t.behaviour (capacity e) (states_of g) (edges_of g) (graph_wired g) (states_of g') (edges_of g') (view e') shape.network (capacity e')
+      (even e e' shape.same) reached nodes (states_of g'') (view e'') any none visits others
 
-  pub pass_others : OthersAreOver t.behaviour (capacity e) (states_of g) (edges_of g) (states_of g') nodes → (left : List ℕ) → ((k : ℕ) → Contains nodes k → Contains left k ⊎ (is_over (t.behaviour.process.want (state_at t.behaviour (states_of g'') k)) ≡ true))
+  pub pass_others : OthersAreOver t.behaviour (capacity e) (states_of g) (edges_of g) (states_of g') nodes → (left : List ℕ) →
+      ((k : ℕ) → Contains nodes k → Contains left k ⊎ (is_over (t.behaviour.process.want (state_at t.behaviour (states_of g'') k)) ≡ true))
       → OthersAreOver t.behaviour (capacity e) (states_of g) (edges_of g) (states_of g'') left
   pass_others =
-      others_then t.behaviour (capacity e) (states_of g) (edges_of g) (graph_wired g) (states_of g') (edges_of g') (view e') shape.network (capacity e') (even e e' shape.same) reached nodes (states_of g'') (view e'') any visits
+      others_then t.behaviour (capacity e) (states_of g) (edges_of g) (graph_wired g) (states_of g') (edges_of g') (view e') shape.network
+      (capacity e') (even e e' shape.same) reached nodes (states_of g'') (view e'') any visits
 
-  pub pass_falls : (settles : Settles t.behaviour.process) → any ≡ true → left_of t.behaviour (capacity e) (states_of g) (edges_of g) (graph_wired g) settles (view e'') < left_of t.behaviour (capacity e) (states_of g) (edges_of g) (graph_wired g) settles (view e')
+  pub pass_falls : (settles : Settles t.behaviour.process) → any ≡ true →
+      left_of t.behaviour (capacity e) (states_of g) (edges_of g) (graph_wired g) settles (view e'') < left_of t.behaviour (capacity e) (states_of g)
+      (edges_of g) (graph_wired g) settles (view e')
   pass_falls settles some =
-      left_falls t.behaviour (capacity e) (states_of g) (edges_of g) (graph_wired g) (states_of g') (edges_of g') (view e') shape.network (capacity e') (even e e' shape.same) reached nodes (states_of g'') (view e'') settles any some visits
+      left_falls t.behaviour (capacity e) (states_of g) (edges_of g) (graph_wired g) (states_of g') (edges_of g') (view e') shape.network
+      (capacity e') (even e e' shape.same) reached nodes (states_of g'') (view e'') settles any some visits

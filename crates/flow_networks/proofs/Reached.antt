@@ -1,5 +1,6 @@
 -- Nodes one step further: what a graph keeps.
-use Rattle.std.proofs.Common.{◌≡◌, ℕ, ◌<◌, List, [], ◌∷◌, ◌++◌, length, get_or, set, map, Result, Ok, Err, OnOk, OnErr, IfOk, ◌⊎◌, inl, inr, refl, sym, ◌∙◌, ap, subst, arith, get_or-set_other, get_or-set_same}
+use Rattle.std.proofs.Common.{◌≡◌, ℕ, ◌<◌, List, [], ◌∷◌, ◌++◌, length, get_or, set, map, Result, Ok, Err, OnOk, OnErr, IfOk, ◌⊎◌, inl, inr, refl}
+use Rattle.std.proofs.Common.{sym, ◌∙◌, ap, subst, arith, get_or-set_other, get_or-set_same}
 use Rattle.std.proofs.lemmas.List.{get_or-map, map-set, set-get_or, length-map}
 use mathlib.Core.Logic.{∥∥₁_elim, ∥∥₁_map}
 use native.Mathlib.Bridge.{le_prop}
@@ -53,7 +54,8 @@ module _ {S : Type 0} (b : Behaviour S) (laws : BehaviourLaws b) where
   pub reached_wrote : (s s' : S) (q : ℕ) → b.process.want s ≡ Write q → s' ≡ b.process.wrote s → IsReached b s → IsReached b s'
   reached_wrote s s' q wants is reached = ∥∥₁_map reached (λ (h, does). (
     h ++ Writes q (b.process.written s) ∷ [],
-    subst (λ o. Does b.process o (h ++ Writes q (b.process.written s) ∷ []) s') (sym (opening_wrote s s' q wants is)) (does_then b.process (b.opening s) s s' h (Writes q (b.process.written s) ∷ []) does (wants, refl, sym is)),
+    subst (λ o. Does b.process o (h ++ Writes q (b.process.written s) ∷ []) s') (sym (opening_wrote s s' q wants is))
+        (does_then b.process (b.opening s) s s' h (Writes q (b.process.written s) ∷ []) does (wants, refl, sym is)),
   ))
 
   lawful_at : (s : S) → IsLawfulProcess b.process (b.opening s) (b.inputs (b.opening s)) (b.outputs (b.opening s))
@@ -108,7 +110,8 @@ module _ {S : Type 0} (b : Behaviour S) (laws : BehaviourLaws b) where
         kinds = λ e l.
             ap (λ (ks : List Kind). get_or ks (edge_at edges e).writer UnitKind) (stays (λ s. b.kind_out s (edge_at edges e).writer_port) (λ s. laws.same_kinds_out s (edge_at edges e).writer_port))
             ∙ built.limits.kinds e l
-            ∙ sym (ap (λ (ks : List Kind). get_or ks (edge_at edges e).reader UnitKind) (stays (λ s. b.kind_in s (edge_at edges e).reader_port) (λ s. laws.same_kinds_in s (edge_at edges e).reader_port)));
+            ∙ sym (ap (λ (ks : List Kind). get_or ks (edge_at edges e).reader UnitKind)
+            (stays (λ s. b.kind_in s (edge_at edges e).reader_port) (λ s. laws.same_kinds_in s (edge_at edges e).reader_port)));
         few_nodes = omega (arith, same_length, built.limits.few_nodes);
         few_edges = built.limits.few_edges;
       };

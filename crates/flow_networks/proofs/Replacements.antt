@@ -60,7 +60,8 @@ module _ {S : Type 0} (b : Behaviour S) (states : List S) (k : ℕ) (s : S) (may
       outputs = λ j q h. built.joined.outputs j q (subst (λ (l : List ℕ). q < get_or l j 0) same_outputs h);
     };
     limits = record {
-      kinds = λ e l. same_from (edge_at edges e).writer (edge_at edges e).writer_port (wired.writer_out e l) ∙ built.limits.kinds e l ∙ sym (same_to (edge_at edges e).reader (edge_at edges e).reader_port (wired.reader_in e l));
+      kinds = λ e l. same_from (edge_at edges e).writer (edge_at edges e).writer_port (wired.writer_out e l) ∙ built.limits.kinds e l
+          ∙ sym (same_to (edge_at edges e).reader (edge_at edges e).reader_port (wired.reader_in e l));
       few_nodes = omega (arith, count, built.limits.few_nodes);
       few_edges = built.limits.few_edges;
     };

@@ -59,7 +59,9 @@ module _ {X : Type 0} {t : Ghosts X} (nodes : List (Placed X t)) (k : ℕ) (x : 
       openings_same =
           ap (map t.behaviour.opening) states_after
           ∙ map-set t.behaviour.opening (states_in nodes) k (placed_state y)
-          ∙ ap (set (map t.behaviour.opening (states_in nodes)) k) (same.opening ∙ ap t.behaviour.opening state_here ∙ sym (get_or-map t.behaviour.opening (states_in nodes) k t.behaviour.sample t.behaviour.sample states_inside))
+          ∙ ap (set (map t.behaviour.opening (states_in nodes)) k)
+          (same.opening ∙ ap t.behaviour.opening state_here
+          ∙ sym (get_or-map t.behaviour.opening (states_in nodes) k t.behaviour.sample t.behaviour.sample states_inside))
           ∙ set-get_or (map t.behaviour.opening (states_in nodes)) k t.behaviour.sample
 
       pub built_same : BehaviourLaws t.behaviour → (edges : List Edge) → IsBuilt t.behaviour (states_in nodes) edges → IsBuilt t.behaviour (states_in (set nodes k y)) edges
@@ -70,7 +72,8 @@ module _ (node port : Edge → ℕ) where
   abbrev NamesEdges : List (List ℕ) → List Edge → Type 0
   NamesEdges numbers edges = (k p : ℕ) → position_or_len (at_port node port k p) edges < length edges → number_at numbers k p ≡ position_or_len (at_port node port k p) edges
 
-  module _ (table : List (List (Option ℕ))) (edges : List Edge) (is : IsTableOf node port table edges) (numbers : List (List ℕ)) (even : length table ≡ length numbers) (names : NamesEdges numbers edges) where
+  module _ (table : List (List (Option ℕ))) (edges : List Edge) (is : IsTableOf node port table edges) (numbers : List (List ℕ))
+      (even : length table ≡ length numbers) (names : NamesEdges numbers edges) where
     -- a node more
     pub names_more : (row : List ℕ) → NamesEdges (numbers ++ row ∷ []) edges
     names_more row k p taken =
@@ -84,12 +87,15 @@ module _ (node port : Edge → ℕ) where
       old_edge e l = get_or_append_left edges (x ∷ []) _ e l
 
       -- an old edge keeps its number, and is at another port
-      pub old_number : (k p e : ℕ) → position_or_len (at_port node port k p) (edges ++ x ∷ []) ≡ e → e < length edges → (position_or_len (at_port node port k p) edges ≡ e) × ((k ≡ node x) × (p ≡ port x) → ⊥)
+      pub old_number : (k p e : ℕ) → position_or_len (at_port node port k p) (edges ++ x ∷ []) ≡ e → e < length edges →
+          (position_or_len (at_port node port k p) edges ≡ e) × ((k ≡ node x) × (p ≡ port x) → ⊥)
       old_number k p e at l =
           let entry = entry_is node port table' (edges ++ x ∷ []) is' k p (omega (arith, at, l, length_push edges x)) ∙ ap Some at in
           let of_node : node (edge_at edges e) ≡ k = sym (ap node (old_edge e l)) ∙ is'.of_node k p e entry in
           let of_port : port (edge_at edges e) ≡ p = sym (ap port (old_edge e l)) ∙ is'.of_port k p e entry in
-          let old : position_or_len (at_port node port k p) edges ≡ e = number_is node port table edges is k p e (ap (λ j. entry_at table j p) (sym of_node) ∙ ap (λ q. entry_at table (node (edge_at edges e)) q) (sym of_port) ∙ is.stands e l) in
+          let old : position_or_len (at_port node port k p) edges ≡ e =
+          number_is node port table edges is k p e
+          (ap (λ j. entry_at table j p) (sym of_node) ∙ ap (λ q. entry_at table (node (edge_at edges e)) q) (sym of_port) ∙ is.stands e l) in
           (old, λ (a, c). omega (arith, free, l, old, ap (λ j. position_or_len (at_port node port j p) edges) a, ap (λ q. position_or_len (at_port node port (node x) q) edges) c))
 
       -- the new edge is at its own port
@@ -117,7 +123,9 @@ module _ (node port : Edge → ℕ) where
         pub names_edge : NamesEdges after (edges ++ x ∷ [])
         names_edge k p taken = go (cases_lt (position_or_len (at_port node port k p) (edges ++ x ∷ [])) (length edges))
           where
-            go : (position_or_len (at_port node port k p) (edges ++ x ∷ []) < length edges) ⊎ (length edges ≤ position_or_len (at_port node port k p) (edges ++ x ∷ [])) → number_at after k p ≡ position_or_len (at_port node port k p) (edges ++ x ∷ [])
+            go : (position_or_len (at_port node port k p) (edges ++ x ∷ []) < length edges) ⊎
+                (length edges ≤ position_or_len (at_port node port k p) (edges ++ x ∷ [])) → number_at after k p
+                ≡ position_or_len (at_port node port k p) (edges ++ x ∷ [])
             go (inl l) =
                 let old = old_number k p (position_or_len (at_port node port k p) (edges ++ x ∷ [])) refl l in
                 unchanged k p old.1 (cases_eq k (node x)) ∙ names k p (omega (arith, old.0, l)) ∙ old.0
@@ -126,7 +134,8 @@ module _ (node port : Edge → ℕ) where
                 let here = new_number k p new in
                 ap (λ j. number_at after j p) here.0 ∙ ap (λ q. number_at after (node x) q) here.1 ∙ changed ∙ sym new
 
-module _ {X : Type 0} {t : Ghosts X} (nodes : List (Placed X t)) (ports : List Ports) (edges : List Edge) (wired : IsWiring ports edges) (even : length ports ≡ length nodes) (seated : AreSeated nodes edges) where
+module _ {X : Type 0} {t : Ghosts X} (nodes : List (Placed X t)) (ports : List Ports) (edges : List Edge) (wired : IsWiring ports edges)
+    (even : length ports ≡ length nodes) (seated : AreSeated nodes edges) where
   even_ins : length (ins ports) ≡ length (inputs_in nodes)
   even_ins = length-map ports (λ (n : Ports). n.inputs.items) ∙ even ∙ sym (length-map nodes (λ (n : Placed X t). n.inputs.items))
 
@@ -154,7 +163,8 @@ module _ {X : Type 0} {t : Ghosts X} (nodes : List (Placed X t)) (ports : List P
   -- an edge more: the writer's node names it, and then the reader's
   module _ (ports' : List Ports) (x : Edge) (wired' : IsWiring ports' (edges ++ x ∷ [])) (w w' r r' : Placed X t) (inside : x.reader < length nodes) (forward : x.writer < x.reader)
       (w_is : w ≡ get_or nodes x.writer w) (w_number : w'.number ≡ w.number) (w_outs : w'.outputs.items ≡ set w.outputs.items x.writer_port (length edges)) (w_ins : w'.inputs.items ≡ w.inputs.items)
-      (r_is : r ≡ get_or (set nodes x.writer w') x.reader r) (r_number : r'.number ≡ r.number) (r_ins : r'.inputs.items ≡ set r.inputs.items x.reader_port (length edges)) (r_outs : r'.outputs.items ≡ r.outputs.items) where
+      (r_is : r ≡ get_or (set nodes x.writer w') x.reader r) (r_number : r'.number ≡ r.number)
+      (r_ins : r'.inputs.items ≡ set r.inputs.items x.reader_port (length edges)) (r_outs : r'.outputs.items ≡ r.outputs.items) where
     abbrev half : List (Placed X t)
     half = set nodes x.writer w'
 
@@ -168,16 +178,19 @@ module _ {X : Type 0} {t : Ghosts X} (nodes : List (Placed X t)) (ports : List P
     writer_inside = omega (arith, forward, inside)
 
     numbers_are : numbers_in both_named ≡ numbers_in nodes
-    numbers_are = map_set_back (λ (n : Placed X t). n.number) half x.reader r r' 0 half_inside r_is r_number ∙ map_set_back (λ (n : Placed X t). n.number) nodes x.writer w w' 0 writer_inside w_is w_number
+    numbers_are = map_set_back (λ (n : Placed X t). n.number) half x.reader r r' 0 half_inside r_is r_number
+        ∙ map_set_back (λ (n : Placed X t). n.number) nodes x.writer w w' 0 writer_inside w_is w_number
 
     half_ins : inputs_in half ≡ inputs_in nodes
     half_ins = map_set_back (λ (n : Placed X t). n.inputs.items) nodes x.writer w w' [] writer_inside w_is w_ins
 
     row_in : r.inputs.items ≡ get_or (inputs_in nodes) x.reader []
-    row_in = ap (λ (n : Placed X t). n.inputs.items) r_is ∙ sym (get_or-map (λ (n : Placed X t). n.inputs.items) half x.reader r [] half_inside) ∙ ap (λ (table : List (List ℕ)). get_or table x.reader []) half_ins
+    row_in = ap (λ (n : Placed X t). n.inputs.items) r_is ∙ sym (get_or-map (λ (n : Placed X t). n.inputs.items) half x.reader r [] half_inside)
+        ∙ ap (λ (table : List (List ℕ)). get_or table x.reader []) half_ins
 
     ins_are : inputs_in both_named ≡ set (inputs_in nodes) x.reader (set r.inputs.items x.reader_port (length edges))
-    ins_are = map-set (λ (n : Placed X t). n.inputs.items) half x.reader r' ∙ ap (set (inputs_in half) x.reader) r_ins ∙ ap (λ table. set table x.reader (set r.inputs.items x.reader_port (length edges))) half_ins
+    ins_are = map-set (λ (n : Placed X t). n.inputs.items) half x.reader r' ∙ ap (set (inputs_in half) x.reader) r_ins
+        ∙ ap (λ table. set table x.reader (set r.inputs.items x.reader_port (length edges))) half_ins
 
     row_out : w.outputs.items ≡ get_or (outputs_in nodes) x.writer []
     row_out = ap (λ (n : Placed X t). n.outputs.items) w_is ∙ sym (get_or-map (λ (n : Placed X t). n.outputs.items) nodes x.writer w [] writer_inside)
@@ -187,7 +200,9 @@ module _ {X : Type 0} {t : Ghosts X} (nodes : List (Placed X t)) (ports : List P
         map_set_back (λ (n : Placed X t). n.outputs.items) half x.reader r r' [] half_inside r_is r_outs
         ∙ map-set (λ (n : Placed X t). n.outputs.items) nodes x.writer w' ∙ ap (set (outputs_in nodes) x.writer) w_outs
 
-    pub seated_edge : x.writer_port < length w.outputs.items → x.reader_port < length r.inputs.items → length edges ≤ out_edge edges x.writer x.writer_port → length edges ≤ in_edge edges x.reader x.reader_port → AreSeated both_named (edges ++ x ∷ [])
+    pub seated_edge : x.writer_port < length w.outputs.items → x.reader_port < length r.inputs.items →
+        length edges ≤ out_edge edges x.writer x.writer_port → length edges ≤ in_edge edges x.reader x.reader_port →
+        AreSeated both_named (edges ++ x ∷ [])
     seated_edge o i free_o free_i = record {
       numbers = λ k l. ap (λ (ns : List ℕ). get_or ns k 0) numbers_are ∙ seated.numbers k (omega (arith, l, length-set half x.reader r', length-set nodes x.writer w'));
       inputs = λ k p taken.

@@ -21,13 +21,16 @@ use Rattle.flow_networks.specs.Turns.{TurnsNetwork}
 use Rattle.flow_networks.proofs.Nets.{graph_wired}
 
 -- a turn is a run of one event, or of none
-turn_reaches : {State Message : Type 0} (P : Process State Message) (net : Network State) (limit : Option ℕ) (k : ℕ) (c d : Configuration State Message) (any : Bool) → Turn P net limit k c d any → Reaches P net limit c d
+turn_reaches : {State Message : Type 0} (P : Process State Message) (net : Network State) (limit : Option ℕ) (k : ℕ)
+    (c d : Configuration State Message) (any : Bool) → Turn P net limit k c d any → Reaches P net limit c d
 turn_reaches P net limit k c d true turn = (turn.0 ∷ [], (turn.2, sym turn.3))
 turn_reaches P net limit k c d false turn = ([], sym turn.0)
 
 -- a run goes on by a turn of a node
-module _ {X Y : Type 0} {t : Ghosts X} (Same : Y → Y → Type 0) (view : Y → View) (capacity : Y → ℕ) (even : (x y : Y) → Same x y → capacity y ≡ capacity x) (g : Graph X t) (e : Y) (g' : Graph X t) (e' : Y) (g'' : Graph X t) (e'' : Y) where
-  pub turn_reached : KeepsShape Same view g e g' e' → RunReaches (capacity e) g g' (view e') → (node : ℕ) (moved : Stepped) → TurnsNetwork view node g' e' g'' e'' (capacity e') moved → RunReaches (capacity e) g g'' (view e'')
+module _ {X Y : Type 0} {t : Ghosts X} (Same : Y → Y → Type 0) (view : Y → View) (capacity : Y → ℕ)
+    (even : (x y : Y) → Same x y → capacity y ≡ capacity x) (g : Graph X t) (e : Y) (g' : Graph X t) (e' : Y) (g'' : Graph X t) (e'' : Y) where
+  pub turn_reached : KeepsShape Same view g e g' e' → RunReaches (capacity e) g g' (view e') → (node : ℕ) (moved : Stepped) →
+      TurnsNetwork view node g' e' g'' e'' (capacity e') moved → RunReaches (capacity e) g g'' (view e'')
   turn_reached shape reached node moved turn =
       reaches_then P net (Some (capacity e)) (start net) c d reached goes
     where
@@ -50,4 +53,6 @@ module _ {X Y : Type 0} {t : Ghosts X} (Same : Y → Y → Type 0) (view : Y →
       sound = subst (λ n. IsSound P n c) (sym shape.network.network) (sound_run P net (graph_wired g) (Some (capacity e)) reached.0 (start net) c (sound_start P net) reached.1)
 
       goes : Reaches P net (Some (capacity e)) c d
-      goes = subst (λ n. Reaches P n (Some (capacity e)) c d) shape.network.network (subst (λ n. Reaches P net' (Some n) c d) (even e e' shape.same) (turn_reaches P net' (Some (capacity e')) node c d (is_one moved) (turn.turn sound)))
+      goes = subst (λ n. Reaches P n (Some (capacity e)) c d) shape.network.network
+          (subst (λ n. Reaches P net' (Some n) c d) (even e e' shape.same)
+          (turn_reaches P net' (Some (capacity e')) node c d (is_one moved) (turn.turn sound)))

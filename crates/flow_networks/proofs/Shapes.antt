@@ -31,7 +31,8 @@ module _ {X Y : Type 0} {t : Ghosts X} (Same : Y → Y → Type 0) (view : Y →
     };
   }
 
-  pub shape_then : ((x y z : Y) → Same x y → Same y z → Same x z) → (g : Graph X t) (e : Y) (g' : Graph X t) (e' : Y) (g'' : Graph X t) (e'' : Y) → KeepsShape Same view g e g' e' → KeepsShape Same view g' e' g'' e'' → KeepsShape Same view g e g'' e''
+  pub shape_then : ((x y z : Y) → Same x y → Same y z → Same x z) → (g : Graph X t) (e : Y) (g' : Graph X t) (e' : Y) (g'' : Graph X t) (e'' : Y) →
+      KeepsShape Same view g e g' e' → KeepsShape Same view g' e' g'' e'' → KeepsShape Same view g e g'' e''
   shape_then trans g e g' e' g'' e'' one two = record {
     same = trans e e' e'' one.same two.same;
     ends = same_ends_then (view e) (view e') (view e'') one.ends two.ends;

@@ -29,9 +29,15 @@ pub later_fit : {X : Type 0} {t : Ghosts X} → BehaviourLaws t.behaviour → La
 later_fit {X} {t} laws nodes later edges fit same = record {
   built = built_openings t.behaviour laws (states_in nodes) (states_in later) openings edges fit.built;
   seated = record {
-    numbers = λ k l. ap (λ (ns : List ℕ). get_or ns k 0) (map_same (λ (n : Placed X t). n.number) nodes later same.count (λ j d inside. (same.each j d inside).number)) ∙ fit.seated.numbers k (omega (arith, l, same.count));
-    inputs = λ k p taken. ap (λ table. number_at table k p) (map_same (λ (n : Placed X t). n.inputs.items) nodes later same.count (λ j d inside. (same.each j d inside).inputs)) ∙ fit.seated.inputs k p taken;
-    outputs = λ k q taken. ap (λ table. number_at table k q) (map_same (λ (n : Placed X t). n.outputs.items) nodes later same.count (λ j d inside. (same.each j d inside).outputs)) ∙ fit.seated.outputs k q taken;
+    numbers = λ k l. ap (λ (ns : List ℕ). get_or ns k 0)
+        (map_same (λ (n : Placed X t). n.number) nodes later same.count (λ j d inside. (same.each j d inside).number))
+        ∙ fit.seated.numbers k (omega (arith, l, same.count));
+    inputs = λ k p taken. ap (λ table. number_at table k p)
+        (map_same (λ (n : Placed X t). n.inputs.items) nodes later same.count (λ j d inside. (same.each j d inside).inputs))
+        ∙ fit.seated.inputs k p taken;
+    outputs = λ k q taken. ap (λ table. number_at table k q)
+        (map_same (λ (n : Placed X t). n.outputs.items) nodes later same.count (λ j d inside. (same.each j d inside).outputs))
+        ∙ fit.seated.outputs k q taken;
   };
 }
   where

@@ -1,5 +1,6 @@
 -- Tables of the edges at ports: what they say of the edges, and a node or an edge more.
-use Rattle.std.proofs.Common.{◌≡◌, ◌==◌, ◌&&◌, ℕ, ◌<◌, ◌≤◌, Bool, true, false, List, [], ◌∷◌, ◌++◌, length, get_or, set, Option, Some, None, ◌⊎◌, inl, inr, refl, sym, ◌∙◌, ap, arith, get_or-set_same, get_or-set_other}
+use Rattle.std.proofs.Common.{◌≡◌, ◌==◌, ◌&&◌, ℕ, ◌<◌, ◌≤◌, Bool, true, false, List, [], ◌∷◌, ◌++◌, length, get_or, set, Option, Some, None, ◌⊎◌, inl}
+use Rattle.std.proofs.Common.{inr, refl, sym, ◌∙◌, ap, arith, get_or-set_same, get_or-set_other}
 use Rattle.std.specs.List.{position_or_len}
 use Rattle.std.proofs.lemmas.Bool.{cases_eq, cases_Bool, cases_lt}
 use Rattle.std.proofs.lemmas.Bool.Decides.{nat_tests}
@@ -109,7 +110,9 @@ module _ (node port : Edge → ℕ) where
 
       entry_here : entry_at larger (node x) (port x) ≡ Some (length edges)
       entry_here =
-          ap (λ (r : List (Option ℕ)). get_or r (port x) None) (get_or-set_same table (node x) (set (row_at table (node x)) (port x) (Some (length edges))) [] (node_inside table (node x) (port x) inside))
+          ap (λ (r : List (Option ℕ)). get_or r (port x) None)
+          (get_or-set_same table (node x) (set (row_at table (node x)) (port x) (Some (length edges))) []
+          (node_inside table (node x) (port x) inside))
           ∙ get_or-set_same (row_at table (node x)) (port x) (Some (length edges)) None inside
 
       entry_other : (k p : ℕ) → ((k ≡ node x) × (p ≡ port x) → ⊥) → entry_at larger k p ≡ entry_at table k p
@@ -119,7 +122,9 @@ module _ (node port : Edge → ℕ) where
           go (inr ne) = ap (λ (r : List (Option ℕ)). get_or r p None) (get_or-set_other table (node x) k _ [] ne)
           go (inl e) =
               ap (λ i. entry_at larger i p) e
-              ∙ ap (λ (r : List (Option ℕ)). get_or r p None) (get_or-set_same table (node x) (set (row_at table (node x)) (port x) (Some (length edges))) [] (node_inside table (node x) (port x) inside))
+              ∙ ap (λ (r : List (Option ℕ)). get_or r p None)
+              (get_or-set_same table (node x) (set (row_at table (node x)) (port x) (Some (length edges))) []
+              (node_inside table (node x) (port x) inside))
               ∙ get_or-set_other (row_at table (node x)) (port x) p (Some (length edges)) None (λ q. other (e, q))
               ∙ ap (λ i. entry_at table i p) (sym e)
 
@@ -161,7 +166,8 @@ module _ (node port : Edge → ℕ) where
                   let old : e < length edges = omega (arith, length_push edges x) in
                   ap (λ (y : Edge). entry_at larger (node y) (port y)) (old_edge e old)
                   ∙ entry_other (node (edge_at edges e)) (port (edge_at edges e))
-                  (λ h. let none : entry_at table (node (edge_at edges e)) (port (edge_at edges e)) ≡ None = ap (λ i. entry_at table i (port (edge_at edges e))) h.0 ∙ ap (λ i. entry_at table (node x) i) h.1 ∙ free in
+                  (λ h. let none : entry_at table (node (edge_at edges e)) (port (edge_at edges e)) ≡ None =
+                  ap (λ i. entry_at table i (port (edge_at edges e))) h.0 ∙ ap (λ i. entry_at table (node x) i) h.1 ∙ free in
                   let some : entry_at table (node (edge_at edges e)) (port (edge_at edges e)) ≡ Some e = is.stands e old in absurd (cc))
                   ∙ is.stands e old
 

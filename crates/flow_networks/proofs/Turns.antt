@@ -38,7 +38,8 @@ ended_has P is [] h = absurd (cc)
 ended_has P is (stop ∷ ms) h = ([], ms, ap (λ x. x ∷ ms) is)
 ended_has P is (carry x ∷ ms) h = let rest = ended_has P is ms h in (carry x ∷ rest.0, rest.1, ap (λ l. carry x ∷ l) rest.2)
 
-module _ {S : Type 0} (b : Behaviour S) (laws : BehaviourLaws b) (states : List S) (edges : List Edge) (wired : IsWired (network_of b states edges)) (lawful : AllLawful b.process (network_of b states edges)) (node : ℕ) (inside : node < length states) where
+module _ {S : Type 0} (b : Behaviour S) (laws : BehaviourLaws b) (states : List S) (edges : List Edge) (wired : IsWired (network_of b states edges))
+    (lawful : AllLawful b.process (network_of b states edges)) (node : ℕ) (inside : node < length states) where
   abbrev net : Network S
   net = network_of b states edges
 
@@ -53,11 +54,15 @@ module _ {S : Type 0} (b : Behaviour S) (laws : BehaviourLaws b) (states : List 
       let place = wired.out_edge node q inside port in
       let wrote : c.sent (out_edge edges node q) ≡ writes q reached.history = reached.sent (out_edge edges node q) place.0 place.1 ∙ ap (λ p. writes p reached.history) place.2 in
       elim (cases_Bool (ended (c.sent (out_edge edges node q)))) [
-        | inl closed ↦ absurd ((lawful node inside).open_out reached.history (c.state node) q reached.does wants (subst (HasEnd b.process) wrote (ended_has b.process laws.end (c.sent (out_edge edges node q)) closed)))
+        | inl closed ↦ absurd
+            ((lawful node inside).open_out reached.history (c.state node) q reached.does wants
+            (subst (HasEnd b.process) wrote (ended_has b.process laws.end (c.sent (out_edge edges node q)) closed)))
         | inr free ↦ free
       ]
 
-  module _ (states' : List S) (capacity : ℕ) (a v : View) (others : SameBut b node states states') (whole_a : IsWhole capacity a) (whole_v : IsWhole capacity v) (ends : HasEnds b states edges node a) (sound : IsSound b.process (network_of b states edges) (configuration_of b states a)) where
+  module _ (states' : List S) (capacity : ℕ) (a v : View) (others : SameBut b node states states') (whole_a : IsWhole capacity a)
+      (whole_v : IsWhole capacity v) (ends : HasEnds b states edges node a)
+      (sound : IsSound b.process (network_of b states edges) (configuration_of b states a)) where
     abbrev c : Configuration S Signal
     c = configuration_of b states a
 
@@ -119,10 +124,14 @@ module _ {S : Type 0} (b : Behaviour S) (laws : BehaviourLaws b) (states : List 
           no_room b.process net wired (Some capacity) c node e place.0 place.1 (wants ∙ ap Write (sym place.2))
               (λ room. absurd (omega (arith, none, count.1 (omega (arith, room, ap length (looked.traffic.sent e), ap length (looked.traffic.received e)))))),
         )
-    stays Ended wants (is, same) =
-        (same_as_before is (record { sent = λ k. ap (λ (x : View). x.sent k) same; received = λ k. ap (λ (x : View). x.received k) same }), idles (λ p h. let x : Ended ≡ Read p = sym wants ∙ h in cc) (λ q h. let x : Ended ≡ Write q = sym wants ∙ h in cc))
-    stays (Faulted fault) wants (is, same) =
-        (same_as_before is (record { sent = λ k. ap (λ (x : View). x.sent k) same; received = λ k. ap (λ (x : View). x.received k) same }), idles (λ p h. let x : Faulted fault ≡ Read p = sym wants ∙ h in cc) (λ q h. let x : Faulted fault ≡ Write q = sym wants ∙ h in cc))
+    stays Ended wants (is, same) = (
+      same_as_before is (record { sent = λ k. ap (λ (x : View). x.sent k) same; received = λ k. ap (λ (x : View). x.received k) same }),
+      idles (λ p h. let x : Ended ≡ Read p = sym wants ∙ h in cc) (λ q h. let x : Ended ≡ Write q = sym wants ∙ h in cc),
+    )
+    stays (Faulted fault) wants (is, same) = (
+      same_as_before is (record { sent = λ k. ap (λ (x : View). x.sent k) same; received = λ k. ap (λ (x : View). x.received k) same }),
+      idles (λ p h. let x : Faulted fault ≡ Read p = sym wants ∙ h in cc) (λ q h. let x : Faulted fault ≡ Write q = sym wants ∙ h in cc),
+    )
 
     pub turn_of : (moved : Stepped) → TurnAnswers b edges node s s' a v (Ok moved) → Turn b.process net (Some capacity) node c d (is_one moved)
     turn_of One h = moves (b.process.want s) refl h
@@ -136,11 +145,15 @@ module _ {S : Type 0} (b : Behaviour S) (laws : BehaviourLaws b) (states : List 
     sound_after moved h = sound_turn (is_one moved) (turn_of moved h)
 
 -- one turn over both ends of each edge, by its answer
-module _ {X Y : Type 0} {t : Ghosts X} (laws : BehaviourLaws t.behaviour) (view : Y → View) (node : ℕ) (graph : Graph X t) (ends : Y) (graph' : Graph X t) (ends' : Y) (inside : node < length (states_of graph)) (there : HasEnds t.behaviour (states_of graph) (edges_of graph) node (view ends))
+module _ {X Y : Type 0} {t : Ghosts X} (laws : BehaviourLaws t.behaviour) (view : Y → View) (node : ℕ) (graph : Graph X t) (ends : Y)
+    (graph' : Graph X t) (ends' : Y) (inside : node < length (states_of graph))
+    (there : HasEnds t.behaviour (states_of graph) (edges_of graph) node (view ends))
     (capacity : ℕ) (whole : IsWhole capacity (view ends)) (whole' : IsWhole capacity (view ends')) where
   pub turns_network : (r : Result Stepped AllocError) → TakesTurn view node graph ends graph' ends' r → IfOk r (λ moved. TurnsNetwork view node graph ends graph' ends' capacity moved)
   turns_network (Err e) taken = tt
   turns_network (Ok moved) taken = record {
-    turn = λ sound. turn_of t.behaviour laws (states_of graph) (edges_of graph) (graph_wired graph) (graph_lawful graph laws) node inside (states_of graph') capacity (view ends) (view ends') taken.others whole whole' there sound moved taken.step;
-    sound = λ sound. sound_after t.behaviour laws (states_of graph) (edges_of graph) (graph_wired graph) (graph_lawful graph laws) node inside (states_of graph') capacity (view ends) (view ends') taken.others whole whole' there sound moved taken.step;
+    turn = λ sound. turn_of t.behaviour laws (states_of graph) (edges_of graph) (graph_wired graph) (graph_lawful graph laws) node inside
+        (states_of graph') capacity (view ends) (view ends') taken.others whole whole' there sound moved taken.step;
+    sound = λ sound. sound_after t.behaviour laws (states_of graph) (edges_of graph) (graph_wired graph) (graph_lawful graph laws) node inside
+        (states_of graph') capacity (view ends) (view ends') taken.others whole whole' there sound moved taken.step;
   }

@@ -30,7 +30,8 @@ module _ {S : Type 0} (b : Behaviour S) where
     visits_none sound = visited_none b.process (network_of b states edges) (Some capacity) (configuration_of b states view)
 
     -- what was done in the same network
-    module _ (wired : IsWired (network_of b states edges)) (states' : List S) (edges' : List Edge) (view' : View) (same : IsSameNetwork b states edges states' edges') (capacity' : ℕ) (even : capacity' ≡ capacity) where
+    module _ (wired : IsWired (network_of b states edges)) (states' : List S) (edges' : List Edge) (view' : View)
+        (same : IsSameNetwork b states edges states' edges') (capacity' : ℕ) (even : capacity' ≡ capacity) where
       pub in_network : (nodes : List ℕ) (states'' : List S) (view'' : View) (any : Bool)
           → IsSound b.process (network_of b states edges) (configuration_of b states' view')
           → Visits b capacity' nodes edges' states' view' states'' view'' any

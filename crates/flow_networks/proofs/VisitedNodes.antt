@@ -28,7 +28,8 @@ module _ {State Message : Type 0} (P : Process State Message) (net : Network Sta
   visited_none c = record { reaches = ([], refl); own = All-nil (λ a. Contains [] (actor net a)); calm = λ h. (refl, λ a has can. absurd (omega (arith, has.1))); busy = λ h. cc }
 
   -- one node more
-  pub visited_push : (nodes : List ℕ) (k : ℕ) (c d e : Configuration State Message) (any one : Bool) → IsVisited P net limit nodes c d any → IsVisited P net limit (k ∷ []) d e one → IsVisited P net limit (nodes ++ k ∷ []) c e (any || one)
+  pub visited_push : (nodes : List ℕ) (k : ℕ) (c d e : Configuration State Message) (any one : Bool) → IsVisited P net limit nodes c d any →
+      IsVisited P net limit (k ∷ []) d e one → IsVisited P net limit (nodes ++ k ∷ []) c e (any || one)
   visited_push nodes k c d e any one s t =
       record { reaches = all; own = own; calm = calm any one s t; busy = busy any one s t }
     where
@@ -44,7 +45,8 @@ module _ {State Message : Type 0} (P : Process State Message) (net : Network Sta
           (All-weaker (λ a. Contains nodes (actor net a)) Among (λ a has. Contains-append_left nodes (k ∷ []) (actor net a) has) s.reaches.0 s.own)
           (All-weaker (λ a. Contains (k ∷ []) (actor net a)) Among (λ a has. Contains-append_right nodes (k ∷ []) (actor net a) has) t.reaches.0 t.own)
 
-      calm : (any one : Bool) → IsVisited P net limit nodes c d any → IsVisited P net limit (k ∷ []) d e one → (any || one) ≡ false → (e ≡ c) × ((a : Event Message) → Contains (nodes ++ k ∷ []) (actor net a) → Can P net limit e a → ⊥)
+      calm : (any one : Bool) → IsVisited P net limit nodes c d any → IsVisited P net limit (k ∷ []) d e one → (any || one) ≡ false → (e ≡ c)
+          × ((a : Event Message) → Contains (nodes ++ k ∷ []) (actor net a) → Can P net limit e a → ⊥)
       calm true one s t h = absurd (cc)
       calm false true s t h = absurd (cc)
       calm false false s t h = ((t.calm refl).0 ∙ (s.calm refl).0, λ a has can. go a can (Contains-push_cases nodes k (actor net a) has))
@@ -75,7 +77,8 @@ module _ {State Message : Type 0} (P : Process State Message) (net : Network Sta
       over_stays more (next P net c a) d run k (ap (λ s. is_over (P.want s)) one ∙ over) ∙ one
 
   -- no node can step where those that are not over were visited and made no step
-  pub visited_rest : IsWired net → (nodes : List ℕ) (c d : Configuration State Message) → IsVisited P net limit nodes c d false → ((k : ℕ) → k < net.nodes → Contains nodes k ⊎ (is_over (P.want (c.state k)) ≡ true)) → AtRest P net limit d
+  pub visited_rest : IsWired net → (nodes : List ℕ) (c d : Configuration State Message) → IsVisited P net limit nodes c d false →
+      ((k : ℕ) → k < net.nodes → Contains nodes k ⊎ (is_over (P.want (c.state k)) ≡ true)) → AtRest P net limit d
   visited_rest wired nodes c d s all a can = go (all (actor net a) (inside a can))
     where
       inside : (a : Event Message) → Can P net limit d a → actor net a < net.nodes
@@ -87,7 +90,10 @@ module _ {State Message : Type 0} (P : Process State Message) (net : Network Sta
       go (inr over) = over_idle c (actor net a) over a refl (subst (λ x. Can P net limit x a) (s.calm refl).0 can)
 
   -- what is left of the whole traffic falls where one made a step
-  pub visited_falls : (wired : IsWired net) (settles : Settles P) (nodes : List ℕ) (c d : Configuration State Message) → Reaches P net limit (start net) c → IsVisited P net limit nodes c d true → most_events P net wired settles (start net) (λ e inside. ([], refl)) - moved net d < most_events P net wired settles (start net) (λ e inside. ([], refl)) - moved net c
+  pub visited_falls : (wired : IsWired net) (settles : Settles P) (nodes : List ℕ) (c d : Configuration State Message) →
+      Reaches P net limit (start net) c → IsVisited P net limit nodes c d true →
+      most_events P net wired settles (start net) (λ e inside. ([], refl)) - moved net d < most_events P net wired settles (start net)
+      (λ e inside. ([], refl)) - moved net c
   visited_falls wired settles nodes c d from s =
       let swept : IsSwept P net limit 0 c d true = record { reaches = s.reaches; calm = λ h. cc; busy = s.busy } in
       swept_falls P net limit wired settles 0 c d from swept

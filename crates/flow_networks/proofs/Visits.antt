@@ -1,5 +1,6 @@
 -- A visit of a node over both ends of each edge is a run of the network.
-use Rattle.std.proofs.Common.{◌≡◌, ℕ, ◌-◌, ◌<◌, ◌≤◌, Bool, true, false, cond, eqb, ltb, List, [], ◌∷◌, ◌++◌, length, get_or, set, Some, ◌⊎◌, inl, inr, refl, sym, ◌∙◌, ap, subst, arith, append-nil, eq-eqb, lt-ltb}
+use Rattle.std.proofs.Common.{◌≡◌, ℕ, ◌-◌, ◌<◌, ◌≤◌, Bool, true, false, cond, eqb, ltb, List, [], ◌∷◌, ◌++◌, length, get_or, set, Some, ◌⊎◌, inl, inr}
+use Rattle.std.proofs.Common.{refl, sym, ◌∙◌, ap, subst, arith, append-nil, eq-eqb, lt-ltb}
 use Rattle.std.specs.List.{All, Contains}
 use Rattle.std.proofs.lemmas.Bool.{cases_Bool, and_from, and_parts, ltb-true, eqb-true}
 use Rattle.std.proofs.lemmas.List.{length-map}
@@ -52,11 +53,13 @@ no_events : (h : List (Event Signal)) → (h ≡ [] → ⊥) → 0 < length h
 no_events [] some = absurd (some refl)
 no_events (a ∷ h) some = omega arith
 
-module _ {S : Type 0} (b : Behaviour S) (laws : BehaviourLaws b) (states : List S) (edges : List Edge) (wired : IsWired (network_of b states edges)) (lawful : AllLawful b.process (network_of b states edges)) (node : ℕ) (inside : node < length states)
+module _ {S : Type 0} (b : Behaviour S) (laws : BehaviourLaws b) (states : List S) (edges : List Edge) (wired : IsWired (network_of b states edges))
+    (lawful : AllLawful b.process (network_of b states edges)) (node : ℕ) (inside : node < length states)
     (states' : List S) (capacity : ℕ) (a v : View) (others : SameBut b node states states') (whole_v : IsWhole capacity v) (inputs outputs : List ℕ)
     (into_is : (p : ℕ) → p < inputs_at b states node → edge_of inputs p ≡ in_edge edges node p) (from_is : (q : ℕ) → q < outputs_at b states node → edge_of outputs q ≡ out_edge edges node q)
     (there : (q : ℕ) → q < outputs_at b states node → v.writes (out_edge edges node q) ≡ true)
-    (any : Bool) (visited : Visited inputs outputs b (state_at b states node) a (state_at b states' node) v any) (sound : IsSound b.process (network_of b states edges) (configuration_of b states a)) where
+    (any : Bool) (visited : Visited inputs outputs b (state_at b states node) a (state_at b states' node) v any)
+    (sound : IsSound b.process (network_of b states edges) (configuration_of b states a)) where
   abbrev net : Network S
   net = network_of b states edges
 
@@ -106,16 +109,24 @@ module _ {S : Type 0} (b : Behaviour S) (laws : BehaviourLaws b) (states : List 
 
   received_own : (e : ℕ) → e < net.edges → net.reader e ≡ node → v.received e ≡ a.received e ++ reads (net.reader_port e) h
   received_own e l at =
-      visited.carried.received e ∙ ap (λ ms. a.received e ++ ms) (read_own P laws.end net wired node inside (lawful node inside) into from into_is from_is e l at before.history h s s' before.does visited.does)
+      visited.carried.received e
+      ∙ ap (λ ms. a.received e ++ ms)
+      (read_own P laws.end net wired node inside (lawful node inside) into from into_is from_is e l at before.history h s s' before.does
+      visited.does)
 
   received_other : (e : ℕ) → (e < net.edges → net.reader e ≡ node → ⊥) → v.received e ≡ a.received e
   received_other e away =
-      visited.carried.received e ∙ ap (λ ms. a.received e ++ ms) (read_other P laws.end net wired node inside (lawful node inside) into from into_is from_is e away before.history h s s' before.does visited.does)
+      visited.carried.received e
+      ∙ ap (λ ms. a.received e ++ ms)
+      (read_other P laws.end net wired node inside (lawful node inside) into from into_is from_is e away before.history h s s' before.does
+      visited.does)
       ∙ append-nil (a.received e)
 
   sent_here : (e : ℕ) → e < net.edges → net.writer e ≡ node → v.sent e ≡ a.sent e ++ writes (net.writer_port e) h
   sent_here e l at =
-      visited.carried.sent e ∙ sent_own P laws.end net wired node inside (lawful node inside) into from into_is from_is e l at before.history h s s' before.does visited.does (a.sent e) (before.sent e l at)
+      visited.carried.sent e
+      ∙ sent_own P laws.end net wired node inside (lawful node inside) into from into_is from_is e l at before.history h s s' before.does
+      visited.does (a.sent e) (before.sent e l at)
 
   sent_elsewhere : (e : ℕ) → (e < net.edges → net.writer e ≡ node → ⊥) → v.sent e ≡ a.sent e
   sent_elsewhere e away =
@@ -206,14 +217,18 @@ module _ {S : Type 0} (b : Behaviour S) (laws : BehaviourLaws b) (states : List 
   }
 
 -- the same of a placed node, over its own edges
-module _ {X : Type 0} {t : Ghosts X} (laws : BehaviourLaws t.behaviour) (nodes : List (Placed X t)) (edges : List Edge) (built : IsBuilt t.behaviour (states_in nodes) edges) (seated : AreSeated nodes edges)
-    (k : ℕ) (x : Placed X t) (inside : k < length nodes) (is : x ≡ get_or nodes k x) (y : Placed X t) (place : IsSamePlace x y) (capacity : ℕ) (a v : View) (whole_a : IsWhole capacity a) (whole_v : IsWhole capacity v) (ends : SameEnds a v) (all : HasAllEnds (length edges) a) where
-  pub node_visits : (any : Bool) → Visited x.inputs.items x.outputs.items t.behaviour (placed_state x) a (placed_state y) v any → Visits t.behaviour capacity (k ∷ []) edges (states_in nodes) a (states_in (set nodes k y)) v any
+module _ {X : Type 0} {t : Ghosts X} (laws : BehaviourLaws t.behaviour) (nodes : List (Placed X t)) (edges : List Edge)
+    (built : IsBuilt t.behaviour (states_in nodes) edges) (seated : AreSeated nodes edges)
+    (k : ℕ) (x : Placed X t) (inside : k < length nodes) (is : x ≡ get_or nodes k x) (y : Placed X t) (place : IsSamePlace x y) (capacity : ℕ)
+    (a v : View) (whole_a : IsWhole capacity a) (whole_v : IsWhole capacity v) (ends : SameEnds a v) (all : HasAllEnds (length edges) a) where
+  pub node_visits : (any : Bool) → Visited x.inputs.items x.outputs.items t.behaviour (placed_state x) a (placed_state y) v any →
+      Visits t.behaviour capacity (k ∷ []) edges (states_in nodes) a (states_in (set nodes k y)) v any
   node_visits any visited sound =
       visited_run b laws states edges built.wired (lawful_net b states edges laws) k here states' capacity a v others whole_v x.inputs.items x.outputs.items
       (λ p port. input_here nodes k x inside is edges built.joined seated p port) (λ q port. output_here nodes k x inside is edges built.joined seated q port)
       (λ q port. ends.writes (out_edge edges k q) ∙ (all (out_edge edges k q) (built.joined.outputs k q port)).0)
-      any (subst (λ s. Visited x.inputs.items x.outputs.items b (state_at b states k) a s v any) (sym after) (subst (λ s. Visited x.inputs.items x.outputs.items b s a (placed_state y) v any) (state_here nodes k x inside is) visited)) sound
+      any (subst (λ s. Visited x.inputs.items x.outputs.items b (state_at b states k) a s v any) (sym after)
+      (subst (λ s. Visited x.inputs.items x.outputs.items b s a (placed_state y) v any) (state_here nodes k x inside is) visited)) sound
     where
       b : Behaviour t.State
       b = t.behaviour
@@ -234,7 +249,8 @@ module _ {X : Type 0} {t : Ghosts X} (laws : BehaviourLaws t.behaviour) (nodes :
       others = same_but t.behaviour laws (states_in nodes) (states_in (set nodes k y)) (openings_same nodes k x inside is y place) k (placed_state y) (states_after nodes k x inside is y)
 
 -- a visit that broke off, of a placed node
-module _ {X : Type 0} {t : Ghosts X} (laws : BehaviourLaws t.behaviour) (nodes : List (Placed X t)) (edges : List Edge) (built : IsBuilt t.behaviour (states_in nodes) edges) (seated : AreSeated nodes edges)
+module _ {X : Type 0} {t : Ghosts X} (laws : BehaviourLaws t.behaviour) (nodes : List (Placed X t)) (edges : List Edge)
+    (built : IsBuilt t.behaviour (states_in nodes) edges) (seated : AreSeated nodes edges)
     (k : ℕ) (x : Placed X t) (inside : k < length nodes) (is : x ≡ get_or nodes k x) (y : Placed X t) (place : IsSamePlace x y) (a v : View) where
   pub node_broke : BrokeOff x.inputs.items x.outputs.items t.behaviour (placed_state x) a (placed_state y) v → VisitBrokeOff t.behaviour k edges (states_in nodes) a (states_in (set nodes k y)) v
   node_broke broke = record {

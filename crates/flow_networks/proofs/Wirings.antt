@@ -1,7 +1,9 @@
 -- A wiring with a node or an edge more.
-use Rattle.std.proofs.Common.{◌≡◌, ℕ, zero, suc, ◌<◌, ◌≤◌, ◌↔◌, Bool, true, false, if◌then◌else◌, IsSome, IsTrue, List, [], ◌∷◌, ◌++◌, length, get_or, set, map, replicate, Option, Some, None, refl, sym, ◌∙◌, ap, subst, arith, length-set, ◌⊎◌, inl, inr}
+use Rattle.std.proofs.Common.{◌≡◌, ℕ, zero, suc, ◌<◌, ◌≤◌, ◌↔◌, Bool, true, false, if◌then◌else◌, IsSome, IsTrue, List, [], ◌∷◌, ◌++◌, length, get_or}
+use Rattle.std.proofs.Common.{set, map, replicate, Option, Some, None, refl, sym, ◌∙◌, ap, subst, arith, length-set, ◌⊎◌, inl, inr}
 use Rattle.std.proofs.lemmas.Bool.{cases_eq, cases_lt}
-use Rattle.std.proofs.lemmas.List.{get_or-map, map-set, set-get_or, get_or_append_left, get_or_push, length_push, length-map, length-replicate, get_or-replicate, get_or_past, map-append, get_or_default}
+use Rattle.std.proofs.lemmas.List.{get_or-map, map-set, set-get_or, get_or_append_left, get_or_push, length_push, length-map, length-replicate}
+use Rattle.std.proofs.lemmas.List.{get_or-replicate, get_or_past, map-append, get_or_default}
 use Rattle.std.specs.List.{All, position_or_len}
 use Rattle.std.proofs.lemmas.List.Elements.{All-map}
 use Rattle.flow_networks.specs.declared.edge.Edge.{Edge}
@@ -56,17 +58,22 @@ none_free n p = go (cases_lt p n)
     go (inr past) = get_or_past (replicate n nothing) p None (omega (arith, length-replicate n nothing))
 
 -- a side with a node more, whose ports are free
-side_with_node : (side : Side) (ports : List Ports) (edges : List Edge) (node : Ports) (n : ℕ) → IsTableOf side.node side.port (map side.of ports) edges → side.of node ≡ replicate n None → IsTableOf side.node side.port (map side.of (ports ++ node ∷ [])) edges
+side_with_node : (side : Side) (ports : List Ports) (edges : List Edge) (node : Ports) (n : ℕ) →
+    IsTableOf side.node side.port (map side.of ports) edges → side.of node ≡ replicate n None →
+    IsTableOf side.node side.port (map side.of (ports ++ node ∷ [])) edges
 side_with_node side ports edges node n is free =
     subst (λ t. IsTableOf side.node side.port t edges) (sym (map-append side.of ports (node ∷ [])))
     (with_row side.node side.port (map side.of ports) edges is (side.of node) (λ p. ap (λ (r : List (Option ℕ)). get_or r p None) free ∙ none_free n p))
 
-pub wiring_with_node : (ports : List Ports) (edges : List Edge) (node : Ports) (inputs outputs : ℕ) → IsWiring ports edges → node.inputs.items ≡ replicate inputs None → node.outputs.items ≡ replicate outputs None → IsWiring (ports ++ node ∷ []) edges
+pub wiring_with_node : (ports : List Ports) (edges : List Edge) (node : Ports) (inputs outputs : ℕ) → IsWiring ports edges → node.inputs.items
+    ≡ replicate inputs None → node.outputs.items ≡ replicate outputs None → IsWiring (ports ++ node ∷ []) edges
 wiring_with_node ports edges node inputs outputs wired i o =
     record { forward = wired.forward; ins = side_with_node input_side ports edges node inputs wired.ins i; outs = side_with_node output_side ports edges node outputs wired.outs o }
 
 -- and after a push that may be refused
-pub wiring_after_push : (ports after : List Ports) (edges : List Edge) (node : Ports) (inputs outputs : ℕ) (pushed : Bool) → after ≡ (if pushed then ports ++ node ∷ [] else ports) → IsWiring ports edges → node.inputs.items ≡ replicate inputs None → node.outputs.items ≡ replicate outputs None → IsWiring after edges
+pub wiring_after_push : (ports after : List Ports) (edges : List Edge) (node : Ports) (inputs outputs : ℕ) (pushed : Bool) → after
+    ≡ (if pushed then ports ++ node ∷ [] else ports) → IsWiring ports edges → node.inputs.items ≡ replicate inputs None → node.outputs.items
+    ≡ replicate outputs None → IsWiring after edges
 wiring_after_push ports after edges node inputs outputs true is wired i o = subst (λ ps. IsWiring ps edges) (sym is) (wiring_with_node ports edges node inputs outputs wired i o)
 wiring_after_push ports after edges node inputs outputs false is wired i o = subst (λ ps. IsWiring ps edges) (sym is) wired
 
@@ -89,7 +96,9 @@ module _ (ports : List Ports) (edges : List Edge) (x : Edge) (w w' r r' : Ports)
   half_outs : outs half ≡ set (outs ports) x.writer (set (row_at (outs ports) x.writer) x.writer_port (Some (length edges)))
   half_outs =
       map-set (λ (n : Ports). n.outputs.items) ports x.writer w'
-      ∙ ap (set (outs ports) x.writer) (w_outs ∙ ap (λ row. set row x.writer_port (Some (length edges))) (ap (λ (n : Ports). n.outputs.items) w_is ∙ sym (get_or-map (λ (n : Ports). n.outputs.items) ports x.writer w [] (omega arith))))
+      ∙ ap (set (outs ports) x.writer)
+      (w_outs ∙ ap (λ row. set row x.writer_port (Some (length edges)))
+      (ap (λ (n : Ports). n.outputs.items) w_is ∙ sym (get_or-map (λ (n : Ports). n.outputs.items) ports x.writer w [] (omega arith))))
 
   pub both_outs : outs both_ends ≡ set (outs ports) x.writer (set (row_at (outs ports) x.writer) x.writer_port (Some (length edges)))
   both_outs = map_set_back (λ (n : Ports). n.outputs.items) half x.reader r r' [] half_inside r_is r_outs ∙ half_outs
@@ -97,7 +106,9 @@ module _ (ports : List Ports) (edges : List Edge) (x : Edge) (w w' r r' : Ports)
   pub both_ins : ins both_ends ≡ set (ins ports) x.reader (set (row_at (ins ports) x.reader) x.reader_port (Some (length edges)))
   both_ins =
       map-set (λ (n : Ports). n.inputs.items) half x.reader r'
-      ∙ ap (set (ins half) x.reader) (r_ins ∙ ap (λ row. set row x.reader_port (Some (length edges))) (ap (λ (n : Ports). n.inputs.items) r_is ∙ sym (get_or-map (λ (n : Ports). n.inputs.items) half x.reader r [] half_inside)))
+      ∙ ap (set (ins half) x.reader)
+      (r_ins ∙ ap (λ row. set row x.reader_port (Some (length edges)))
+      (ap (λ (n : Ports). n.inputs.items) r_is ∙ sym (get_or-map (λ (n : Ports). n.inputs.items) half x.reader r [] half_inside)))
       ∙ ap (λ t. set t x.reader (set (row_at t x.reader) x.reader_port (Some (length edges)))) half_ins
 
   -- as many ports as before
@@ -112,13 +123,18 @@ module _ (ports : List Ports) (edges : List Edge) (x : Edge) (w w' r r' : Ports)
   counts_outs = ap (map length) both_outs ∙ counts (outs ports) x.writer x.writer_port (Some (length edges))
 
   -- a side with the edge more, at a port that was free
-  side_with_edge : (side : Side) → IsTableOf side.node side.port (map side.of ports) edges → map side.of both_ends ≡ set (map side.of ports) (side.node x) (set (row_at (map side.of ports) (side.node x)) (side.port x) (Some (length edges)))
-      → side.port x < count_at (map side.of ports) (side.node x) → length edges ≤ position_or_len (at_port side.node side.port (side.node x) (side.port x)) edges → IsTableOf side.node side.port (map side.of both_ends) (edges ++ x ∷ [])
+  side_with_edge : (side : Side) → IsTableOf side.node side.port (map side.of ports) edges → map side.of both_ends
+      ≡ set (map side.of ports) (side.node x) (set (row_at (map side.of ports) (side.node x)) (side.port x) (Some (length edges)))
+      → side.port x < count_at (map side.of ports) (side.node x) →
+      length edges ≤ position_or_len (at_port side.node side.port (side.node x) (side.port x)) edges →
+      IsTableOf side.node side.port (map side.of both_ends) (edges ++ x ∷ [])
   side_with_edge side is both port free =
       subst (λ t. IsTableOf side.node side.port t (edges ++ x ∷ [])) (sym both)
-      (with_entry side.node side.port (map side.of ports) edges is x (omega (arith, port, row_length (map side.of ports) (side.node x))) (entry_none side.node side.port (map side.of ports) edges is (side.node x) (side.port x) free))
+      (with_entry side.node side.port (map side.of ports) edges is x (omega (arith, port, row_length (map side.of ports) (side.node x)))
+      (entry_none side.node side.port (map side.of ports) edges is (side.node x) (side.port x) free))
 
-  pub wiring_with_edge : IsWiring ports edges → x.writer_port < count_at (outs ports) x.writer → x.reader_port < count_at (ins ports) x.reader → length edges ≤ out_edge edges x.writer x.writer_port → length edges ≤ in_edge edges x.reader x.reader_port → IsWiring both_ends (edges ++ x ∷ [])
+  pub wiring_with_edge : IsWiring ports edges → x.writer_port < count_at (outs ports) x.writer → x.reader_port < count_at (ins ports) x.reader →
+      length edges ≤ out_edge edges x.writer x.writer_port → length edges ≤ in_edge edges x.reader x.reader_port → IsWiring both_ends (edges ++ x ∷ [])
   wiring_with_edge wired o i free_o free_i = record {
     forward = λ e l. go e l (cases_eq e (length edges));
     ins = side_with_edge input_side wired.ins both_ins i free_i;

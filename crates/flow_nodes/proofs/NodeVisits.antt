@@ -62,13 +62,16 @@ module _ (inputs outputs : List ℕ) (t : NodeKind) (s s' : (member t).State) (a
   }
 
   -- the answer of a visit, where u is the node's state before it
-  pub visited_node : (u : (k : NodeKind) × (member k).State) (r : Result Bool AllocError) → u ≡ (t, s) → IfOk r (λ any. Visited inputs outputs (member t).behaviour s a s' v any) → IfOk r (λ any. Visited inputs outputs node_behaviour u a (t, s') v any)
+  pub visited_node : (u : (k : NodeKind) × (member k).State) (r : Result Bool AllocError) → u ≡ (t, s) →
+      IfOk r (λ any. Visited inputs outputs (member t).behaviour s a s' v any) → IfOk r (λ any. Visited inputs outputs node_behaviour u a (t, s') v any)
   visited_node u (Ok any) is d = subst (λ k. Visited inputs outputs node_behaviour k a (t, s') v any) (sym is) (visited_kind any d)
   visited_node u (Err x) is d = tt
 
-  pub broke_node : (u : (k : NodeKind) × (member k).State) (r : Result Bool AllocError) → u ≡ (t, s) → OnErr r (BrokeOff inputs outputs (member t).behaviour s a s' v) → OnErr r (BrokeOff inputs outputs node_behaviour u a (t, s') v)
+  pub broke_node : (u : (k : NodeKind) × (member k).State) (r : Result Bool AllocError) → u ≡ (t, s) →
+      OnErr r (BrokeOff inputs outputs (member t).behaviour s a s' v) → OnErr r (BrokeOff inputs outputs node_behaviour u a (t, s') v)
   broke_node u (Ok any) is d = tt
   broke_node u (Err x) is d = subst (λ k. BrokeOff inputs outputs node_behaviour k a (t, s') v) (sym is) (broke_kind d)
 
-pub placed_node : {inputs outputs : List ℕ} (t : NodeKind) (s : (member t).State) {v : View} (u : (k : NodeKind) × (member k).State) → u ≡ (t, s) → IsPlaced node_behaviour inputs outputs u v → IsPlaced (member t).behaviour inputs outputs s v
+pub placed_node : {inputs outputs : List ℕ} (t : NodeKind) (s : (member t).State) {v : View} (u : (k : NodeKind) × (member k).State) → u ≡ (t, s) →
+    IsPlaced node_behaviour inputs outputs u v → IsPlaced (member t).behaviour inputs outputs s v
 placed_node {inputs = inputs} {outputs = outputs} t s {v = v} u is placed = placed_kind inputs outputs t s v (subst (λ k. IsPlaced node_behaviour inputs outputs k v) is placed)

@@ -11,7 +11,82 @@ ruleset parts = (ty_sends, ty_shares, datum_sends, elements_sends, typed_sends, 
 
 -- the kinds in their order, each by the one field that it has
 pub stream_node_sends : IsSend stream_node.the_row
-stream_node_sends = variants_send stream_node.enum ((search parts depth 60 fits 20000, tt), ((search parts depth 60 fits 20000, tt), ((search parts depth 60 fits 20000, tt), ((search parts depth 60 fits 20000, tt), ((search parts depth 60 fits 20000, tt), ((search parts depth 60 fits 20000, tt), ((search parts depth 60 fits 20000, tt), ((search parts depth 60 fits 20000, tt), ((search parts depth 60 fits 20000, tt), ((search parts depth 60 fits 20000, tt), ((search parts depth 60 fits 20000, tt), ((search parts depth 60 fits 20000, tt), ((search parts depth 60 fits 20000, tt), ((search parts depth 60 fits 20000, tt), ((search parts depth 60 fits 20000, tt), ((search parts depth 60 fits 20000, tt), ((search parts depth 60 fits 20000, tt), ((search parts depth 60 fits 20000, tt), ((search parts depth 60 fits 20000, tt), ((search parts depth 60 fits 20000, tt), ((search parts depth 60 fits 20000, tt), ((search parts depth 60 fits 20000, tt), ((search parts depth 60 fits 20000, tt), ((search parts depth 60 fits 20000, tt), ((search parts depth 60 fits 20000, tt), ((search parts depth 60 fits 20000, tt), ((search parts depth 60 fits 20000, tt), tt)))))))))))))))))))))))))))
+stream_node_sends = variants_send stream_node.enum (
+  (search parts depth 60 fits 20000, tt),
+  (
+    (search parts depth 60 fits 20000, tt),
+    (
+      (search parts depth 60 fits 20000, tt),
+      (
+        (search parts depth 60 fits 20000, tt),
+        (
+          (search parts depth 60 fits 20000, tt),
+          (
+            (search parts depth 60 fits 20000, tt),
+            (
+              (search parts depth 60 fits 20000, tt),
+              (
+                (search parts depth 60 fits 20000, tt),
+                (
+                  (search parts depth 60 fits 20000, tt),
+                  (
+                    (search parts depth 60 fits 20000, tt),
+                    (
+                      (search parts depth 60 fits 20000, tt),
+                      (
+                        (search parts depth 60 fits 20000, tt),
+                        (
+                          (search parts depth 60 fits 20000, tt),
+                          (
+                            (search parts depth 60 fits 20000, tt),
+                            (
+                              (search parts depth 60 fits 20000, tt),
+                              (
+                                (search parts depth 60 fits 20000, tt),
+                                (
+                                  (search parts depth 60 fits 20000, tt),
+                                  (
+                                    (search parts depth 60 fits 20000, tt),
+                                    (
+                                      (search parts depth 60 fits 20000, tt),
+                                      (
+                                        (search parts depth 60 fits 20000, tt),
+                                        (
+                                          (search parts depth 60 fits 20000, tt),
+                                          (
+                                            (search parts depth 60 fits 20000, tt),
+                                            (
+                                              (search parts depth 60 fits 20000, tt),
+                                              (
+                                                (search parts depth 60 fits 20000, tt),
+                                                (
+                                                  (search parts depth 60 fits 20000, tt),
+                                                  ((search parts depth 60 fits 20000, tt), ((search parts depth 60 fits 20000, tt), tt)),
+                                                ),
+                                              ),
+                                            ),
+                                          ),
+                                        ),
+                                      ),
+                                    ),
+                                  ),
+                                ),
+                              ),
+                            ),
+                          ),
+                        ),
+                      ),
+                    ),
+                  ),
+                ),
+              ),
+            ),
+          ),
+        ),
+      ),
+    ),
+  ),
+)
 
 -- the same as a caller of a generic function is asked it
 pub ruleset nodes_cross = (stream_node_sends, param_send, arg_send)

@@ -30,7 +30,10 @@ use Rattle.flow_values.specs.laws.Print.{print_laws}
 use Rattle.flow_values.specs.laws.Seq.{seq_laws}
 use Rattle.flow_values.specs.laws.Tab.{tab_laws}
 use Rattle.flow_nodes.specs.PortRows.{worker_rows, source_rows, print_rows}
-use Rattle.flow_nodes.specs.StreamNodes.{NodeKind, a_source, a_const, a_unary, a_binary, a_fork, a_sink, an_iota, a_units_of, a_scan_add, a_reduce, a_length, a_flag_of_bool, a_the_check, a_same_flags, a_concat_flags, a_part_flags, an_append_flags, a_dist, a_pack, a_pack_groups, an_interleave, an_interleave_groups, a_print, a_tab, a_seq_of_vector, an_index, member, node_behaviour}
+use Rattle.flow_nodes.specs.StreamNodes.{NodeKind, a_source, a_const, a_unary, a_binary, a_fork, a_sink, an_iota, a_units_of, a_scan_add, a_reduce}
+use Rattle.flow_nodes.specs.StreamNodes.{a_length, a_flag_of_bool, a_the_check, a_same_flags, a_concat_flags, a_part_flags, an_append_flags, a_dist}
+use Rattle.flow_nodes.specs.StreamNodes.{a_pack, a_pack_groups, an_interleave, an_interleave_groups, a_print, a_tab, a_seq_of_vector, an_index}
+use Rattle.flow_nodes.specs.StreamNodes.{member, node_behaviour}
 
 -- the laws of a kind
 abbrev pub laws_of_kind : (t : NodeKind) → BehaviourLaws (member t).behaviour

@@ -48,7 +48,8 @@ module _ {S : Type 0} {b : Behaviour S} {plan : List Step} {states : List S} {ed
       ap (λ o. bind o (slice_get streams)) (sym (stream_in given k placed there p lt)) ∙ below (in_edge edges k p) (edge_to given k placed there p lt).0 (writer_before given k placed there p lt)
 
   -- what comes to a copy is what its edges are to carry
-  module _ (bodies : ℕ → List Cell) (streams : Columns) (k : ℕ) (placed : Placed) (there : slice_get (layout plan) k ≡ Some placed) (copy : IsCopy placed) (below : AreCarriedBelow plan edges bodies streams k) where
+  module _ (bodies : ℕ → List Cell) (streams : Columns) (k : ℕ) (placed : Placed) (there : slice_get (layout plan) k ≡ Some placed)
+      (copy : IsCopy placed) (below : AreCarriedBelow plan edges bodies streams k) where
     pub one_read : 0 < length placed.reads
     one_read = omega (arith, ap length copy.reads)
 

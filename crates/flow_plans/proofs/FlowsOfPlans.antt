@@ -119,7 +119,8 @@ module _ {S : Type 0} {b : Behaviour S} {plan : List Step} {states : List S} {ed
 
   -- a step: what it reads, and what it writes between the streams before it and more after them
 
-  module _ (step : Step) (streams read written more : Columns) (reads : streams_at step.reads streams ≡ Some read) (made : made_by step.operation read ≡ Some written) (all_are : all ≡ (streams ++ written) ++ more) where
+  module _ (step : Step) (streams read written more : Columns) (reads : streams_at step.reads streams ≡ Some read)
+      (made : made_by step.operation read ≡ Some written) (all_are : all ≡ (streams ++ written) ++ more) where
     abbrev node : Placed
     node = node_of step (length streams)
 

@@ -24,7 +24,8 @@ use Rattle.flow_plans.proofs.Behind.{node_of, IsCopy, all_after_copies}
 use Rattle.flow_plans.proofs.Nodes.{IsPlanned, stream_out, port_out, edge_out, node_inside, made_of_row, writer_there}
 use Rattle.flow_plans.proofs.FlowsBelow.{AreCarriedBelow, carried_next, carried_more, read_at, copied, after_all}
 
-module _ {S : Type 0} {b : Behaviour S} {plan : List Step} {states : List S} {edges : List Edge} (given : IsPlanned b plan states edges) (bodies : ℕ → List Cell) (flow : IsLawfulFlow b states edges bodies) where
+module _ {S : Type 0} {b : Behaviour S} {plan : List Step} {states : List S} {edges : List Edge} (given : IsPlanned b plan states edges)
+    (bodies : ℕ → List Cell) (flow : IsLawfulFlow b states edges bodies) where
   made_at : (k : ℕ) (placed : Placed) → slice_get (layout plan) k ≡ Some placed
       → made_by placed.operation (columns (length placed.reads) (bodies_in edges bodies k)) ≡ Some (columns (length (kinds_written placed.operation)) (bodies_out edges bodies k))
   made_at k placed there = made_of_row given k placed there bodies (flow k (node_inside given k placed there))
@@ -56,7 +57,8 @@ module _ {S : Type 0} {b : Behaviour S} {plan : List Step} {states : List S} {ed
   abbrev written : Step → ℕ → Columns
   written step k = columns (length (kinds_written step.operation)) (bodies_out edges bodies k)
 
-  module _ (step : Step) (s k : ℕ) (there : slice_get (layout plan) k ≡ Some (node_of step s)) (streams : Columns) (long : length streams ≡ s) (below : AreCarriedBelow plan edges bodies streams k) where
+  module _ (step : Step) (s k : ℕ) (there : slice_get (layout plan) k ≡ Some (node_of step s)) (streams : Columns) (long : length streams ≡ s)
+      (below : AreCarriedBelow plan edges bodies streams k) where
     -- the step runs on the streams so far
     step_reads : streams_at step.reads streams ≡ Some (columns (length step.reads) (bodies_in edges bodies k))
     step_reads = each_columns streams step.reads (bodies_in edges bodies k) (read_at given bodies streams k (node_of step s) there below)

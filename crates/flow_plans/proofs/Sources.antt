@@ -18,7 +18,8 @@ use Rattle.flow_networks.specs.Networks.{state_at}
 use Rattle.flow_networks.specs.Replacements.{MayReplace}
 use Rattle.flow_plans.specs.Plans.{Operation, Step, source}
 use Rattle.flow_plans.specs.Ports.{kinds_read, kinds_written}
-use Rattle.flow_plans.specs.Layouts.{Placed, times, uses, places_after, numbered, all_after, layout_from, places_from, layout, places, stream_from, stream_to, ports_from, inputs_from, outputs_from, edges_from, edges_between, Performs, IsNetworkOfPlan}
+use Rattle.flow_plans.specs.Layouts.{Placed, times, uses, places_after, numbered, all_after, layout_from, places_from, layout, places, stream_from}
+use Rattle.flow_plans.specs.Layouts.{stream_to, ports_from, inputs_from, outputs_from, edges_from, edges_between, Performs, IsNetworkOfPlan}
 use Rattle.flow_plans.specs.Settings.{with_source, IsLaidBut, SourceIsSet}
 use Rattle.flow_plans.proofs.Places.{get_right}
 use Rattle.flow_plans.proofs.Behind.{node_of}
@@ -163,7 +164,9 @@ edges_stay : (nodes : List Placed) (j : ℕ) (placed : Placed) (operation : Oper
     → edges_between (slice_set nodes j (record placed { operation = operation })) ≡ edges_between nodes
 edges_stay nodes j placed operation there = ap₂ edges_from (inputs_stay zero nodes j placed operation there) (outputs_stay zero nodes j placed operation there)
 
-module _ {S : Type 0} (b : Behaviour S) (states : List S) (edges : List Edge) (plan : List Step) (of : IsNetworkOfPlan b plan states edges) (i : ℕ) (step : Step) (kind : Kind) (before cells : List Cell) (at_i : slice_get plan i ≡ Some step) (is_source : step.operation ≡ source kind before) (s : S) (does : Performs b (source kind cells) s) where
+module _ {S : Type 0} (b : Behaviour S) (states : List S) (edges : List Edge) (plan : List Step) (of : IsNetworkOfPlan b plan states edges) (i : ℕ)
+    (step : Step) (kind : Kind) (before cells : List Cell) (at_i : slice_get plan i ≡ Some step) (is_source : step.operation ≡ source kind before)
+    (s : S) (does : Performs b (source kind cells) s) where
   abbrev operation : Operation
   operation = source kind cells
 

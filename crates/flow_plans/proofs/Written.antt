@@ -13,7 +13,9 @@ use Rattle.flow_rows.specs.Decoded.{numbers, truths, items_of_kind, values}
 use Rattle.flow_rows.specs.Made.{one, columns_of_values, of_one}
 use Rattle.flow_rows.proofs.Options.{bind_gives, map_gives, only_if_gives, some_same}
 use Rattle.flow_rows.proofs.Edges.{laid_length}
-use Rattle.flow_plans.specs.Plans.{Operation, source, const, unary, binary, iota, units_of, scan_add, reduce, length_of, dist, pack, pack_groups, flag_of_bool, same_flags, concat_flags, part_flags, the_check, append_flags, interleave, interleave_groups, print, tab, seq_of, index, fork, sink, made_by}
+use Rattle.flow_plans.specs.Plans.{Operation, source, const, unary, binary, iota, units_of, scan_add, reduce, length_of, dist, pack, pack_groups}
+use Rattle.flow_plans.specs.Plans.{flag_of_bool, same_flags, concat_flags, part_flags, the_check, append_flags, interleave, interleave_groups, print}
+use Rattle.flow_plans.specs.Plans.{tab, seq_of, index, fork, sink, made_by}
 use Rattle.flow_plans.specs.Ports.{kinds_written}
 
 one_column : {A : Type 0} (column : A → List Cell) (o : Option A) (written : Columns) → one column o ≡ Some written → length written ≡ 1

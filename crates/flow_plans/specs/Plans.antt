@@ -18,7 +18,10 @@ use Rattle.flow_folds.specs.Scalars.{kind_of_type}
 use Rattle.flow_folds.specs.ReduceMachine.{reduced_kind}
 use Rattle.flow_values.specs.Shapes.{kinds_of}
 use Rattle.flow_rows.specs.Lists.{bind, each}
-use Rattle.flow_rows.specs.Made.{source_made, const_made, unary_made, binary_made, iota_made, units_of_made, scan_add_made, reduce_made, length_made, dist_made, pack_made, pack_groups_made, flag_of_bool_made, same_flags_made, concat_flags_made, part_flags_made, the_check_made, append_flags_made, interleave_made, interleave_groups_made, print_made, tab_made, seq_made, index_made, fork_made, sink_made}
+use Rattle.flow_rows.specs.Made.{source_made, const_made, unary_made, binary_made, iota_made, units_of_made, scan_add_made, reduce_made, length_made}
+use Rattle.flow_rows.specs.Made.{dist_made, pack_made, pack_groups_made, flag_of_bool_made, same_flags_made, concat_flags_made, part_flags_made}
+use Rattle.flow_rows.specs.Made.{the_check_made, append_flags_made, interleave_made, interleave_groups_made, print_made, tab_made, seq_made}
+use Rattle.flow_rows.specs.Made.{index_made, fork_made, sink_made}
 
 -- which transducer a step is
 pub data Operation : Type 0 where

@@ -7,7 +7,9 @@ use Rattle.flow_messages.specs.declared.message.Kind.TheVariants.{Unit as UnitKi
 use Rattle.flow_plans.specs.declared.operation.Operation.{Operation as OperationData}
 use Rattle.flow_plans.specs.declared.operation.Operation.TheVariants as held
 use Rattle.flow_plans.specs.declared.operation.Step.{Step as StepData}
-use Rattle.flow_plans.specs.Plans.{Operation, Step, source, const, unary, binary, iota, units_of, scan_add, reduce, length_of, dist, pack, pack_groups, flag_of_bool, same_flags, concat_flags, part_flags, the_check, append_flags, interleave, interleave_groups, print, tab, seq_of, index}
+use Rattle.flow_plans.specs.Plans.{Operation, Step, source, const, unary, binary, iota, units_of, scan_add, reduce, length_of, dist, pack}
+use Rattle.flow_plans.specs.Plans.{pack_groups, flag_of_bool, same_flags, concat_flags, part_flags, the_check, append_flags, interleave}
+use Rattle.flow_plans.specs.Plans.{interleave_groups, print, tab, seq_of, index}
 
 -- in a program of the dialect; the lists of inputs are empty until they are set
 abbrev pub operation_of : Dialect → OperationData → Operation

@@ -34,7 +34,8 @@ open_take (BoolFlat b ∷ xs) (suc i) low h = let up : suc i < suc (length xs) =
 open_take (IntFlat n ∷ xs) (suc i) low h = let up : suc i < suc (length xs) = low in open_take xs i (omega arith) h
 
 -- each message of an orderly block that fits may follow
-pub each_follows : (k : Kind) (before xs : List Flat) → ended (signals (messages_of before)) ≡ false → All (λ x. fits k (signal_of (message_of x)) ≡ true) xs → orderly (signals (messages_of xs)) ≡ true → EachAllowed (MayBePut k) before xs
+pub each_follows : (k : Kind) (before xs : List Flat) → ended (signals (messages_of before)) ≡ false →
+    All (λ x. fits k (signal_of (message_of x)) ≡ true) xs → orderly (signals (messages_of xs)) ≡ true → EachAllowed (MayBePut k) before xs
 each_follows k before xs unended fit last i d low = (
   ap (λ (ms : List Msg). ended (signals ms)) (map-append message_of before (take i xs)) ∙ ended-more (messages_of before) (messages_of (take i xs)) unended ∙ open_take xs i low last,
   fit i d low,
@@ -83,13 +84,15 @@ pub looked_on : (r s k l : List Flat) → s ≡ r → IsPrefix k l → (messages
 looked_on r s k l same more = (ap messages_of same, prefix_of_messages k l more)
 
 -- one message less is certain, and one more was taken
-pub taken_one : (r s k l : List Flat) (x : Flat) (m : Msg) → message_of x ≡ m → s ≡ r ++ x ∷ [] → IsPrefix k (x ∷ l) → (messages_of s ≡ messages_of r ++ m ∷ []) × IsPrefix (messages_of k) (m ∷ messages_of l)
+pub taken_one : (r s k l : List Flat) (x : Flat) (m : Msg) → message_of x ≡ m → s ≡ r ++ x ∷ [] → IsPrefix k (x ∷ l) →
+    (messages_of s ≡ messages_of r ++ m ∷ []) × IsPrefix (messages_of k) (m ∷ messages_of l)
 taken_one r s k l x m is same more =
     let said = prefix_of_messages k (x ∷ l) more in
     (grown r (x ∷ []) s same ∙ ap (λ (n : Msg). messages_of r ++ n ∷ []) is, (said.0, said.1 ∙ ap (λ (n : Msg). n ∷ messages_of l) is))
 
 -- in an orderly list the last message tells whether it has an end
-pub last_ends : (xs : List Flat) (n : ℕ) (d : Flat) → n + 1 ≡ length xs → orderly (signals (messages_of xs)) ≡ true → is_stop (signal_of (message_of (get_or xs n d))) ≡ ended (signals (messages_of xs))
+pub last_ends : (xs : List Flat) (n : ℕ) (d : Flat) → n + 1 ≡ length xs → orderly (signals (messages_of xs)) ≡ true →
+    is_stop (signal_of (message_of (get_or xs n d))) ≡ ended (signals (messages_of xs))
 unfolding signals ended orderly
 last_ends [] n d is h = absurd (omega (arith, is))
 last_ends (UnitFlat ∷ []) zero d is h = refl

@@ -15,7 +15,8 @@ use Rattle.flow_rounds.specs.Standing.{boxes_of, moved_in, HaveMetSince, StandBe
 use Rattle.flow_rounds.proofs.Shares.{gone_on, none_could_step}
 use Rattle.flow_rounds.proofs.Rounds.{stands, moves}
 
-module _ {X : Type 0} {t : Ghosts X} {u : EndsGhosts Boxes} (laws : BehaviourLaws t.behaviour) (network : SharedNetwork t) (sees : u.view ≡ view_of) (keeps : (a b : Boxes) → u.same a b → KeepsRound (contents a) (contents b))
+module _ {X : Type 0} {t : Ghosts X} {u : EndsGhosts Boxes} (laws : BehaviourLaws t.behaviour) (network : SharedNetwork t) (sees : u.view ≡ view_of)
+    (keeps : (a b : Boxes) → u.same a b → KeepsRound (contents a) (contents b))
     (shares back new : List (Share X Boxes t u)) (stand : StandBetweenRounds network shares) (count : length back ≡ length shares)
     (each : (k : ℕ) (d : Share X Boxes t u) → k < length shares → IsPumped (get_or shares k d) (get_or back k d)) (fed : AreFed back) (met : HaveMetSince network back new) where
   went : HaveGoneOn (nodes_in shares) (nodes_in back) (boxes_of shares) (boxes_of back)

@@ -36,7 +36,9 @@ pub record HaveRested {X : Type 0} {t : Ghosts X} (network : SharedNetwork t) (s
   pub sound : ∥ IsSound t.behaviour.process (net_of network.nodes network.edges) (end_configuration t network.share network.edges states (seen_at rings)) ∥₁
   pub rest : AtRest t.behaviour.process (net_of network.nodes network.edges) (Some network.capacity) (end_configuration t network.share network.edges states (seen_at rings))
   -- its two ends are there
-  pub joined : (e : ℕ) (d : Rings) → e < length network.edges → RingsJoin (get_or rings (share_of network.share (edge_at network.edges e).writer) d) (get_or rings (share_of network.share (edge_at network.edges e).reader) d) e
+  pub joined : (e : ℕ) (d : Rings) → e < length network.edges →
+      RingsJoin (get_or rings (share_of network.share (edge_at network.edges e).writer) d)
+      (get_or rings (share_of network.share (edge_at network.edges e).reader) d) e
 
 module _ {X : Type 0} {t : Ghosts X} {u : EndsGhosts Rings} (network : SharedNetwork t) (shares : List (Share X Rings t u)) (graph : AreOfOneGraph network shares) where
   module _ (rings : List Rings) (taken : rings ≡ ends_in shares) where
@@ -77,5 +79,6 @@ module _ {X : Type 0} {t : Ghosts X} {u : EndsGhosts Rings} (network : SharedNet
       sound = of_joint (λ s v. ∥ IsSound t.behaviour.process (net_of network.nodes network.edges) (end_configuration t network.share network.edges s v) ∥₁) (sound graph);
       rest = of_joint (λ s v. AtRest t.behaviour.process (net_of network.nodes network.edges) (Some network.capacity) (end_configuration t network.share network.edges s v)) (rest graph);
       joined = λ e d l.
-          subst (λ rs. RingsJoin (get_or rs (share_of network.share (edge_at network.edges e).writer) d) (get_or rs (share_of network.share (edge_at network.edges e).reader) d) e) (sym taken) (graph.joined e d l);
+          subst (λ rs. RingsJoin (get_or rs (share_of network.share (edge_at network.edges e).writer) d)
+          (get_or rs (share_of network.share (edge_at network.edges e).reader) d) e) (sym taken) (graph.joined e d l);
     }

@@ -18,7 +18,9 @@ use Rattle.flow_rounds.specs.Epochs.{AreOfOneGraph, SharesHaveMet, HaveMetSince}
 use Rattle.flow_rounds.proofs.ShareLists.{view_is, ends_are, same_nodes}
 use Rattle.flow_rounds.proofs.EpochMeets.{writer, reader, writer_is_share, reader_is_share}
 
-module _ {X : Type 0} {t : Ghosts X} {u : EndsGhosts Rings} (same_is : (a b : Rings) → u.same a b → SameRings a b) (network : SharedNetwork t) (shares after : List (Share X Rings t u)) (graph : AreOfOneGraph network shares) (met : SharesHaveMet network shares) (looked : AreLookedAt shares after) where
+module _ {X : Type 0} {t : Ghosts X} {u : EndsGhosts Rings} (same_is : (a b : Rings) → u.same a b → SameRings a b) (network : SharedNetwork t)
+    (shares after : List (Share X Rings t u)) (graph : AreOfOneGraph network shares) (met : SharesHaveMet network shares)
+    (looked : AreLookedAt shares after) where
   there : (s : ℕ) → s < length shares → s < length after
   there s l = omega (arith, l, looked.count)
 
@@ -62,7 +64,8 @@ module _ {X : Type 0} {t : Ghosts X} {u : EndsGhosts Rings} (same_is : (a b : Ri
     graph = record {
       deals = subst (AreDealt network.share network.nodes) (sym (same_nodes shares after bodies)) graph.deals;
       joined = λ e b l.
-          joins-kept (get_or (ends_in shares) (writer network shares graph e) b) (get_or (ends_in after) (writer network shares graph e) b) (get_or (ends_in shares) (reader network shares graph e) b) (get_or (ends_in after) (reader network shares graph e) b) e
+          joins-kept (get_or (ends_in shares) (writer network shares graph e) b) (get_or (ends_in after) (writer network shares graph e) b)
+          (get_or (ends_in shares) (reader network shares graph e) b) (get_or (ends_in after) (reader network shares graph e) b) e
           (graph.joined e b l) (ends _ b (writer_is_share network shares graph e l)) (ends _ b (reader_is_share network shares graph e l));
       capacity = λ e b l. rings_keep_slots _ _ (ends _ b (writer_is_share network shares graph e l)) e ∙ graph.capacity e b l;
       only_writers = λ s e l there. (
@@ -75,5 +78,6 @@ module _ {X : Type 0} {t : Ghosts X} {u : EndsGhosts Rings} (same_is : (a b : Ri
           );
     };
     met = λ e l.
-        met_kept _ _ _ _ network.capacity e (met e l) (kept (writer network shares graph e) (writer_is_share network shares graph e l)) (kept (reader network shares graph e) (reader_is_share network shares graph e l));
+        met_kept _ _ _ _ network.capacity e (met e l) (kept (writer network shares graph e) (writer_is_share network shares graph e l))
+        (kept (reader network shares graph e) (reader_is_share network shares graph e l));
   }

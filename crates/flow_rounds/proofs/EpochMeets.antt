@@ -73,7 +73,9 @@ module _ {X : Type 0} {t : Ghosts X} {u : EndsGhosts Rings} (network : SharedNet
         (stay : (k : ℕ) (d : Rings) → k < length ends → SameRings (get_or ends k d) (get_or now k d))
         (places : (k e : ℕ) (d : Rings) → k < length ends → ring_slots (get_or now k d) e ≡ ring_slots (get_or ends k d) e)
         (joined : (e : ℕ) (w : EdgeOwners) (d : Rings) → e < length owners → RingsJoin (get_or now (get_or owners e w).writer d) (get_or now (get_or owners e w).reader d) e)
-        (met : (e : ℕ) (w : EdgeOwners) (d : Rings) → e < length owners → Met (ends_of (get_or now (get_or owners e w).writer d)) (ends_of (get_or now (get_or owners e w).reader d)) (ring_slots (get_or now (get_or owners e w).writer d) e) e)
+        (met : (e : ℕ) (w : EdgeOwners) (d : Rings) → e < length owners →
+        Met (ends_of (get_or now (get_or owners e w).writer d)) (ends_of (get_or now (get_or owners e w).reader d))
+        (ring_slots (get_or now (get_or owners e w).writer d) e) e)
         (sees : u.view ≡ ends_of) (after : List (Share X Rings t u)) (bodies : map share_nodes after ≡ map share_nodes shares) (put : ends_in after ≡ now) where
       none : EdgeOwners
       none = record { writer = 0; reader = 0 }
@@ -92,7 +94,9 @@ module _ {X : Type 0} {t : Ghosts X} {u : EndsGhosts Rings} (network : SharedNet
           ∙ graph.capacity e d l
 
       -- what holds of the ends that the owner names holds of those of the edge
-      of_owner : (Q : Rings → Rings → Type 0) (e : ℕ) (d : Rings) → e < length network.edges → Q (get_or now (get_or owners e none).writer d) (get_or now (get_or owners e none).reader d) → Q (get_or now (writer e) d) (get_or now (reader e) d)
+      of_owner : (Q : Rings → Rings → Type 0) (e : ℕ) (d : Rings) → e < length network.edges →
+          Q (get_or now (get_or owners e none).writer d) (get_or now (get_or owners e none).reader d) →
+          Q (get_or now (writer e) d) (get_or now (reader e) d)
       of_owner Q e d l q =
           subst (λ i. Q (get_or now i d) (get_or now (reader e) d)) (are.writers e none l)
           (subst (λ j. Q (get_or now (get_or owners e none).writer d) (get_or now j d)) (are.readers e none l) q)

@@ -62,12 +62,14 @@ module _ {X : Type 0} {t : Ghosts X} {u : EndsGhosts Rings} (network : SharedNet
       grown = λ s l. grows_between (view_at shares s) (view_at shares s) (view_at back s) (view_at after s) (same_refl (view_at shares s)) (epoch.grown s l) (traffic s l);
       went = λ s d l fed. (
           subst (λ n. HaveMoved (get_or shares s d).nodes.items n (view_at shares s) (view_at after s)) (sym (ap (λ (x : ShareNodes t). x.nodes) (body s d l)))
-          (moved_between (get_or shares s d).nodes.items (get_or back s d).nodes.items (view_at shares s) (view_at shares s) (view_at back s) (view_at after s) (same_refl (view_at shares s)) (traffic s l)
+          (moved_between (get_or shares s d).nodes.items (get_or back s d).nodes.items (view_at shares s) (view_at shares s) (view_at back s)
+          (view_at after s) (same_refl (view_at shares s)) (traffic s l)
           (epoch.went s d l (sym (ap (λ (x : ShareNodes t). x.starved) (body s d l)) ∙ fed)))
           );
       lost = λ s d l starved. (
           subst (λ n. HaveMovedAndLost (get_or shares s d).nodes.items n (view_at shares s) (view_at after s)) (sym (ap (λ (x : ShareNodes t). x.nodes) (body s d l)))
-          (lost_between (get_or shares s d).nodes.items (get_or back s d).nodes.items (view_at shares s) (view_at shares s) (view_at back s) (view_at after s) (same_refl (view_at shares s)) (traffic s l)
+          (lost_between (get_or shares s d).nodes.items (get_or back s d).nodes.items (view_at shares s) (view_at shares s) (view_at back s)
+          (view_at after s) (same_refl (view_at shares s)) (traffic s l)
           (epoch.lost s d l (sym (ap (λ (x : ShareNodes t). x.starved) (body s d l)) ∙ starved)))
           );
       sound = stands_sound network after since.met;
@@ -75,7 +77,8 @@ module _ {X : Type 0} {t : Ghosts X} {u : EndsGhosts Rings} (network : SharedNet
       busy = λ fed some. subst (λ n. moved_in network shares < n) (sym same_moved) (epoch.busy (fed_before fed) (λ still. some (calm_after still)));
       moves = λ fed some. subst (λ n. moved_in network shares < n) (sym same_moved) (epoch.moves (fed_before fed) some);
       stood = λ fed same before graph. met_stood network back after since epoch.graph graph ∙ epoch.stood (fed_before fed) (sym same_moved ∙ same) before epoch.graph;
-      rest = λ fed same graph. subst (AtRest t.behaviour.process (net_of network.nodes network.edges) (Some network.capacity)) (sym (met_stood network back after since epoch.graph graph)) (epoch.rest (fed_before fed) (sym same_moved ∙ same) epoch.graph);
+      rest = λ fed same graph. subst (AtRest t.behaviour.process (net_of network.nodes network.edges) (Some network.capacity))
+          (sym (met_stood network back after since epoch.graph graph)) (epoch.rest (fed_before fed) (sym same_moved ∙ same) epoch.graph);
     }
 
   -- these shares in place of those that the last epoch gave
@@ -93,12 +96,14 @@ module _ {X : Type 0} {t : Ghosts X} {u : EndsGhosts Rings} (network : SharedNet
   in_place_last first after back [] = refl
   in_place_last first after back (next ∷ more) = in_place_last back after next more
 
-  in_place_follow : (first after back : List (Share X Rings t u)) (more : List (List (Share X Rings t u))) → Follow t u network first (back ∷ more) → HaveMetSince network (last_back network back more) after → AreFed after
+  in_place_follow : (first after back : List (Share X Rings t u)) (more : List (List (Share X Rings t u))) → Follow t u network first (back ∷ more) →
+      HaveMetSince network (last_back network back more) after → AreFed after
       → Follow t u network first (in_place after (back ∷ more))
   in_place_follow first after back [] (steps, epoch, fed, none) since still = (steps, epoch_since first back after epoch since, still, tt)
   in_place_follow first after back (next ∷ more) (steps, epoch, fed, follow) since still = (steps, epoch, fed, in_place_follow back after next more follow since still)
 
-  met_again : (shares first : List (Share X Rings t u)) (backs : List (List (Share X Rings t u))) (last after : List (Share X Rings t u)) (count : ℕ) → HaveMetSince network shares first → Follow t u network first backs
+  met_again : (shares first : List (Share X Rings t u)) (backs : List (List (Share X Rings t u))) (last after : List (Share X Rings t u)) (count : ℕ)
+      → HaveMetSince network shares first → Follow t u network first backs
       → last_back network first backs ≡ last → count ≡ u64_saturate (length backs) → HaveMetSince network last after → AreFed after → EpochsLead network shares after count
   met_again shares first [] last after count met follow gives counted since fed = record {
     first = after;
@@ -118,7 +123,8 @@ module _ {X : Type 0} {t : Ghosts X} {u : EndsGhosts Rings} (network : SharedNet
   }
 
   -- where the ends have met once more, as many epochs led there
-  pub lead_since : (shares last after : List (Share X Rings t u)) (count : ℕ) → EpochsLead network shares last count → HaveMetSince network last after → AreFed after → EpochsLead network shares after count
+  pub lead_since : (shares last after : List (Share X Rings t u)) (count : ℕ) → EpochsLead network shares last count → HaveMetSince network last after
+      → AreFed after → EpochsLead network shares after count
   lead_since shares last after count lead since fed = met_again shares lead.first lead.backs last after count lead.met lead.follow lead.gives lead.count_is since fed
 
   follow_on : (first last back : List (Share X Rings t u)) (backs : List (List (Share X Rings t u))) → Follow t u network first backs → last_back network first backs ≡ last

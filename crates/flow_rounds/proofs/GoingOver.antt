@@ -20,7 +20,8 @@ pub goes_over : {A : Type 0} (made now left rest : List A) (y : A) (all : List A
 goes_over made now left rest y all longer is whole = ap (λ ys. ys ++ rest) longer ∙ pushed made rest y ∙ ap (λ ys. made ++ ys) (sym is) ∙ whole
 
 -- and so it does where only f of what was made is seen
-pub goes_over_as : {A B : Type 0} (f : A → B) (made now : List A) (y : A) (left rest : List B) (z : B) (all : List B) → now ≡ made ++ y ∷ [] → f y ≡ z → left ≡ z ∷ rest → map f made ++ left ≡ all → map f now ++ rest ≡ all
+pub goes_over_as : {A B : Type 0} (f : A → B) (made now : List A) (y : A) (left rest : List B) (z : B) (all : List B) → now ≡ made ++ y ∷ [] → f y ≡ z
+    → left ≡ z ∷ rest → map f made ++ left ≡ all → map f now ++ rest ≡ all
 goes_over_as f made now y left rest z all longer same is whole =
     goes_over (map f made) (map f now) left rest z all (ap (map f) longer ∙ map_pushed f made y ∙ ap (λ x. map f made ++ x ∷ []) same) is whole
 

@@ -11,7 +11,8 @@ use Rattle.flow_networks.specs.Places.{placed_state}
 use Rattle.flow_shares.specs.Shares.{outputs_of, HasItsEnds, IsOwn}
 
 module _ {X : Type 0} {t : Ghosts X} (nodes : List (Placed X t)) (a v : View) where
-  kinds_stay : (x : Placed X t) → SameEnds a v → TakeKinds (outputs_of x) (t.behaviour.kind_out (t.behaviour.opening (placed_state x))) a → TakeKinds (outputs_of x) (t.behaviour.kind_out (t.behaviour.opening (placed_state x))) v
+  kinds_stay : (x : Placed X t) → SameEnds a v → TakeKinds (outputs_of x) (t.behaviour.kind_out (t.behaviour.opening (placed_state x))) a →
+      TakeKinds (outputs_of x) (t.behaviour.kind_out (t.behaviour.opening (placed_state x))) v
   kinds_stay x same takes q l = takes_still a v (edge_of (outputs_of x) q) (t.behaviour.kind_out (t.behaviour.opening (placed_state x)) q) same (takes q l)
 
   pub ends_stay : SameEnds a v → All (HasItsEnds a) nodes → All (HasItsEnds v) nodes

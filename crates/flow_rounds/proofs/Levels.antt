@@ -24,7 +24,15 @@ use Rattle.flow_rounds.specs.Standing.{boxes_seen, AreLinked}
 pub are_carried : (w r : Contents) (e : ℕ) → IsLinked w r e → Met w.ends r.ends w.capacity e → IsCarried w r e
 are_carried w r e linked met =
     let came = length-append (r.ends.received e) (r.ends.coming e) in
-    let none : w.leaving e ≡ [] = no_length (w.leaving e) (omega (arith, ap length linked.in_order, length-append (r.ends.received e ++ r.ends.coming e) (w.leaving e), came, met_held w.ends r.ends w.capacity e met)) in
+    let none : w.leaving e ≡ [] =
+    no_length (w.leaving e)
+    (omega (
+      arith,
+      ap length linked.in_order,
+      length-append (r.ends.received e ++ r.ends.coming e) (w.leaving e),
+      came,
+      met_held w.ends r.ends w.capacity e met,
+    )) in
     let arrived : r.ends.received e ++ r.ends.coming e ≡ w.ends.sent e =
     sym (append-nil (r.ends.received e ++ r.ends.coming e)) ∙ ap (λ (x : List Signal). (r.ends.received e ++ r.ends.coming e) ++ x) (sym none) ∙ linked.in_order in
     record {
@@ -37,7 +45,8 @@ are_carried w r e linked met =
 pub seen_at : (boxes : List Boxes) (s : ℕ) (d : Boxes) → s < length boxes → boxes_at (boxes_seen boxes) s ≡ contents (get_or boxes s d)
 seen_at boxes s d l = get_or-map contents boxes s d no_contents l
 
-module _ (share : List ℕ) (edges : List Edge) (owners : List EdgeOwners) (are : AreOwners share edges owners) (boxes : List Boxes) (capacity : ℕ) (linked : AreLinked share edges (boxes_seen boxes) capacity) where
+module _ (share : List ℕ) (edges : List Edge) (owners : List EdgeOwners) (are : AreOwners share edges owners) (boxes : List Boxes) (capacity : ℕ)
+    (linked : AreLinked share edges (boxes_seen boxes) capacity) where
   long : length (boxes_seen boxes) ≡ length boxes
   long = length-map boxes contents
 
@@ -73,7 +82,9 @@ module _ (share : List ℕ) (edges : List Edge) (owners : List EdgeOwners) (are 
       (kept : (k : ℕ) (d : Boxes) → k < length boxes → Kept (view_of (get_or boxes k d)) (view_of (get_or now k d)))
       (places : (k e : ℕ) (d : Boxes) → k < length boxes → (contents (get_or now k d)).capacity ≡ (contents (get_or boxes k d)).capacity)
       (joined : (e : ℕ) (w : EdgeOwners) (d : Boxes) → e < length owners → BoxesJoin (get_or now (get_or owners e w).writer d) (get_or now (get_or owners e w).reader d) e)
-      (met : (e : ℕ) (w : EdgeOwners) (d : Boxes) → e < length owners → Met (view_of (get_or now (get_or owners e w).writer d)) (view_of (get_or now (get_or owners e w).reader d)) (contents (get_or now (get_or owners e w).writer d)).capacity e) where
+      (met : (e : ℕ) (w : EdgeOwners) (d : Boxes) → e < length owners →
+      Met (view_of (get_or now (get_or owners e w).writer d)) (view_of (get_or now (get_or owners e w).reader d))
+      (contents (get_or now (get_or owners e w).writer d)).capacity e) where
     none : EdgeOwners
     none = record { writer = 0; reader = 0 }
 

@@ -28,7 +28,8 @@ use Rattle.flow_rounds.specs.Epochs.{moved_in, AreOfOneGraph}
 use Rattle.flow_rounds.proofs.ShareLists.{parts_same, count_dealt, nodes_are, view_is, ends_are}
 use Rattle.flow_rounds.proofs.EpochMeets.{writer, reader, writer_is_share, reader_is_share}
 
-module _ {X : Type 0} {t : Ghosts X} {u : EndsGhosts Rings} (same_is : (a b : Rings) → u.same a b → SameRings a b) (network : SharedNetwork t) (shares back : List (Share X Rings t u)) (count : length back ≡ length shares)
+module _ {X : Type 0} {t : Ghosts X} {u : EndsGhosts Rings} (same_is : (a b : Rings) → u.same a b → SameRings a b) (network : SharedNetwork t)
+    (shares back : List (Share X Rings t u)) (count : length back ≡ length shares)
     (each : (s : ℕ) (d : Share X Rings t u) → s < length shares → IsPumped (get_or shares s d) (get_or back s d)) (graph : AreOfOneGraph network shares) where
   there : (s : ℕ) → s < length (nodes_in shares) → s < length shares
   there s l = omega (arith, l, count_dealt shares)
@@ -71,7 +72,8 @@ module _ {X : Type 0} {t : Ghosts X} {u : EndsGhosts Rings} (same_is : (a b : Ri
   pumped_graph = record {
     deals = pumped_deals;
     joined = λ e b l.
-        joins-kept (get_or (ends_in shares) (writer network shares graph e) b) (get_or (ends_in back) (writer network shares graph e) b) (get_or (ends_in shares) (reader network shares graph e) b) (get_or (ends_in back) (reader network shares graph e) b) e
+        joins-kept (get_or (ends_in shares) (writer network shares graph e) b) (get_or (ends_in back) (writer network shares graph e) b)
+        (get_or (ends_in shares) (reader network shares graph e) b) (get_or (ends_in back) (reader network shares graph e) b) e
         (graph.joined e b l) (pumped_ends _ b (writer_is_share network shares graph e l)) (pumped_ends _ b (reader_is_share network shares graph e l));
     capacity = λ e b l. rings_keep_slots _ _ (pumped_ends _ b (writer_is_share network shares graph e l)) e ∙ graph.capacity e b l;
     only_writers = λ s e l there. (
@@ -85,7 +87,8 @@ module _ {X : Type 0} {t : Ghosts X} {u : EndsGhosts Rings} (same_is : (a b : Ri
   }
 
   -- and of share s later, what holds of what it sees
-  of_ends : (Q : View → View → Type 0) (s : ℕ) (d : Share X Rings t u) (l : s < length shares) → Q (view_at shares s) (view_at back s) → Q (u.view (get_or shares s d).ends) (u.view (get_or back s d).ends)
+  of_ends : (Q : View → View → Type 0) (s : ℕ) (d : Share X Rings t u) (l : s < length shares) → Q (view_at shares s) (view_at back s) →
+      Q (u.view (get_or shares s d).ends) (u.view (get_or back s d).ends)
   of_ends Q s d l q = subst (λ a. Q a (u.view (get_or back s d).ends)) (view_is shares s d l) (subst (λ b. Q (view_at shares s) b) (view_is back s d (low s l)) q)
 
   grew : (share result : Share X Rings t u) → IsPumped share result → Grows (u.view share.ends) (u.view result.ends)
@@ -103,7 +106,8 @@ module _ {X : Type 0} {t : Ghosts X} {u : EndsGhosts Rings} (same_is : (a b : Ri
     fed_at : (s : ℕ) (d : Share X Rings t u) → s < length shares → (get_or back s d).starved ≡ false
     fed_at s d l = fed s d (low s l)
 
-    moved_at : (s : ℕ) (d : Share X Rings t u) → s < length shares → HaveMoved (get_or shares s d).nodes.items (get_or back s d).nodes.items (u.view (get_or shares s d).ends) (u.view (get_or back s d).ends)
+    moved_at : (s : ℕ) (d : Share X Rings t u) → s < length shares →
+        HaveMoved (get_or shares s d).nodes.items (get_or back s d).nodes.items (u.view (get_or shares s d).ends) (u.view (get_or back s d).ends)
     moved_at s d l = (each s d l).moved (fed_at s d l)
 
     -- how many messages were sent and received on edge e
@@ -119,7 +123,9 @@ module _ {X : Type 0} {t : Ghosts X} {u : EndsGhosts Rings} (same_is : (a b : Ri
           begins_length _ _ ((grows (writer network shares graph e) (writer_is_share network shares graph e l)).sent e),
         )
 
-    received_grows : (e : ℕ) → e < length network.edges → length ((end_view network.share network.edges (view_at shares)).received e) ≤ length ((end_view network.share network.edges (view_at back)).received e)
+    received_grows : (e : ℕ) → e < length network.edges →
+        length ((end_view network.share network.edges (view_at shares)).received e) ≤ length
+        ((end_view network.share network.edges (view_at back)).received e)
     received_grows e l =
         omega (
           arith,
@@ -141,7 +147,13 @@ module _ {X : Type 0} {t : Ghosts X} {u : EndsGhosts Rings} (same_is : (a b : Ri
       same_received : (e : ℕ) → e < length network.edges → (view_at back (reader network shares graph e)).received e ≡ (view_at shares (reader network shares graph e)).received e
       same_received e l =
           no_more _ _ ((grows (reader network shares graph e) (reader_is_share network shares graph e l)).received e)
-          (omega (arith, ap length (received_at network.share network.edges (view_at shares) e l), ap length (received_at network.share network.edges (view_at back) e l), no_more_on e l, sent_grows e l))
+          (omega (
+            arith,
+            ap length (received_at network.share network.edges (view_at shares) e l),
+            ap length (received_at network.share network.edges (view_at back) e l),
+            no_more_on e l,
+            sent_grows e l,
+          ))
 
       module _ (s : ℕ) (h : s < length (nodes_in shares)) where
         abbrev nodes : List (Placed X t)
@@ -161,9 +173,11 @@ module _ {X : Type 0} {t : Ghosts X} {u : EndsGhosts Rings} (same_is : (a b : Ri
           | inr (k, p, d, l, port, is) ↦ at_port (edge_of_is k p d l port is)
         ]
           where
-            edge_of_is : (k p : ℕ) (d : Placed X t) (l : k < length nodes) → p < length (inputs_of (get_or nodes k d)) → e ≡ get_or (inputs_of (get_or nodes k d)) p 0 → (e < length network.edges) × (reader network shares graph e ≡ s)
+            edge_of_is : (k p : ℕ) (d : Placed X t) (l : k < length nodes) → p < length (inputs_of (get_or nodes k d)) → e
+                ≡ get_or (inputs_of (get_or nodes k d)) p 0 → (e < length network.edges) × (reader network shares graph e ≡ s)
             edge_of_is k p d l port is =
-                subst (λ f. (f < length network.edges) × (reader network shares graph f ≡ s)) (sym is) (port_reads network.edges network.nodes network.fit network.share (nodes_in shares) graph.deals s k d h l p port)
+                subst (λ f. (f < length network.edges) × (reader network shares graph f ≡ s)) (sym is)
+                (port_reads network.edges network.nodes network.fit network.share (nodes_in shares) graph.deals s k d h l p port)
 
             at_port : (e < length network.edges) × (reader network shares graph e ≡ s) → (view_at back s).received e ≡ (view_at shares s).received e
             at_port (inside, is) = subst (λ r. (view_at back r).received e ≡ (view_at shares r).received e) is (same_received e inside)
@@ -174,9 +188,11 @@ module _ {X : Type 0} {t : Ghosts X} {u : EndsGhosts Rings} (same_is : (a b : Ri
           | inr (k, q, d, l, port, is) ↦ at_port (edge_of_is k q d l port is)
         ]
           where
-            edge_of_is : (k q : ℕ) (d : Placed X t) (l : k < length nodes) → q < length (outputs_of (get_or nodes k d)) → e ≡ get_or (outputs_of (get_or nodes k d)) q 0 → (e < length network.edges) × (writer network shares graph e ≡ s)
+            edge_of_is : (k q : ℕ) (d : Placed X t) (l : k < length nodes) → q < length (outputs_of (get_or nodes k d)) → e
+                ≡ get_or (outputs_of (get_or nodes k d)) q 0 → (e < length network.edges) × (writer network shares graph e ≡ s)
             edge_of_is k q d l port is =
-                subst (λ f. (f < length network.edges) × (writer network shares graph f ≡ s)) (sym is) (port_writes network.edges network.nodes network.fit network.share (nodes_in shares) graph.deals s k d h l q port)
+                subst (λ f. (f < length network.edges) × (writer network shares graph f ≡ s)) (sym is)
+                (port_writes network.edges network.nodes network.fit network.share (nodes_in shares) graph.deals s k d h l q port)
 
             at_port : (e < length network.edges) × (writer network shares graph e ≡ s) → (view_at back s).sent e ≡ (view_at shares s).sent e
             at_port (inside, is) = subst (λ r. (view_at back r).sent e ≡ (view_at shares r).sent e) is (same_sent e inside)
@@ -205,7 +221,8 @@ module _ {X : Type 0} {t : Ghosts X} {u : EndsGhosts Rings} (same_is : (a b : Ri
       none_could_step s d l = (each s d l).progress (fed_at s d l) (of_ends SameTraffic s d l (none s l))
 
       module _ (laws : BehaviourLaws t.behaviour) where
-        pub states_stayed : (s i : ℕ) (d : Placed X t) → s < length (nodes_in shares) → i < length (nodes_at (nodes_in shares) s) → placed_state (get_or (nodes_at (nodes_in back) s) i d) ≡ placed_state (get_or (nodes_at (nodes_in shares) s) i d)
+        pub states_stayed : (s i : ℕ) (d : Placed X t) → s < length (nodes_in shares) → i < length (nodes_at (nodes_in shares) s) →
+            placed_state (get_or (nodes_at (nodes_in back) s) i d) ≡ placed_state (get_or (nodes_at (nodes_in shares) s) i d)
         states_stayed s i d h inside =
             let l = there s h in
             let b = some s l in
@@ -214,5 +231,6 @@ module _ {X : Type 0} {t : Ghosts X} {u : EndsGhosts Rings} (same_is : (a b : Ri
             let below : i < length old = subst (λ n. i < length n) (nodes_are shares s b l) inside in
             let moved = moved_at s b l in
             let idle = quiet laws old new _ _ moved (of_ends SameTraffic s b l (none s l)) i d below in
-            let does : placed_state (get_or old i d) ≡ placed_state (get_or new i d) = subst (λ a. Does t.behaviour.process (placed_state (get_or old i d)) a (placed_state (get_or new i d))) idle (moved.does i d below) in
+            let does : placed_state (get_or old i d) ≡ placed_state (get_or new i d) =
+            subst (λ a. Does t.behaviour.process (placed_state (get_or old i d)) a (placed_state (get_or new i d))) idle (moved.does i d below) in
             ap (λ n. placed_state (get_or n i d)) (nodes_are back s b (low s l)) ∙ sym does ∙ ap (λ n. placed_state (get_or n i d)) (sym (nodes_are shares s b l))

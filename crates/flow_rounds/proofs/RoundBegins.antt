@@ -80,13 +80,17 @@ module _ {X : Type 0} {t : Ghosts X} {u : EndsGhosts Boxes} (sees : u.view ≡ v
   some e l = any_of boxes (writer e) (writes e l)
 
   -- what the owner names, the edge names too
-  of_edge : (e : ℕ) (l : e < length edges) (Q : Boxes → Boxes → Type 0) → Q (get_or boxes (get_or owners e none).writer (some e l)) (get_or boxes (get_or owners e none).reader (some e l)) → Q (get_or boxes (writer e) (some e l)) (get_or boxes (reader e) (some e l))
+  of_edge : (e : ℕ) (l : e < length edges) (Q : Boxes → Boxes → Type 0) →
+      Q (get_or boxes (get_or owners e none).writer (some e l)) (get_or boxes (get_or owners e none).reader (some e l)) →
+      Q (get_or boxes (writer e) (some e l)) (get_or boxes (reader e) (some e l))
   of_edge e l Q q =
       subst (λ s. Q (get_or boxes s (some e l)) (get_or boxes (reader e) (some e l))) (is.owners.writers e none l)
       (subst (λ s. Q (get_or boxes (get_or owners e none).writer (some e l)) (get_or boxes s (some e l))) (is.owners.readers e none l) q)
 
   -- and what holds of these boxes holds of those that are seen at the edge
-  of_seen : (e : ℕ) (l : e < length edges) (Q : Contents → Contents → Type 0) → Q (contents (get_or boxes (writer e) (some e l))) (contents (get_or boxes (reader e) (some e l))) → Q (writer_boxes share edges (boxes_seen boxes) e) (reader_boxes share edges (boxes_seen boxes) e)
+  of_seen : (e : ℕ) (l : e < length edges) (Q : Contents → Contents → Type 0) →
+      Q (contents (get_or boxes (writer e) (some e l))) (contents (get_or boxes (reader e) (some e l))) →
+      Q (writer_boxes share edges (boxes_seen boxes) e) (reader_boxes share edges (boxes_seen boxes) e)
   of_seen e l Q q =
       subst (λ a. Q a (reader_boxes share edges (boxes_seen boxes) e)) (sym (seen_at boxes (writer e) (some e l) (writes e l)))
       (subst (λ b. Q (contents (get_or boxes (writer e) (some e l))) b) (sym (seen_at boxes (reader e) (some e l) (reads e l))) q)
@@ -99,9 +103,12 @@ module _ {X : Type 0} {t : Ghosts X} {u : EndsGhosts Boxes} (sees : u.view ≡ v
     capacity = λ e l. of_seen e l (λ a b. a.capacity ≡ capacity) (of_edge e l (λ a b. (contents a).capacity ≡ capacity) (is.ends.places e none (some e l) (owner e l)));
   }
 
-  met_at : (e : ℕ) (w : EdgeOwners) (d : Boxes) → e < length owners → Met (view_of (get_or boxes (get_or owners e w).writer d)) (view_of (get_or boxes (get_or owners e w).reader d)) (contents (get_or boxes (get_or owners e w).writer d)).capacity e
+  met_at : (e : ℕ) (w : EdgeOwners) (d : Boxes) → e < length owners →
+      Met (view_of (get_or boxes (get_or owners e w).writer d)) (view_of (get_or boxes (get_or owners e w).reader d))
+      (contents (get_or boxes (get_or owners e w).writer d)).capacity e
   met_at e w d l =
-      subst (λ (v : Boxes → View). Met (v (get_or boxes (get_or owners e w).writer d)) (v (get_or boxes (get_or owners e w).reader d)) (contents (get_or boxes (get_or owners e w).writer d)).capacity e) sees
+      subst (λ (v : Boxes → View). Met (v (get_or boxes (get_or owners e w).writer d)) (v (get_or boxes (get_or owners e w).reader d))
+      (contents (get_or boxes (get_or owners e w).writer d)).capacity e) sees
       (subst (λ n. Met (u.view (get_or boxes (get_or owners e w).writer d)) (u.view (get_or boxes (get_or owners e w).reader d)) n e) (sym (is.ends.places e w d l)) (is.ends.met e w d l))
 
   boxes_have_met : BoxesHaveMet share edges (boxes_of shares) capacity
@@ -127,12 +134,17 @@ module _ {X : Type 0} {t : Ghosts X} {u : EndsGhosts Boxes} (sees : u.view ≡ v
       (of_seen e l (λ a b. (a.ends.sent e ≡ []) × (b.ends.received e ≡ [])) (at_both (linked.linked e l)))
     where
       fresh_writer : (view_of (get_or boxes (writer e) (some e l))).writes e ≡ true → (view_of (get_or boxes (writer e) (some e l))).sent e ≡ []
-      fresh_writer = subst (λ (v : Boxes → View). (v (get_or boxes (writer e) (some e l))).writes e ≡ true → (v (get_or boxes (writer e) (some e l))).sent e ≡ []) sees ((is.ends.fresh (writer e) (some e l) (writes e l)).sent e)
+      fresh_writer = subst
+          (λ (v : Boxes → View). (v (get_or boxes (writer e) (some e l))).writes e ≡ true → (v (get_or boxes (writer e) (some e l))).sent e ≡ []) sees
+          ((is.ends.fresh (writer e) (some e l) (writes e l)).sent e)
 
       fresh_reader : (view_of (get_or boxes (reader e) (some e l))).reads e ≡ true → (view_of (get_or boxes (reader e) (some e l))).received e ≡ []
-      fresh_reader = subst (λ (v : Boxes → View). (v (get_or boxes (reader e) (some e l))).reads e ≡ true → (v (get_or boxes (reader e) (some e l))).received e ≡ []) sees ((is.ends.fresh (reader e) (some e l) (reads e l)).received e)
+      fresh_reader = subst
+          (λ (v : Boxes → View). (v (get_or boxes (reader e) (some e l))).reads e ≡ true → (v (get_or boxes (reader e) (some e l))).received e ≡ [])
+          sees ((is.ends.fresh (reader e) (some e l) (reads e l)).received e)
 
-      at_both : IsLinked (writer_boxes share edges (boxes_seen boxes) e) (reader_boxes share edges (boxes_seen boxes) e) e → ((contents (get_or boxes (writer e) (some e l))).ends.sent e ≡ []) × ((contents (get_or boxes (reader e) (some e l))).ends.received e ≡ [])
+      at_both : IsLinked (writer_boxes share edges (boxes_seen boxes) e) (reader_boxes share edges (boxes_seen boxes) e) e →
+          ((contents (get_or boxes (writer e) (some e l))).ends.sent e ≡ []) × ((contents (get_or boxes (reader e) (some e l))).ends.received e ≡ [])
       at_both link = (
         fresh_writer (ap (λ (a : Contents). a.ends.writes e) (sym (seen_at boxes (writer e) (some e l) (writes e l))) ∙ link.writes),
         fresh_reader (ap (λ (a : Contents). a.ends.reads e) (sym (seen_at boxes (reader e) (some e l) (reads e l))) ∙ link.reads),
@@ -140,7 +152,12 @@ module _ {X : Type 0} {t : Ghosts X} {u : EndsGhosts Boxes} (sees : u.view ≡ v
 
   -- in all edges together
   pub dealt_none : moved_in (shared_network graph share capacity) (boxes_of shares) ≡ 0
-  dealt_none = total_none _ (length edges) (λ e l. omega (arith, ap length (sent_at share edges (views_of (boxes_of shares)) e l ∙ (empty e l).0), ap length (received_at share edges (views_of (boxes_of shares)) e l ∙ (empty e l).1)))
+  dealt_none = total_none _ (length edges)
+      (λ e l. omega (
+        arith,
+        ap length (sent_at share edges (views_of (boxes_of shares)) e l ∙ (empty e l).0),
+        ap length (received_at share edges (views_of (boxes_of shares)) e l ∙ (empty e l).1),
+      ))
 
   fed : AreFed shares
   fed s d l = (is.new.each s d l).starved

@@ -21,14 +21,16 @@ use Rattle.flow_rounds.proofs.RoundMeets.{seen_is}
 -- edges have met.
 pub record HaveComeToRest {X : Type 0} {t : Ghosts X} (network : SharedNetwork t) (states : List t.State) (boxes : List Contents) : Type 0 where
   pub met : BoxesHaveMet network.share network.edges boxes network.capacity
-  pub reaches : Reaches t.behaviour.process (net_of network.nodes network.edges) (Some network.capacity) (start (net_of network.nodes network.edges)) (box_configuration t network.share network.edges states boxes)
+  pub reaches : Reaches t.behaviour.process (net_of network.nodes network.edges) (Some network.capacity) (start (net_of network.nodes network.edges))
+      (box_configuration t network.share network.edges states boxes)
   pub rest : AtRest t.behaviour.process (net_of network.nodes network.edges) (Some network.capacity) (box_configuration t network.share network.edges states boxes)
 
 module _ {X : Type 0} {t : Ghosts X} {u : EndsGhosts Boxes} (network : SharedNetwork t) (shares : List (Share X Boxes t u)) (rest : RestBetweenRounds network shares)
     (states : List t.State) (are : (deals : AreDealt network.share network.nodes (nodes_in shares)) → AreStates network.share network.nodes (nodes_in shares) deals states) where
   -- they have the states in which the run ended
   are_the_states : rest.stand.states ≡ states
-  are_the_states = states_are_one network.share network.edges network.nodes network.fit (nodes_in shares) rest.stand.deals rest.stand.deals rest.stand.states states rest.stand.are_states (are rest.stand.deals)
+  are_the_states = states_are_one network.share network.edges network.nodes network.fit (nodes_in shares) rest.stand.deals rest.stand.deals
+      rest.stand.states states rest.stand.are_states (are rest.stand.deals)
 
   pub come_to_rest : (boxes : List Boxes) → boxes ≡ ends_in shares → HaveComeToRest network states (boxes_seen boxes)
   come_to_rest boxes taken =

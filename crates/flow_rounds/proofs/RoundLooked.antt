@@ -59,7 +59,9 @@ module _ {X : Type 0} {t : Ghosts X} {u : EndsGhosts Boxes} (network : SharedNet
       ap (λ (b : ShareNodes t). b.starved) (looked.each s d h).body ∙ stand.fed s d h
 
   -- what holds of the boxes of share s holds of what the lists have of it
-  of_boxes : (Q : Contents → Contents → Type 0) (s : ℕ) (l : s < length shares) → ((d : Share X Boxes t u) → Q (contents (get_or shares s d).ends) (contents (get_or after s d).ends)) → Q (boxes_at (boxes_of shares) s) (boxes_at (boxes_of after) s)
+  of_boxes : (Q : Contents → Contents → Type 0) (s : ℕ) (l : s < length shares) →
+      ((d : Share X Boxes t u) → Q (contents (get_or shares s d).ends) (contents (get_or after s d).ends)) →
+      Q (boxes_at (boxes_of shares) s) (boxes_at (boxes_of after) s)
   of_boxes Q s l q =
       let d = any_of shares s l in
       subst (λ a. Q a (boxes_at (boxes_of after) s)) (sym (boxes_are shares s d l))
@@ -85,8 +87,10 @@ module _ {X : Type 0} {t : Ghosts X} {u : EndsGhosts Boxes} (network : SharedNet
 
   linked : (e : ℕ) → e < length network.edges → IsLinked (writer_boxes network.share network.edges (boxes_of after) e) (reader_boxes network.share network.edges (boxes_of after) e) e
   linked e l =
-      reader-linked (writer_boxes network.share network.edges (boxes_of after) e) (reader_boxes network.share network.edges (boxes_of shares) e) (reader_boxes network.share network.edges (boxes_of after) e) e
-      (writer-linked (writer_boxes network.share network.edges (boxes_of shares) e) (writer_boxes network.share network.edges (boxes_of after) e) (reader_boxes network.share network.edges (boxes_of shares) e) e (stand.met.linked e l) (keeps_at _ (writes e l)))
+      reader-linked (writer_boxes network.share network.edges (boxes_of after) e) (reader_boxes network.share network.edges (boxes_of shares) e)
+      (reader_boxes network.share network.edges (boxes_of after) e) e
+      (writer-linked (writer_boxes network.share network.edges (boxes_of shares) e) (writer_boxes network.share network.edges (boxes_of after) e)
+      (reader_boxes network.share network.edges (boxes_of shares) e) e (stand.met.linked e l) (keeps_at _ (writes e l)))
       (keeps_at _ (reads e l))
 
   capacity : (e : ℕ) → e < length network.edges → (writer_boxes network.share network.edges (boxes_of after) e).capacity ≡ network.capacity

@@ -43,7 +43,8 @@ module _ {X : Type 0} {t : Ghosts X} (laws : BehaviourLaws t.behaviour) (network
   most_moved = most_events P net network.fit.built.wired laws.settles first (λ e inside. ([], refl)) + moved net first
 
   module _ {u : EndsGhosts Boxes} where
-    module _ (shares back new : List (Share X Boxes t u)) (stand : StandBetweenRounds network shares) (went : HaveGoneOn (nodes_in shares) (nodes_in back) (boxes_of shares) (boxes_of back)) (met : HaveMetSince network back new) where
+    module _ (shares back new : List (Share X Boxes t u)) (stand : StandBetweenRounds network shares)
+        (went : HaveGoneOn (nodes_in shares) (nodes_in back) (boxes_of shares) (boxes_of back)) (met : HaveMetSince network back new) where
       gone : HaveGoneOn (nodes_in shares) (nodes_in new) (boxes_of shares) (boxes_of back)
       gone = subst (λ later. HaveGoneOn (nodes_in shares) later (boxes_of shares) (boxes_of back)) (sym met.nodes) went
 
@@ -111,5 +112,7 @@ module _ {X : Type 0} {t : Ghosts X} (laws : BehaviourLaws t.behaviour) (network
         omega (arith, most, count)
 
     -- a round that moves something leaves less to move
-    pub left_falls : (shares new : List (Share X Boxes t u)) → StandBetweenRounds network new → moved_in network (boxes_of shares) < moved_in network (boxes_of new) → most_moved - moved_in network (boxes_of new) < most_moved - moved_in network (boxes_of shares)
+    pub left_falls : (shares new : List (Share X Boxes t u)) → StandBetweenRounds network new →
+        moved_in network (boxes_of shares) < moved_in network (boxes_of new) →
+        most_moved - moved_in network (boxes_of new) < most_moved - moved_in network (boxes_of shares)
     left_falls shares new stand more = omega (arith, more, within_most new stand)

@@ -50,7 +50,8 @@ module _ {X : Type 0} {t : Ghosts X} {u : EndsGhosts Boxes} (network : SharedNet
   in_place_last first after back [] = refl
   in_place_last first after back (next ∷ more) = in_place_last back after next more
 
-  module _ (last after : List (Share X Boxes t u)) (since : HaveMetSince network last after) (stand : StandBetweenRounds network after) (same : moved_in network (boxes_of after) ≡ moved_in network (boxes_of last)) where
+  module _ (last after : List (Share X Boxes t u)) (since : HaveMetSince network last after) (stand : StandBetweenRounds network after)
+      (same : moved_in network (boxes_of after) ≡ moved_in network (boxes_of last)) where
     -- a round whose edges have met once more is a round
     round_since : (shares : List (Share X Boxes t u)) → IsRound network shares last → IsRound network shares after
     round_since shares round = record {
@@ -62,7 +63,8 @@ module _ {X : Type 0} {t : Ghosts X} {u : EndsGhosts Boxes} (network : SharedNet
       moves = λ some. subst (λ n. moved_in network (boxes_of shares) < n) (sym same) (round.moves some);
     }
 
-    in_place_follow : (first back : List (Share X Boxes t u)) (more : List (List (Share X Boxes t u))) → Follow network first (back ∷ more) → last_back network back more ≡ last → Follow network first (in_place after (back ∷ more))
+    in_place_follow : (first back : List (Share X Boxes t u)) (more : List (List (Share X Boxes t u))) → Follow network first (back ∷ more) →
+        last_back network back more ≡ last → Follow network first (in_place after (back ∷ more))
     in_place_follow first back [] (steps, round, none) gives = (steps, round_since first (subst (λ l. IsRound network first l) gives round), tt)
     in_place_follow first back (next ∷ more) (steps, round, follow) gives = (steps, round, in_place_follow back next more follow gives)
 

@@ -97,16 +97,19 @@ module _ {X : Type 0} {t : Ghosts X} {u : EndsGhosts Boxes} where
         same d =
             subst (λ (v : Boxes → View). SameTraffic (v (get_or shares s d).ends) (v (get_or back s d).ends)) (sym sees)
             (subst (λ (b : Contents). SameTraffic (view_of (get_or shares s d).ends) b.ends) (boxes_are back s d (low s l))
-            (subst (λ (a : Contents). SameTraffic a.ends (boxes_at (boxes_of back) s).ends) (boxes_are shares s d l) (nothing s (omega (arith, l, length-map shares (λ (share : Share X Boxes t u). share.nodes.items))))))
+            (subst (λ (a : Contents). SameTraffic a.ends (boxes_at (boxes_of back) s).ends) (boxes_are shares s d l)
+            (nothing s (omega (arith, l, length-map shares (λ (share : Share X Boxes t u). share.nodes.items))))))
 
     -- boxes that were linked still are
-    pub still_linked : (share : List ℕ) (edges : List Edge) (nodes : List (Placed X t)) (capacity : ℕ) → FitTogether nodes edges → AreDealt share nodes (nodes_in shares) → BoxesHaveMet share edges (boxes_of shares) capacity → AreLinked share edges (boxes_of back) capacity
+    pub still_linked : (share : List ℕ) (edges : List Edge) (nodes : List (Placed X t)) (capacity : ℕ) → FitTogether nodes edges →
+        AreDealt share nodes (nodes_in shares) → BoxesHaveMet share edges (boxes_of shares) capacity → AreLinked share edges (boxes_of back) capacity
     still_linked share edges nodes capacity fit deals met = record {
       writers = λ e l. omega (arith, writes e l, long);
       readers = λ e l. omega (arith, reads e l, long);
       linked = λ e l.
           reader-linked (writer_boxes share edges (boxes_of back) e) (reader_boxes share edges (boxes_of shares) e) (reader_boxes share edges (boxes_of back) e) e
-          (writer-linked (writer_boxes share edges (boxes_of shares) e) (writer_boxes share edges (boxes_of back) e) (reader_boxes share edges (boxes_of shares) e) e (met.linked e l) (kept (share_of share (edge_at edges e).writer) (there _ (writes e l))))
+          (writer-linked (writer_boxes share edges (boxes_of shares) e) (writer_boxes share edges (boxes_of back) e)
+          (reader_boxes share edges (boxes_of shares) e) e (met.linked e l) (kept (share_of share (edge_at edges e).writer) (there _ (writes e l))))
           (kept (share_of share (edge_at edges e).reader) (there _ (reads e l)));
       capacity = λ e l. (kept (share_of share (edge_at edges e).writer) (there _ (writes e l))).boxes.capacity ∙ met.capacity e l;
     }

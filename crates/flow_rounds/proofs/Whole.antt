@@ -60,7 +60,8 @@ module _ {X : Type 0} {t : Ghosts X} (nodes later : List (Placed X t)) (a b c d 
   moved_between m = record {
     history = m.history;
     does = m.does;
-    received = λ k i x l port. q.received (edge_of (inputs_of (get_or nodes k x)) i) ∙ m.received k i x l port ∙ ap (λ xs. xs ++ reads i (m.history k)) (p.received (edge_of (inputs_of (get_or nodes k x)) i));
+    received = λ k i x l port. q.received (edge_of (inputs_of (get_or nodes k x)) i) ∙ m.received k i x l port
+        ∙ ap (λ xs. xs ++ reads i (m.history k)) (p.received (edge_of (inputs_of (get_or nodes k x)) i));
     sent = λ k i x l port. q.sent (edge_of (outputs_of (get_or nodes k x)) i) ∙ m.sent k i x l port ∙ ap (λ xs. xs ++ writes i (m.history k)) (p.sent (edge_of (outputs_of (get_or nodes k x)) i));
     other_received = λ e none. q.received e ∙ m.other_received e none ∙ p.received e;
     other_sent = λ e none. q.sent e ∙ m.other_sent e none ∙ p.sent e;
@@ -73,7 +74,8 @@ module _ {X : Type 0} {t : Ghosts X} (nodes later : List (Placed X t)) (a b c d 
     does = m.does;
     received = λ k i x l port. (
         let e = edge_of (inputs_of (get_or nodes k x)) i in
-        let came : List Signal → List Signal → Type 0 = λ before after. Begins (before ++ reads i (m.history k)) after × (length after ≤ length (before ++ reads i (m.history k)) + 1) × ((e ≡ m.lost → ⊥) → after ≡ before ++ reads i (m.history k)) in
+        let came : List Signal → List Signal → Type 0 = λ before after. Begins (before ++ reads i (m.history k)) after
+        × (length after ≤ length (before ++ reads i (m.history k)) + 1) × ((e ≡ m.lost → ⊥) → after ≡ before ++ reads i (m.history k)) in
         subst (λ xs. came xs (d.received e)) (p.received e) (subst (λ ys. came (b.received e) ys) (sym (q.received e)) (m.received k i x l port))
         );
     sent = λ k i x l port. q.sent (edge_of (outputs_of (get_or nodes k x)) i) ∙ m.sent k i x l port ∙ ap (λ xs. xs ++ writes i (m.history k)) (p.sent (edge_of (outputs_of (get_or nodes k x)) i));
@@ -98,7 +100,8 @@ module _ {X : Type 0} {t : Ghosts X} {u : EndsGhosts Rings} (network : SharedNet
   -- and where no node can step by the ends of its share, none can at all
   pub stands_at_rest : (shares : List (Share X Rings t u)) → SharesHaveMet network shares → NoneCanStep shares → StandAtRest network shares
   stands_at_rest shares met none graph =
-      stuck_shares_rest t network.capacity network.share network.edges network.nodes network.fit (nodes_in shares) graph.deals (states_in_shares network.share network.nodes (nodes_in shares) graph.deals)
+      stuck_shares_rest t network.capacity network.share network.edges network.nodes network.fit (nodes_in shares) graph.deals
+      (states_in_shares network.share network.nodes (nodes_in shares) graph.deals)
       (are_states network.share network.edges network.nodes network.fit (nodes_in shares) graph.deals) (view_at shares) met (all_are_stuck shares none)
 
   -- where nothing was sent or received, the configuration stays
@@ -132,7 +135,8 @@ module _ {X : Type 0} {t : Ghosts X} {u : EndsGhosts Rings} (network : SharedNet
 
     -- they stand where they stood
     pub met_stood : StandAsBefore network shares after
-    met_stood graph later = ap (λ states. end_configuration t network.share network.edges states (view_at after)) same_states ∙ stays shares after graph met_traffic (states_in_shares network.share network.nodes (nodes_in shares) graph.deals)
+    met_stood graph later = ap (λ states. end_configuration t network.share network.edges states (view_at after)) same_states
+        ∙ stays shares after graph met_traffic (states_in_shares network.share network.nodes (nodes_in shares) graph.deals)
       where
         nodes : nodes_in after ≡ nodes_in shares
         nodes = same_nodes shares after since.bodies
@@ -143,7 +147,8 @@ module _ {X : Type 0} {t : Ghosts X} {u : EndsGhosts Rings} (network : SharedNet
             (λ s l. subst (λ ns. AreSamePlaces (nodes_at (nodes_in shares) s) (nodes_at ns s)) (sym nodes) (same_places_refl (nodes_at (nodes_in shares) s)))
             later.deals (λ s i d l low. ap (λ ns. placed_state (get_or (nodes_at ns s) i d)) nodes)
             (states_in_shares network.share network.nodes (nodes_in shares) graph.deals) (states_in_shares network.share network.nodes (nodes_in after) later.deals)
-            (are_states network.share network.edges network.nodes network.fit (nodes_in shares) graph.deals) (are_states network.share network.edges network.nodes network.fit (nodes_in after) later.deals)
+            (are_states network.share network.edges network.nodes network.fit (nodes_in shares) graph.deals)
+            (are_states network.share network.edges network.nodes network.fit (nodes_in after) later.deals)
 
     -- a node that cannot step now could not before
     pub none_could : NoneCanStep after → NoneCanStep shares
@@ -151,11 +156,16 @@ module _ {X : Type 0} {t : Ghosts X} {u : EndsGhosts Rings} (network : SharedNet
         let h : s < length after = omega (arith, l, same_count shares after since.bodies) in
         let nodes : (get_or after s d).nodes.items ≡ (get_or shares s d).nodes.items = ap (λ (b : ShareNodes t). b.nodes) (same_body shares after since.bodies s d l) in
         let kept = since.kept s l in
-        let stuck : AreStuck (view_at after s) (get_or shares s d).nodes.items = subst (λ ns. AreStuck (view_at after s) ns) nodes (subst (λ v. AreStuck v (get_or after s d).nodes.items) (sym (view_is after s d h)) (none s d h)) in
-        subst (λ v. AreStuck v (get_or shares s d).nodes.items) (view_is shares s d l) (λ j y low. stuck_before (view_at shares s) (view_at after s) kept.coming kept.room _ _ _ (stuck j y low)) k x inside
+        let stuck : AreStuck (view_at after s) (get_or shares s d).nodes.items =
+        subst (λ ns. AreStuck (view_at after s) ns) nodes
+        (subst (λ v. AreStuck v (get_or after s d).nodes.items) (sym (view_is after s d h)) (none s d h)) in
+        subst (λ v. AreStuck v (get_or shares s d).nodes.items) (view_is shares s d l)
+        (λ j y low. stuck_before (view_at shares s) (view_at after s) kept.coming kept.room _ _ _ (stuck j y low)) k x inside
 
   module _ (same_is : (a b : Rings) → u.same a b → SameRings a b) (laws : BehaviourLaws t.behaviour) (shares mid pumped back : List (Share X Rings t u))
-      (first : HaveMetSince network shares mid) (count : length pumped ≡ length mid) (each : (s : ℕ) (d : Share X Rings t u) → s < length mid → IsPumped (get_or mid s d) (get_or pumped s d)) (second : HaveMetSince network pumped back)
+      (first : HaveMetSince network shares mid) (count : length pumped ≡ length mid)
+      (each : (s : ℕ) (d : Share X Rings t u) → s < length mid → IsPumped (get_or mid s d) (get_or pumped s d))
+      (second : HaveMetSince network pumped back)
       (graph : AreOfOneGraph network shares) (pumped_graph : AreOfOneGraph network pumped) where
     mid_count : length mid ≡ length shares
     mid_count = same_count shares mid first.bodies
@@ -174,7 +184,8 @@ module _ {X : Type 0} {t : Ghosts X} {u : EndsGhosts Rings} (network : SharedNet
         let b = d.ends in
         record {
           number = ap (λ (x : ShareNodes t). x.number) after ∙ went.number ∙ ap (λ (x : ShareNodes t). x.number) before;
-          places = subst (λ n. AreSamePlaces n (get_or back s d).nodes.items) (ap (λ (x : ShareNodes t). x.nodes) before) (subst (λ m. AreSamePlaces (get_or mid s d).nodes.items m) (sym (ap (λ (x : ShareNodes t). x.nodes) after)) went.places);
+          places = subst (λ n. AreSamePlaces n (get_or back s d).nodes.items) (ap (λ (x : ShareNodes t). x.nodes) before)
+              (subst (λ m. AreSamePlaces (get_or mid s d).nodes.items m) (sym (ap (λ (x : ShareNodes t). x.nodes) after)) went.places);
           ends = subst (λ r. SameRings r (get_or back s d).ends) (ends_are shares s d l b)
               (subst (λ r. SameRings (get_or (ends_in shares) s b) r) (ends_are back s d at_back b)
               (same_rings_trans _ _ _ (first.ends s b l) (same_rings_trans _ _ _ (pumped_ends same_is network mid pumped count each first.graph s b at_mid) (second.ends s b at_pumped))));
@@ -200,7 +211,8 @@ module _ {X : Type 0} {t : Ghosts X} {u : EndsGhosts Rings} (network : SharedNet
         let at_pumped : s < length pumped = omega (arith, at_mid, count) in
         let before = ap (λ (x : ShareNodes t). x.nodes) (same_body shares mid first.bodies s d l) in
         let after = ap (λ (x : ShareNodes t). x.nodes) (same_body pumped back second.bodies s d at_pumped) in
-        between (get_or shares s d).nodes.items (get_or back s d).nodes.items (view_at shares s) (view_at mid s) (view_at pumped s) (view_at back s) (met_traffic shares mid first s l) (met_traffic pumped back second s at_pumped)
+        between (get_or shares s d).nodes.items (get_or back s d).nodes.items (view_at shares s) (view_at mid s) (view_at pumped s) (view_at back s)
+        (met_traffic shares mid first s l) (met_traffic pumped back second s at_pumped)
         (subst (λ n. Q n (get_or back s d).nodes.items (view_at mid s) (view_at pumped s)) before
         (subst (λ n. Q (get_or mid s d).nodes.items n (view_at mid s) (view_at pumped s)) (sym after)
         (subst (λ v. Q (get_or mid s d).nodes.items (get_or pumped s d).nodes.items v (view_at pumped s)) (sym (view_is mid s d at_mid))
@@ -210,10 +222,12 @@ module _ {X : Type 0} {t : Ghosts X} {u : EndsGhosts Rings} (network : SharedNet
     starved_at : (s : ℕ) (d : Share X Rings t u) → s < length shares → (get_or back s d).starved ≡ (get_or pumped s d).starved
     starved_at s d l = ap (λ (x : ShareNodes t). x.starved) (same_body pumped back second.bodies s d (omega (arith, l, mid_count, count)))
 
-    went : (s : ℕ) (d : Share X Rings t u) → s < length shares → (get_or back s d).starved ≡ false → HaveMoved (get_or shares s d).nodes.items (get_or back s d).nodes.items (view_at shares s) (view_at back s)
+    went : (s : ℕ) (d : Share X Rings t u) → s < length shares → (get_or back s d).starved ≡ false →
+        HaveMoved (get_or shares s d).nodes.items (get_or back s d).nodes.items (view_at shares s) (view_at back s)
     went s d l fed = of_pump HaveMoved moved_between s d l ((each s d (omega (arith, l, mid_count))).moved (sym (starved_at s d l) ∙ fed))
 
-    lost : (s : ℕ) (d : Share X Rings t u) → s < length shares → (get_or back s d).starved ≡ true → HaveMovedAndLost (get_or shares s d).nodes.items (get_or back s d).nodes.items (view_at shares s) (view_at back s)
+    lost : (s : ℕ) (d : Share X Rings t u) → s < length shares → (get_or back s d).starved ≡ true →
+        HaveMovedAndLost (get_or shares s d).nodes.items (get_or back s d).nodes.items (view_at shares s) (view_at back s)
     lost s d l starved = of_pump HaveMovedAndLost lost_between s d l ((each s d (omega (arith, l, mid_count))).lost (sym (starved_at s d l) ∙ starved))
 
     module _ (fed : AreFed back) where
@@ -230,7 +244,10 @@ module _ {X : Type 0} {t : Ghosts X} {u : EndsGhosts Rings} (network : SharedNet
       calm : AreCalm back → moved_in network back ≡ moved_in network shares
       calm still =
           second_moved
-          ∙ moved_same mid pumped first.graph (calm_moves_none same_is network mid pumped count each first.graph fed_pumped (λ s d l. sym (ap (λ (x : ShareNodes t). x.moved) (same_body pumped back second.bodies s d l)) ∙ still s d (omega (arith, l, back_count))))
+          ∙ moved_same mid pumped first.graph
+          (calm_moves_none same_is network mid pumped count each first.graph fed_pumped
+          (λ s d l. sym (ap (λ (x : ShareNodes t). x.moved) (same_body pumped back second.bodies s d l))
+          ∙ still s d (omega (arith, l, back_count))))
           ∙ first_moved
 
       no_more : moved_in network back ≤ moved_in network shares → moved_in network pumped ≤ moved_in network mid
@@ -253,7 +270,9 @@ module _ {X : Type 0} {t : Ghosts X} {u : EndsGhosts Rings} (network : SharedNet
           at : ((moved_in network shares < moved_in network back) ⊎ (moved_in network back ≤ moved_in network shares)) → moved_in network shares < moved_in network back
           at (inl less) = less
           at (inr most) =
-              absurd (some (none_could shares mid first (none_could_step same_is network mid pumped count each first.graph fed_pumped (none_moved same_is network mid pumped count each first.graph fed_pumped (no_more most)))))
+              absurd (some (none_could shares mid first
+              (none_could_step same_is network mid pumped count each first.graph fed_pumped
+              (none_moved same_is network mid pumped count each first.graph fed_pumped (no_more most)))))
 
       module _ (same : moved_in network back ≡ moved_in network shares) (back_graph : AreOfOneGraph network back) where
         none : (s : ℕ) → s < length mid → SameTraffic (view_at mid s) (view_at pumped s)
@@ -277,7 +296,8 @@ module _ {X : Type 0} {t : Ghosts X} {u : EndsGhosts Rings} (network : SharedNet
             (λ s l. subst (λ later. AreSamePlaces (nodes_at (nodes_in mid) s) (nodes_at later s)) (sym back_nodes) (pumped_places same_is network mid pumped count each first.graph s l))
             back_graph.deals
             (λ s i d l low. ap (λ later. placed_state (get_or (nodes_at later s) i d)) back_nodes ∙ states_stayed same_is network mid pumped count each first.graph fed_pumped none laws s i d l low)
-            mid_states (states_in_shares network.share network.nodes (nodes_in back) back_graph.deals) mid_are (are_states network.share network.edges network.nodes network.fit (nodes_in back) back_graph.deals)
+            mid_states (states_in_shares network.share network.nodes (nodes_in back) back_graph.deals) mid_are
+            (are_states network.share network.edges network.nodes network.fit (nodes_in back) back_graph.deals)
 
         stood : shares_configuration network back back_graph ≡ shares_configuration network mid first.graph
         stood = ap (λ states. end_configuration t network.share network.edges states (view_at back)) same_states ∙ stays mid back first.graph none_at_all mid_states
@@ -317,7 +337,8 @@ module _ {X : Type 0} {t : Ghosts X} (laws : BehaviourLaws t.behaviour) (network
     within_most shares graph sound = ∥∥₁_elim (sound graph) (λ x y. le_prop x y) (λ s. whole.most (shares_configuration network shares graph) s)
 
     -- an epoch that moves something leaves less to move
-    pub left_falls : (shares back : List (Share X Rings t u)) → IsEpoch network shares back → AreFed back → (NoneCanStep shares → ⊥) → most_moved - moved_in network back < most_moved - moved_in network shares
+    pub left_falls : (shares back : List (Share X Rings t u)) → IsEpoch network shares back → AreFed back → (NoneCanStep shares → ⊥) →
+        most_moved - moved_in network back < most_moved - moved_in network shares
     left_falls shares back epoch fed some = omega (arith, epoch.moves fed some, within_most back epoch.graph (epoch.sound fed))
 
 -- shares later still

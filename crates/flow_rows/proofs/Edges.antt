@@ -24,7 +24,10 @@ columns_add zero n i =
 columns_add (suc m) n i =
     let e : suc m + n ≡ suc (m + n) = omega arith in
     ap (λ k. columns k i) e
-    ∙ ap (λ cs. i 0 ∷ cs) (columns_add m n (λ q. i (suc q)) ∙ ap (λ cs. columns m (λ q. i (suc q)) ++ cs) (columns_same n (λ q. i (suc (m + q))) (λ q. i (suc m + q)) (λ q lt. let f : suc (m + q) ≡ suc m + q = omega arith in ap i f)))
+    ∙ ap (λ cs. i 0 ∷ cs)
+    (columns_add m n (λ q. i (suc q))
+    ∙ ap (λ cs. columns m (λ q. i (suc q)) ++ cs)
+    (columns_same n (λ q. i (suc (m + q))) (λ q. i (suc m + q)) (λ q lt. let f : suc (m + q) ≡ suc m + q = omega arith in ap i f)))
 
 pub columns_length : (n : ℕ) (i : Lists Cell) → length (columns n i) ≡ n
 columns_length zero i = refl
@@ -46,7 +49,8 @@ flat_shift (pair first second) k p q vs =
     ap₂ (λ a b. a ++ b) (flat_shift first k p q (map first_of vs)) (ap (λ r. flat second r (map second_of vs) (k + q)) e ∙ flat_shift second k (p + width first) q (map second_of vs))
 flat_shift (seq item) k p q vs =
     let e : k + p + 1 ≡ k + (p + 1) = omega arith in
-    ap₂ (λ a b. a ++ b) (only_shift k p q (flags (lengths (map elements_of vs)))) (ap (λ r. flat item r (concatenation (map elements_of vs)) (k + q)) e ∙ flat_shift item k (p + 1) q (concatenation (map elements_of vs)))
+    ap₂ (λ a b. a ++ b) (only_shift k p q (flags (lengths (map elements_of vs))))
+    (ap (λ r. flat item r (concatenation (map elements_of vs)) (k + q)) e ∙ flat_shift item k (p + 1) q (concatenation (map elements_of vs)))
 
 flat_below : (ty : Ty) (p q : ℕ) (vs : List Value) → q < p → flat ty p vs q ≡ []
 flat_below ty p q vs lt = ap (λ l. l q) (flat_each ty p vs) ∙ all_below ty p vs q lt
@@ -71,7 +75,8 @@ laid_pair first second vs =
     let right : columns n (λ q. all (m + q)) ≡ columns n (flat second 0 (map second_of vs)) =
     columns_same n (λ q. all (m + q)) (flat second 0 (map second_of vs)) (λ q lt.
     let e : 0 + m ≡ m + 0 = omega arith in
-    append_right (l (m + q)) (r (m + q)) (flat_above first 0 (m + q) (map first_of vs) (omega arith)) ∙ ap (λ p. flat second p (map second_of vs) (m + q)) e ∙ flat_shift second m 0 q (map second_of vs)) in
+    append_right (l (m + q)) (r (m + q)) (flat_above first 0 (m + q) (map first_of vs) (omega arith))
+    ∙ ap (λ p. flat second p (map second_of vs) (m + q)) e ∙ flat_shift second m 0 q (map second_of vs)) in
     ap (λ k. columns k all) (length-append (kinds_of first) (kinds_of second)) ∙ columns_add m n all ∙ ap₂ (λ a b. a ++ b) left right
 
 pub laid_seq : (item : Ty) (vs : List Value) → columns_of_values (seq item) vs ≡ flags (lengths (map elements_of vs)) ∷ columns_of_values item (concatenation (map elements_of vs))

@@ -22,7 +22,10 @@ use Rattle.flow_segment.specs.Rows.{one_if}
 use Rattle.flow_values.specs.Shapes.{is_a}
 use Rattle.flow_rows.specs.Lists.{bind, each, paired, cut, dist, pack, interleave, concat_flags, append_flags}
 use Rattle.flow_rows.specs.Decoded.{a_seq_of}
-use Rattle.flow_rows.specs.Made.{one, scalar_cells, integer_cells, columns_of_values, const_made, unary_made, binary_made, units_of_made, scan_add_made, reduce_made, length_made, dist_made, pack_made, pack_groups_made, flag_of_bool_made, same_flags_made, concat_flags_made, the_check_made, append_flags_made, interleave_made, interleave_groups_made, of_one, print_made, tab_of, tab_made, seq_made, picked, index_made}
+use Rattle.flow_rows.specs.Made.{one, scalar_cells, integer_cells, columns_of_values, const_made, unary_made, binary_made, units_of_made}
+use Rattle.flow_rows.specs.Made.{scan_add_made, reduce_made, length_made, dist_made, pack_made, pack_groups_made, flag_of_bool_made, same_flags_made}
+use Rattle.flow_rows.specs.Made.{concat_flags_made, the_check_made, append_flags_made, interleave_made, interleave_groups_made, of_one, print_made}
+use Rattle.flow_rows.specs.Made.{tab_of, tab_made, seq_made, picked, index_made}
 use Rattle.flow_rows.proofs.Decoding.{numbers_forth, truths_forth, integers_forth, scalars_forth, units_forth, items_forth}
 use Rattle.flow_rows.proofs.FlagRows.{same_flags_forth, the_check_forth}
 use Rattle.flow_rows.proofs.Edges.{laid_seq}
@@ -115,5 +118,6 @@ tab_makes ty gs are =
 pub seq_makes : (item : Ty) (vs : List Value) → AllAre (vec item) vs → seq_made item (map datum vs ∷ []) ≡ Some (columns_of_values (seq item) vs)
 seq_makes item vs are = ap (option_map (columns_of_values (seq item))) (data_vectors_forth item vs are)
 
-pub index_makes : (item : Ty) (vs : List Value) (ns : List ℤ) → AllAre (vec item) vs → index_made item (map datum vs ∷ integer_cells ns ∷ []) ≡ option_map (columns_of_values item) (bind (paired vs ns) (each picked))
+pub index_makes : (item : Ty) (vs : List Value) (ns : List ℤ) → AllAre (vec item) vs → index_made item (map datum vs ∷ integer_cells ns ∷ [])
+    ≡ option_map (columns_of_values item) (bind (paired vs ns) (each picked))
 index_makes item vs ns are = rw (data_vectors_forth item vs are, integers_forth ns) refl

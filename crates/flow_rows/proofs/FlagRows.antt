@@ -9,12 +9,17 @@ use Rattle.flow_base.specs.Lists.{Lists}
 use Rattle.flow_base.specs.Flags.{F, T, elements, flags, concatenation, lengths}
 use Rattle.flow_base.specs.Columns.{Columns, columns, RowOf}
 use Rattle.snesl_operators.specs.Operators.{same_truth}
-use Rattle.flow_segment.specs.Rows.{Sides, lefts, rights, alternated, kept_flags, pack_groups_reads, pack_groups_writes, PackGroupsRow, flag_of_bool_reads, flag_of_bool_writes, FlagOfBoolRow, same_flags_reads, SameFlagsRow, concat_flags_reads, concat_flags_writes, ConcatFlagsRow, part_flags_reads, part_flags_writes, PartFlagsRow, the_check_reads, TheCheckRow, append_flags_reads, append_flags_writes, AppendFlagsRow, interleave_groups_reads, InterleaveGroupsRow}
+use Rattle.flow_segment.specs.Rows.{Sides, lefts, rights, alternated, kept_flags, pack_groups_reads, pack_groups_writes, PackGroupsRow}
+use Rattle.flow_segment.specs.Rows.{flag_of_bool_reads, flag_of_bool_writes, FlagOfBoolRow, same_flags_reads, SameFlagsRow, concat_flags_reads}
+use Rattle.flow_segment.specs.Rows.{concat_flags_writes, ConcatFlagsRow, part_flags_reads, part_flags_writes, PartFlagsRow, the_check_reads}
+use Rattle.flow_segment.specs.Rows.{TheCheckRow, append_flags_reads, append_flags_writes, AppendFlagsRow, interleave_groups_reads}
+use Rattle.flow_segment.specs.Rows.{InterleaveGroupsRow}
 use Rattle.flow_rows.specs.Lists.{each, same_lists, paired, cut, kept}
 use Rattle.flow_rows.specs.Decoded.{numbers, truth_in, truths}
 use Rattle.flow_rows.specs.Made.{pack_groups_made, flag_of_bool_made, same_flags_made, concat_flags_made, part_flags_made, the_check_made, append_flags_made, interleave_groups_made}
 use Rattle.flow_rows.specs.RowsAreFunctions.{IsFunction}
-use Rattle.flow_rows.proofs.Options.{bind_gives, map_gives, only_if_gives, only_if_true, each_forth, each_back, paired_forth, paired_back, cut_forth, cut_back, map_map, interleave_forth, interleave_back, same_lists_forth, same_lists_back}
+use Rattle.flow_rows.proofs.Options.{bind_gives, map_gives, only_if_gives, only_if_true, each_forth, each_back, paired_forth, paired_back, cut_forth}
+use Rattle.flow_rows.proofs.Options.{cut_back, map_map, interleave_forth, interleave_back, same_lists_forth, same_lists_back}
 use Rattle.flow_rows.proofs.Decoding.{numbers_forth, numbers_back, truths_forth, truths_back}
 
 -- a row of instances is the function that gives just what they write
@@ -107,8 +112,12 @@ pack_groups_back b f o e =
     let s1 = bind_gives (truths b) _ s0.1 in
     let s2 = bind_gives (numbers f) _ s1.2 in
     let s3 = map_gives kept (paired s1.0 s2.0) s2.2 in
-    let p = paired_back s1.0 s2.0 s3.0 s3.1 in
-    (s3.0, ap₂ (λ b f. b ∷ f ∷ []) (truths_back b s1.0 s1.1 ∙ ap (map flag) p.0 ∙ map_map flag (λ x. x.0) s3.0) (numbers_back f s2.0 s2.1 ∙ ap flags p.1), s0.2 ∙ ap (λ l. l ∷ []) (ap flags s3.2 ∙ kept_is s3.0))
+    let p = paired_back s1.0 s2.0 s3.0 s3.1 in (
+      s3.0,
+      ap₂ (λ b f. b ∷ f ∷ []) (truths_back b s1.0 s1.1 ∙ ap (map flag) p.0 ∙ map_map flag (λ x. x.0) s3.0)
+          (numbers_back f s2.0 s2.1 ∙ ap flags p.1),
+      s0.2 ∙ ap (λ l. l ∷ []) (ap flags s3.2 ∙ kept_is s3.0),
+    )
 
 pub pack_groups_row : IsFunction PackGroupsRow pack_groups_made 2 1
 pack_groups_row = function_of pack_groups_reads pack_groups_writes pack_groups_made 2 1 pack_groups_forth (λ i. pack_groups_back (i 0) (i 1))
@@ -207,9 +216,17 @@ append_flags_row = function_of append_flags_reads append_flags_writes append_fla
 -- InterleaveGroups
 
 interleave_groups_forth : (xs : Sides ℕ) → interleave_groups_made (interleave_groups_reads xs) ≡ Some (flags (alternated xs) ∷ [])
-interleave_groups_forth xs = rw (numbers_forth (lengths (lefts xs)), numbers_forth (lengths (rights xs)), numbers_forth (concatenation (lefts xs)), numbers_forth (concatenation (rights xs)), interleave_forth xs) refl
+interleave_groups_forth xs =
+    rw (
+      numbers_forth (lengths (lefts xs)),
+      numbers_forth (lengths (rights xs)),
+      numbers_forth (concatenation (lefts xs)),
+      numbers_forth (concatenation (rights xs)),
+      interleave_forth xs,
+    ) refl
 
-interleave_groups_back : (f g p q : List Cell) (o : Columns) → interleave_groups_made (f ∷ g ∷ p ∷ q ∷ []) ≡ Some o → (xs : Sides ℕ) × (f ∷ g ∷ p ∷ q ∷ [] ≡ interleave_groups_reads xs) × (o ≡ flags (alternated xs) ∷ [])
+interleave_groups_back : (f g p q : List Cell) (o : Columns) → interleave_groups_made (f ∷ g ∷ p ∷ q ∷ []) ≡ Some o → (xs : Sides ℕ)
+    × (f ∷ g ∷ p ∷ q ∷ [] ≡ interleave_groups_reads xs) × (o ≡ flags (alternated xs) ∷ [])
 interleave_groups_back f g p q o e =
     let s0 = map_gives _ _ e in
     let s1 = bind_gives (numbers f) _ s0.1 in

@@ -72,7 +72,8 @@ module _ {A B : Type 0} (f : A → B) where
   abbrev cut_after : {C : Type 0} → List ℕ → Option (List C × List C) → Option (List (List C))
   cut_after ns o = bind o (λ p. option_map (λ groups. p.0 ∷ groups) (cut ns p.1))
 
-  after_map : (ns : List ℕ) (o : Option (List A × List A)) → ((xs : List A) → cut ns (map f xs) ≡ option_map (map (map f)) (cut ns xs)) → cut_after ns (option_map both_parts o) ≡ option_map (map (map f)) (cut_after ns o)
+  after_map : (ns : List ℕ) (o : Option (List A × List A)) → ((xs : List A) → cut ns (map f xs) ≡ option_map (map (map f)) (cut ns xs)) →
+      cut_after ns (option_map both_parts o) ≡ option_map (map (map f)) (cut_after ns o)
   after_map ns None ih = refl
   after_map ns (Some (l, rest)) ih =
       ap (option_map (λ groups. map f l ∷ groups)) (ih rest)

@@ -39,7 +39,8 @@ pub each_forth : {A B Z : Type 0} (f : A → Option B) (l : Z → A) (r : Z → 
 each_forth f l r h [] = refl
 each_forth f l r h (z ∷ zs) = rw (h z, each_forth f l r h zs) refl
 
-pub each_back : {A B Z : Type 0} (f : A → Option B) (l : Z → A) (r : Z → B) → ((a : A) (b : B) → f a ≡ Some b → (z : Z) × (a ≡ l z) × (b ≡ r z)) → (xs : List A) (ys : List B) → each f xs ≡ Some ys → (zs : List Z) × (xs ≡ map l zs) × (ys ≡ map r zs)
+pub each_back : {A B Z : Type 0} (f : A → Option B) (l : Z → A) (r : Z → B) → ((a : A) (b : B) → f a ≡ Some b → (z : Z) × (a ≡ l z) × (b ≡ r z)) →
+    (xs : List A) (ys : List B) → each f xs ≡ Some ys → (zs : List Z) × (xs ≡ map l zs) × (ys ≡ map r zs)
 each_back f l r h [] ys e = let same : ys ≡ [] = cc in ([], refl, same)
 each_back f l r h (x ∷ xs) ys e =
     let g = bind_gives (f x) (λ y. option_map (λ ys. y ∷ ys) (each f xs)) e in

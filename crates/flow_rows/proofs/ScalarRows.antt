@@ -23,14 +23,18 @@ use Rattle.flow_base.specs.Ranges.{AllOf}
 use Rattle.flow_base.specs.Columns.{Columns, columns, columns_same, column_is}
 use Rattle.flow_folds.specs.Scalars.{cell_of_scalar, scalar_in}
 use Rattle.flow_folds.specs.ScalarCells.{scalar_in-cell}
-use Rattle.flow_scalar.specs.Rows.{SourceRow, const_reads, const_writes, ConstRow, UnaryCase, unary_reads, unary_writes, UnaryRow, BinaryCase, binary_reads, binary_writes, BinaryRow, ForkRow, SinkRow, iota_reads, iota_writes, IotaRow, units_of_reads, units_of_writes, UnitsOfRow}
+use Rattle.flow_scalar.specs.Rows.{SourceRow, const_reads, const_writes, ConstRow, UnaryCase, unary_reads, unary_writes, UnaryRow, BinaryCase}
+use Rattle.flow_scalar.specs.Rows.{binary_reads, binary_writes, BinaryRow, ForkRow, SinkRow, iota_reads, iota_writes, IotaRow, units_of_reads}
+use Rattle.flow_scalar.specs.Rows.{units_of_writes, UnitsOfRow}
 use Rattle.flow_folds.specs.Rows.{Scanned, scan_add_reads, scan_add_writes, ScanAddRow, Reduced, reduce_reads, reduce_writes, ReduceRow, LengthRow}
 use Rattle.flow_rows.specs.Lists.{each, paired, cut}
 use Rattle.flow_rows.specs.Decoded.{numbers, integer_in, integers, scalars, truths, units, items_of_kind}
-use Rattle.flow_rows.specs.Made.{scalar_cells, integer_cells, source_made, const_made, unary_made, binary_made, fork_made, sink_made, natural, iota_made, units_of_made, scan_add_made, reduce_made, length_made}
+use Rattle.flow_rows.specs.Made.{scalar_cells, integer_cells, source_made, const_made, unary_made, binary_made, fork_made, sink_made, natural}
+use Rattle.flow_rows.specs.Made.{iota_made, units_of_made, scan_add_made, reduce_made, length_made}
 use Rattle.flow_rows.specs.RowsAreFunctions.{IsFunction}
 use Rattle.flow_rows.proofs.Options.{bind_gives, map_gives, ok_gives, some_same, each_forth, each_back, paired_map, paired_back, cut_forth, cut_back, lengths_map, map_map, map_joined}
-use Rattle.flow_rows.proofs.Decoding.{numbers_forth, numbers_back, truths_forth, truths_back, integers_forth, integers_back, scalars_forth, scalars_back, units_forth, units_back, items_forth, items_back}
+use Rattle.flow_rows.proofs.Decoding.{numbers_forth, numbers_back, truths_forth, truths_back, integers_forth, integers_back, scalars_forth}
+use Rattle.flow_rows.proofs.Decoding.{scalars_back, units_forth, units_back, items_forth, items_back}
 use Rattle.flow_rows.proofs.FlagRows.{function_of}
 use Rattle.flow_rows.proofs.SegmentRows.{one_column, same_column}
 
@@ -57,14 +61,21 @@ module _ (dialect : Dialect) (op : UnaryOperator) where
   unary_at k = result_ok (unary_value dialect op k)
 
   unary_forth : (xs : List (UnaryCase dialect op)) → unary_made dialect op (unary_reads dialect op xs) ≡ Some (unary_writes dialect op xs)
-  unary_forth xs = rw (each_forth scalar_in (λ x. cell_of_scalar x.0) (λ x. x.0) (λ x. scalar_in-cell x.0) xs, each_forth unary_at (λ x. x.0) (λ x. x.1) (λ x. ap result_ok x.2) xs) (ap (λ l. Some (l ∷ [])) (map_map cell_of_scalar (λ x. x.1) xs))
+  unary_forth xs = rw (
+    each_forth scalar_in (λ x. cell_of_scalar x.0) (λ x. x.0) (λ x. scalar_in-cell x.0) xs,
+    each_forth unary_at (λ x. x.0) (λ x. x.1) (λ x. ap result_ok x.2) xs,
+  ) (ap (λ l. Some (l ∷ [])) (map_map cell_of_scalar (λ x. x.1) xs))
 
   unary_back : (a : List Cell) (o : Columns) → unary_made dialect op (a ∷ []) ≡ Some o → (xs : List (UnaryCase dialect op)) × (a ∷ [] ≡ unary_reads dialect op xs) × (o ≡ unary_writes dialect op xs)
   unary_back a o e =
       let s0 = map_gives _ _ e in
       let s1 = bind_gives (scalars a) _ s0.1 in
-      let g = each_back {Z = UnaryCase dialect op} unary_at (λ x. x.0) (λ x. x.1) (λ k v e. ((k, v, ok_gives (unary_value dialect op k) e), refl, refl)) s1.0 s0.0 s1.2 in
-      (g.0, ap (λ l. l ∷ []) (scalars_back a s1.0 s1.1 ∙ ap scalar_cells g.1 ∙ map_map cell_of_scalar (λ x. x.0) g.0), s0.2 ∙ ap (λ l. l ∷ []) (ap scalar_cells g.2 ∙ map_map cell_of_scalar (λ x. x.1) g.0))
+      let g = each_back {Z = UnaryCase dialect op} unary_at (λ x. x.0) (λ x. x.1) (λ k v e. ((k, v, ok_gives (unary_value dialect op k) e), refl, refl)) s1.0 s0.0 s1.2 in (
+        g.0,
+        ap (λ l. l ∷ []) (scalars_back a s1.0 s1.1 ∙ ap scalar_cells g.1 ∙ map_map cell_of_scalar (λ x. x.0) g.0),
+        s0.2
+            ∙ ap (λ l. l ∷ []) (ap scalar_cells g.2 ∙ map_map cell_of_scalar (λ x. x.1) g.0),
+      )
 
   pub unary_row : IsFunction (UnaryRow dialect op) (unary_made dialect op) 1 1
   unary_row = function_of (unary_reads dialect op) (unary_writes dialect op) (unary_made dialect op) 1 1 unary_forth (λ i. unary_back (i 0))
@@ -76,9 +87,15 @@ module _ (dialect : Dialect) (op : BinaryOperator) where
   binary_at p = result_ok (binary_value dialect op p.0 p.1)
 
   binary_forth : (xs : List (BinaryCase dialect op)) → binary_made dialect op (binary_reads dialect op xs) ≡ Some (binary_writes dialect op xs)
-  binary_forth xs = rw (each_forth scalar_in (λ x. cell_of_scalar x.0) (λ x. x.0) (λ x. scalar_in-cell x.0) xs, each_forth scalar_in (λ x. cell_of_scalar x.1) (λ x. x.1) (λ x. scalar_in-cell x.1) xs, paired_map (λ x. x.0) (λ x. x.1) xs, each_forth binary_at (λ x. (x.0, x.1)) (λ x. x.2) (λ x. ap result_ok x.3) xs) (ap (λ l. Some (l ∷ [])) (map_map cell_of_scalar (λ x. x.2) xs))
+  binary_forth xs = rw (
+    each_forth scalar_in (λ x. cell_of_scalar x.0) (λ x. x.0) (λ x. scalar_in-cell x.0) xs,
+    each_forth scalar_in (λ x. cell_of_scalar x.1) (λ x. x.1) (λ x. scalar_in-cell x.1) xs,
+    paired_map (λ x. x.0) (λ x. x.1) xs,
+    each_forth binary_at (λ x. (x.0, x.1)) (λ x. x.2) (λ x. ap result_ok x.3) xs,
+  ) (ap (λ l. Some (l ∷ [])) (map_map cell_of_scalar (λ x. x.2) xs))
 
-  binary_back : (a b : List Cell) (o : Columns) → binary_made dialect op (a ∷ b ∷ []) ≡ Some o → (xs : List (BinaryCase dialect op)) × (a ∷ b ∷ [] ≡ binary_reads dialect op xs) × (o ≡ binary_writes dialect op xs)
+  binary_back : (a b : List Cell) (o : Columns) → binary_made dialect op (a ∷ b ∷ []) ≡ Some o → (xs : List (BinaryCase dialect op))
+      × (a ∷ b ∷ [] ≡ binary_reads dialect op xs) × (o ≡ binary_writes dialect op xs)
   binary_back a b o e =
       let s0 = map_gives _ _ e in
       let s1 = bind_gives (scalars a) _ s0.1 in
@@ -89,7 +106,8 @@ module _ (dialect : Dialect) (op : BinaryOperator) where
       let left : s1.0 ≡ map (λ x. x.0) g.0 = p.0 ∙ ap (map (λ p. p.0)) g.1 ∙ map_map (λ p. p.0) (λ x. (x.0, x.1)) g.0 in
       let right : s2.0 ≡ map (λ x. x.1) g.0 = p.1 ∙ ap (map (λ p. p.1)) g.1 ∙ map_map (λ p. p.1) (λ x. (x.0, x.1)) g.0 in (
         g.0,
-        ap₂ (λ a b. a ∷ b ∷ []) (scalars_back a s1.0 s1.1 ∙ ap scalar_cells left ∙ map_map cell_of_scalar (λ x. x.0) g.0) (scalars_back b s2.0 s2.1 ∙ ap scalar_cells right ∙ map_map cell_of_scalar (λ x. x.1) g.0),
+        ap₂ (λ a b. a ∷ b ∷ []) (scalars_back a s1.0 s1.1 ∙ ap scalar_cells left ∙ map_map cell_of_scalar (λ x. x.0) g.0)
+            (scalars_back b s2.0 s2.1 ∙ ap scalar_cells right ∙ map_map cell_of_scalar (λ x. x.1) g.0),
         s0.2 ∙ ap (λ l. l ∷ []) (ap scalar_cells g.2 ∙ map_map cell_of_scalar (λ x. x.2) g.0),
       )
 
@@ -172,9 +190,17 @@ module _ (dialect : Dialect) where
   scan_at group = result_ok (scan_of dialect group)
 
   scan_add_forth : (gs : List (Scanned dialect)) → scan_add_made dialect (scan_add_reads dialect gs) ≡ Some (scan_add_writes dialect gs)
-  scan_add_forth gs = rw (encoded_groups int (λ g. g.0) gs, numbers_forth (map (λ g. length g.0) gs), integers_forth (concatenation (map (λ g. g.0) gs)), cut_groups (λ g. g.0) gs, each_forth scan_at (λ g. g.0) (λ g. g.1) (λ g. ap result_ok g.2) gs) (ap (λ ls. Some (concatenation ls ∷ [])) (map_map integer_cells (λ g. g.1) gs))
+  scan_add_forth gs = rw (
+    encoded_groups int (λ g. g.0) gs,
+    numbers_forth (map (λ g. length g.0) gs),
+    integers_forth (concatenation (map (λ g. g.0) gs)),
+    cut_groups (λ g. g.0) gs,
+    each_forth scan_at (λ g. g.0) (λ g. g.1) (λ g. ap result_ok g.2) gs,
+  )
+      (ap (λ ls. Some (concatenation ls ∷ [])) (map_map integer_cells (λ g. g.1) gs))
 
-  scan_add_back : (f a : List Cell) (o : Columns) → scan_add_made dialect (f ∷ a ∷ []) ≡ Some o → (gs : List (Scanned dialect)) × (f ∷ a ∷ [] ≡ scan_add_reads dialect gs) × (o ≡ scan_add_writes dialect gs)
+  scan_add_back : (f a : List Cell) (o : Columns) → scan_add_made dialect (f ∷ a ∷ []) ≡ Some o → (gs : List (Scanned dialect))
+      × (f ∷ a ∷ [] ≡ scan_add_reads dialect gs) × (o ≡ scan_add_writes dialect gs)
   scan_add_back f a o e =
       let s0 = map_gives _ _ e in
       let s1 = bind_gives (numbers f) _ s0.1 in
@@ -183,7 +209,8 @@ module _ (dialect : Dialect) where
       let c = cut_back s1.0 s2.0 s3.0 s3.1 in
       let g = each_back {Z = Scanned dialect} scan_at (λ g. g.0) (λ g. g.1) (λ xs sums e. ((xs, sums, ok_gives (scan_of dialect xs) e), refl, refl)) s3.0 s0.0 s3.2 in (
         g.0,
-        ap₂ (λ f a. f ∷ a ∷ []) (numbers_back f s1.0 s1.1 ∙ ap flags (c.0 ∙ ap lengths g.1 ∙ lengths_map (λ g. g.0) g.0)) (integers_back a s2.0 s2.1 ∙ ap integer_cells (c.1 ∙ ap concatenation g.1) ∙ sym (encoded_groups int (λ g. g.0) g.0)),
+        ap₂ (λ f a. f ∷ a ∷ []) (numbers_back f s1.0 s1.1 ∙ ap flags (c.0 ∙ ap lengths g.1 ∙ lengths_map (λ g. g.0) g.0))
+            (integers_back a s2.0 s2.1 ∙ ap integer_cells (c.1 ∙ ap concatenation g.1) ∙ sym (encoded_groups int (λ g. g.0) g.0)),
         s0.2 ∙ ap (λ ls. concatenation ls ∷ []) (ap (map integer_cells) g.2 ∙ map_map integer_cells (λ g. g.1) g.0),
       )
 
@@ -197,9 +224,17 @@ module _ (dialect : Dialect) (reduction : Reduction) where
   reduce_at group = result_ok (reduction_of dialect reduction group)
 
   reduce_forth : (gs : List (Reduced dialect reduction)) → reduce_made dialect reduction (reduce_reads dialect reduction gs) ≡ Some (reduce_writes dialect reduction gs)
-  reduce_forth gs = rw (encoded_groups cell_of_scalar (λ g. g.0) gs, numbers_forth (map (λ g. length g.0) gs), scalars_forth (concatenation (map (λ g. g.0) gs)), cut_groups (λ g. g.0) gs, each_forth reduce_at (λ g. g.0) (λ g. g.1) (λ g. ap result_ok g.2) gs) (ap (λ l. Some (l ∷ [])) (map_map cell_of_scalar (λ g. g.1) gs))
+  reduce_forth gs = rw (
+    encoded_groups cell_of_scalar (λ g. g.0) gs,
+    numbers_forth (map (λ g. length g.0) gs),
+    scalars_forth (concatenation (map (λ g. g.0) gs)),
+    cut_groups (λ g. g.0) gs,
+    each_forth reduce_at (λ g. g.0) (λ g. g.1) (λ g. ap result_ok g.2) gs,
+  )
+      (ap (λ l. Some (l ∷ [])) (map_map cell_of_scalar (λ g. g.1) gs))
 
-  reduce_back : (f a : List Cell) (o : Columns) → reduce_made dialect reduction (f ∷ a ∷ []) ≡ Some o → (gs : List (Reduced dialect reduction)) × (f ∷ a ∷ [] ≡ reduce_reads dialect reduction gs) × (o ≡ reduce_writes dialect reduction gs)
+  reduce_back : (f a : List Cell) (o : Columns) → reduce_made dialect reduction (f ∷ a ∷ []) ≡ Some o → (gs : List (Reduced dialect reduction))
+      × (f ∷ a ∷ [] ≡ reduce_reads dialect reduction gs) × (o ≡ reduce_writes dialect reduction gs)
   reduce_back f a o e =
       let s0 = map_gives _ _ e in
       let s1 = bind_gives (numbers f) _ s0.1 in
@@ -208,7 +243,8 @@ module _ (dialect : Dialect) (reduction : Reduction) where
       let c = cut_back s1.0 s2.0 s3.0 s3.1 in
       let g = each_back {Z = Reduced dialect reduction} reduce_at (λ g. g.0) (λ g. g.1) (λ xs k e. ((xs, k, ok_gives (reduction_of dialect reduction xs) e), refl, refl)) s3.0 s0.0 s3.2 in (
         g.0,
-        ap₂ (λ f a. f ∷ a ∷ []) (numbers_back f s1.0 s1.1 ∙ ap flags (c.0 ∙ ap lengths g.1 ∙ lengths_map (λ g. g.0) g.0)) (scalars_back a s2.0 s2.1 ∙ ap scalar_cells (c.1 ∙ ap concatenation g.1) ∙ sym (encoded_groups cell_of_scalar (λ g. g.0) g.0)),
+        ap₂ (λ f a. f ∷ a ∷ []) (numbers_back f s1.0 s1.1 ∙ ap flags (c.0 ∙ ap lengths g.1 ∙ lengths_map (λ g. g.0) g.0))
+            (scalars_back a s2.0 s2.1 ∙ ap scalar_cells (c.1 ∙ ap concatenation g.1) ∙ sym (encoded_groups cell_of_scalar (λ g. g.0) g.0)),
         s0.2 ∙ ap (λ l. l ∷ []) (ap scalar_cells g.2 ∙ map_map cell_of_scalar (λ g. g.1) g.0),
       )
 
@@ -251,7 +287,8 @@ module _ (dialect : Dialect) where
   length_from : (f r : List Cell) → LengthRow dialect f r → length_made dialect (f ∷ []) ≡ Some (r ∷ [])
   length_from f r row =
       let g = in_range row.ns row.in_range in
-      let each_is : each ranged_at row.ns ≡ Some (map pos row.ns) = ap (each ranged_at) g.1 ∙ each_forth ranged_at (λ x. x.0) (λ x. pos x.0) ranged_forth g.0 ∙ ap Some (sym (map_map pos (λ x. x.0) g.0) ∙ ap (map pos) (sym g.1)) in
+      let each_is : each ranged_at row.ns ≡ Some (map pos row.ns) = ap (each ranged_at) g.1
+      ∙ each_forth ranged_at (λ x. x.0) (λ x. pos x.0) ranged_forth g.0 ∙ ap Some (sym (map_map pos (λ x. x.0) g.0) ∙ ap (map pos) (sym g.1)) in
       ap (λ f. length_made dialect (f ∷ [])) row.f_is
       ∙ rw (numbers_forth row.ns, each_is) (ap (λ r. Some (r ∷ [])) (map_map int pos row.ns ∙ sym row.r_is))
 

@@ -88,8 +88,12 @@ pack_back kind b a o e =
     let s2 = bind_gives (items_of_kind kind a) _ s1.2 in
     let s3 = map_gives kept (paired s1.0 s2.0) s2.2 in
     let p = paired_back s1.0 s2.0 s3.0 s3.1 in
-    let k = items_back kind a s2.0 s2.1 in
-    ((s3.0, subst (AllOf kind) p.1 k.1), ap₂ (λ b a. b ∷ a ∷ []) (truths_back b s1.0 s1.1 ∙ ap (map flag) p.0 ∙ map_map flag (λ x. x.0) s3.0) (k.0 ∙ p.1), s0.2 ∙ ap (λ l. l ∷ []) (s3.2 ∙ kept_is s3.0))
+    let k = items_back kind a s2.0 s2.1 in (
+      (s3.0, subst (AllOf kind) p.1 k.1),
+      ap₂ (λ b a. b ∷ a ∷ []) (truths_back b s1.0 s1.1 ∙ ap (map flag) p.0 ∙ map_map flag (λ x. x.0) s3.0) (k.0 ∙ p.1),
+      s0.2
+          ∙ ap (λ l. l ∷ []) (s3.2 ∙ kept_is s3.0),
+    )
 
 pub pack_row : (kind : Kind) → IsFunction (PackRow kind) (pack_made kind) 2 1
 pack_row kind = function_of {X = PackCase kind} (λ x. pack_reads x.0) (λ x. items_kept x.0 ∷ []) (pack_made kind) 2 1 (pack_forth kind) (λ i. pack_back kind (i 0) (i 1))
@@ -125,9 +129,16 @@ InterleaveCase kind = (xs : Sides Cell) × AllOfSides kind xs
 interleave_row_forth : (kind : Kind) (x : InterleaveCase kind) → interleave_made kind (interleave_reads x.0) ≡ Some (alternated x.0 ∷ [])
 interleave_row_forth kind x =
     let xs = x.0 in
-    rw (numbers_forth (lengths (lefts xs)), numbers_forth (lengths (rights xs)), items_forth kind (concatenation (lefts xs)) (all_left kind xs x.1), items_forth kind (concatenation (rights xs)) (all_right kind xs x.1), interleave_forth xs) refl
+    rw (
+      numbers_forth (lengths (lefts xs)),
+      numbers_forth (lengths (rights xs)),
+      items_forth kind (concatenation (lefts xs)) (all_left kind xs x.1),
+      items_forth kind (concatenation (rights xs)) (all_right kind xs x.1),
+      interleave_forth xs,
+    ) refl
 
-interleave_row_back : (kind : Kind) (f g a b : List Cell) (o : Columns) → interleave_made kind (f ∷ g ∷ a ∷ b ∷ []) ≡ Some o → (x : InterleaveCase kind) × (f ∷ g ∷ a ∷ b ∷ [] ≡ interleave_reads x.0) × (o ≡ alternated x.0 ∷ [])
+interleave_row_back : (kind : Kind) (f g a b : List Cell) (o : Columns) → interleave_made kind (f ∷ g ∷ a ∷ b ∷ []) ≡ Some o →
+    (x : InterleaveCase kind) × (f ∷ g ∷ a ∷ b ∷ [] ≡ interleave_reads x.0) × (o ≡ alternated x.0 ∷ [])
 interleave_row_back kind f g a b o e =
     let s0 = map_gives _ _ e in
     let s1 = bind_gives (numbers f) _ s0.1 in
@@ -142,4 +153,6 @@ interleave_row_back kind f g a b o e =
     ((h.sides, all_sides kind h.sides (subst (AllOf kind) h.us_are k.1) (subst (AllOf kind) h.vs_are l.1)), four f_is g_is (k.0 ∙ h.us_are) (l.0 ∙ h.vs_are), s0.2 ∙ ap (λ l. l ∷ []) h.r_is)
 
 pub interleave_row : (kind : Kind) → IsFunction (InterleaveRow kind) (interleave_made kind) 4 1
-interleave_row kind = function_of {X = InterleaveCase kind} (λ x. interleave_reads x.0) (λ x. alternated x.0 ∷ []) (interleave_made kind) 4 1 (interleave_row_forth kind) (λ i. interleave_row_back kind (i 0) (i 1) (i 2) (i 3))
+interleave_row kind =
+    function_of {X = InterleaveCase kind} (λ x. interleave_reads x.0) (λ x. alternated x.0 ∷ []) (interleave_made kind) 4 1
+    (interleave_row_forth kind) (λ i. interleave_row_back kind (i 0) (i 1) (i 2) (i 3))

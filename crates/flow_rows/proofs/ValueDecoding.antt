@@ -123,7 +123,8 @@ groups_made item (g ∷ gs) are =
 
 -- groups of values
 
-pub grouped_forth : (item : Ty) (gs : List (List Value)) → values item (columns_of_values item (concatenation gs)) ≡ Some (concatenation gs) → grouped (flags (lengths gs)) (values item (columns_of_values item (concatenation gs))) ≡ Some gs
+pub grouped_forth : (item : Ty) (gs : List (List Value)) → values item (columns_of_values item (concatenation gs)) ≡ Some (concatenation gs) →
+    grouped (flags (lengths gs)) (values item (columns_of_values item (concatenation gs))) ≡ Some gs
 grouped_forth item gs e = rw (numbers_forth (lengths gs), e) (cut_forth gs)
 
 pub grouped_back : (f : List Cell) (o : Option (List Value)) (gs : List (List Value)) → grouped f o ≡ Some gs → (f ≡ flags (lengths gs)) × (o ≡ Some (concatenation gs))
@@ -197,15 +198,23 @@ values_forth (pair first second) vs are =
     let l = map (λ p. p.0) ps in
     let r = map (λ p. p.1) ps in
     let apart = pairs_apart first second ps (subst (AllAre (pair first second)) g.1 are) in
-    let laid_are : columns_of_values (pair first second) vs ≡ columns_of_values first l ++ columns_of_values second r = ap (columns_of_values (pair first second)) g.1 ∙ laid_pair first second (map a_pair_of ps) ∙ ap₂ (λ a b. columns_of_values first a ++ columns_of_values second b) (lefts_of ps) (rights_of ps) in
-    let left : values first (take (width first) (columns_of_values first l ++ columns_of_values second r)) ≡ Some l = ap (values first) (front_columns (width first) (columns_of_values first l) (columns_of_values second r) (laid_length first l)) ∙ values_forth first l apart.0 in
-    let right : values second (drop (width first) (columns_of_values first l ++ columns_of_values second r)) ≡ Some r = ap (values second) (after_columns (width first) (columns_of_values first l) (columns_of_values second r) (laid_length first l)) ∙ values_forth second r apart.1 in
+    let laid_are : columns_of_values (pair first second) vs ≡ columns_of_values first l ++ columns_of_values second r =
+    ap (columns_of_values (pair first second)) g.1 ∙ laid_pair first second (map a_pair_of ps)
+    ∙ ap₂ (λ a b. columns_of_values first a ++ columns_of_values second b) (lefts_of ps) (rights_of ps) in
+    let left : values first (take (width first) (columns_of_values first l ++ columns_of_values second r)) ≡ Some l =
+    ap (values first) (front_columns (width first) (columns_of_values first l) (columns_of_values second r) (laid_length first l))
+    ∙ values_forth first l apart.0 in
+    let right : values second (drop (width first) (columns_of_values first l ++ columns_of_values second r)) ≡ Some r =
+    ap (values second) (after_columns (width first) (columns_of_values first l) (columns_of_values second r) (laid_length first l))
+    ∙ values_forth second r apart.1 in
     ap (values (pair first second)) laid_are ∙ rw (left, right, paired_forth ps) (ap Some (sym g.1))
 values_forth (seq item) vs are =
     let g = all_map (seq item) a_seq_of (seq_is item) vs are in
     let gs = g.0 in
     let items_are = groups_apart item gs (subst (AllAre (seq item)) g.1 are) in
-    let laid_are : columns_of_values (seq item) vs ≡ flags (lengths gs) ∷ columns_of_values item (concatenation gs) = ap (columns_of_values (seq item)) g.1 ∙ laid_seq item (map a_seq_of gs) ∙ ap (λ gs. flags (lengths gs) ∷ columns_of_values item (concatenation gs)) (elements_made gs) in
+    let laid_are : columns_of_values (seq item) vs ≡ flags (lengths gs) ∷ columns_of_values item (concatenation gs) =
+    ap (columns_of_values (seq item)) g.1 ∙ laid_seq item (map a_seq_of gs)
+    ∙ ap (λ gs. flags (lengths gs) ∷ columns_of_values item (concatenation gs)) (elements_made gs) in
     ap (values (seq item)) laid_are ∙ ap (option_map (map a_seq_of)) (grouped_forth item gs (values_forth item (concatenation gs) items_are)) ∙ ap Some (sym g.1)
 
 pub values_back : (ty : Ty) (all : Columns) (vs : List Value) → values ty all ≡ Some vs → (all ≡ columns_of_values ty vs) × AllAre ty vs
@@ -232,14 +241,20 @@ values_back (pair first second) all vs e =
     let p = paired_back s1.0 s2.0 ps s3.1 in
     let l = values_back first (take (width first) all) s1.0 s1.1 in
     let r = values_back second (drop (width first) all) s2.0 s2.1 in
-    let laid_are : columns_of_values (pair first second) vs ≡ columns_of_values first s1.0 ++ columns_of_values second s2.0 = ap (columns_of_values (pair first second)) s3.2 ∙ laid_pair first second (map a_pair_of ps) ∙ ap₂ (λ a b. columns_of_values first a ++ columns_of_values second b) (lefts_of ps ∙ sym p.0) (rights_of ps ∙ sym p.1) in
-    (sym (take-append-drop (width first) all) ∙ ap₂ (λ a b. a ++ b) l.0 r.0 ∙ sym laid_are, subst (AllAre (pair first second)) (sym s3.2) (pairs_made first second ps (subst (AllAre first) p.0 l.1) (subst (AllAre second) p.1 r.1)))
+    let laid_are : columns_of_values (pair first second) vs ≡ columns_of_values first s1.0 ++ columns_of_values second s2.0 =
+    ap (columns_of_values (pair first second)) s3.2 ∙ laid_pair first second (map a_pair_of ps)
+    ∙ ap₂ (λ a b. columns_of_values first a ++ columns_of_values second b) (lefts_of ps ∙ sym p.0) (rights_of ps ∙ sym p.1) in (
+      sym (take-append-drop (width first) all) ∙ ap₂ (λ a b. a ++ b) l.0 r.0 ∙ sym laid_are,
+      subst (AllAre (pair first second)) (sym s3.2) (pairs_made first second ps (subst (AllAre first) p.0 l.1) (subst (AllAre second) p.1 r.1)),
+    )
 values_back (seq item) (f ∷ others) vs e =
     let s = map_gives (map a_seq_of) (grouped f (values item others)) e in
     let gs = s.0 in
     let g = grouped_back f (values item others) gs s.1 in
     let ih = values_back item others (concatenation gs) g.1 in
-    let laid_are : columns_of_values (seq item) vs ≡ flags (lengths gs) ∷ columns_of_values item (concatenation gs) = ap (columns_of_values (seq item)) s.2 ∙ laid_seq item (map a_seq_of gs) ∙ ap (λ gs. flags (lengths gs) ∷ columns_of_values item (concatenation gs)) (elements_made gs) in
+    let laid_are : columns_of_values (seq item) vs ≡ flags (lengths gs) ∷ columns_of_values item (concatenation gs) =
+    ap (columns_of_values (seq item)) s.2 ∙ laid_seq item (map a_seq_of gs)
+    ∙ ap (λ gs. flags (lengths gs) ∷ columns_of_values item (concatenation gs)) (elements_made gs) in
     (ap₂ (λ f cs. f ∷ cs) g.0 ih.0 ∙ sym laid_are, subst (AllAre (seq item)) (sym s.2) (groups_made item gs ih.1))
 values_back (seq item) [] vs e = absurd (cc)
 

@@ -19,7 +19,8 @@ use Rattle.flow_rows.proofs.Options.{bind_gives, map_gives, only_if_gives, only_
 use Rattle.flow_rows.proofs.Decoding.{integers_back}
 use Rattle.flow_rows.proofs.SegmentRows.{same_column}
 use Rattle.flow_rows.proofs.Edges.{laid_seq, laid_is}
-use Rattle.flow_rows.proofs.ValueDecoding.{AllAre, list_values, values_list, all_split, all_cons, all_joined, all_apart, grouped_forth, grouped_back, data_vectors_forth, data_vectors_back, values_forth, values_back}
+use Rattle.flow_rows.proofs.ValueDecoding.{AllAre, list_values, values_list, all_split, all_cons, all_joined, all_apart, grouped_forth, grouped_back}
+use Rattle.flow_rows.proofs.ValueDecoding.{data_vectors_forth, data_vectors_back, values_forth, values_back}
 
 -- Print
 
@@ -135,7 +136,12 @@ index_from item v i o row =
     let all = row.all in
     let v_is : v ≡ map datum (vectors_of all) = row.v_is ∙ sym (map_map datum (λ x. a_vec x.vector) all) in
     ap₂ (λ v i. index_made item (v ∷ i ∷ [])) v_is row.i_is
-    ∙ rw (data_vectors_forth item (vectors_of all) (picked_vectors item all), each_forth integer_in (λ x. int x.index) (λ x. x.index) (λ x. refl) all, paired_map (λ x. a_vec x.vector) (λ x. x.index) all, each_forth picked (λ x. (a_vec x.vector, x.index)) (λ x. x.element) (λ x. x.found) all)
+    ∙ rw (
+      data_vectors_forth item (vectors_of all) (picked_vectors item all),
+      each_forth integer_in (λ x. int x.index) (λ x. x.index) (λ x. refl) all,
+      paired_map (λ x. a_vec x.vector) (λ x. x.index) all,
+      each_forth picked (λ x. (a_vec x.vector, x.index)) (λ x. x.element) (λ x. x.found) all,
+    )
     (ap Some (sym ((laid_is item o (map (λ x. x.element) all)).0 row.edges_are)))
 
 picked_back : (item : Ty) (ps : List (Value × ℤ)) (es : List Value) → AllAre (vec item) (map (λ p. p.0) ps) → each picked ps ≡ Some es →

@@ -15,7 +15,10 @@ use Rattle.flow_folds.specs.Rows.{ScanAddRow, ReduceRow, LengthRow}
 use Rattle.flow_segment.specs.Rows.{DistRow, PackRow, PackGroupsRow, FlagOfBoolRow, SameFlagsRow, ConcatFlagsRow, PartFlagsRow, TheCheckRow, AppendFlagsRow, InterleaveRow, InterleaveGroupsRow}
 use Rattle.flow_values.specs.Rows.{PrintRow, TabRow, SeqRow, IndexRow}
 use Rattle.flow_values.specs.Flats.{width}
-use Rattle.flow_rows.specs.Made.{source_made, const_made, unary_made, binary_made, fork_made, sink_made, iota_made, units_of_made, scan_add_made, reduce_made, length_made, dist_made, pack_made, pack_groups_made, flag_of_bool_made, same_flags_made, concat_flags_made, part_flags_made, the_check_made, append_flags_made, interleave_made, interleave_groups_made, print_made, tab_made, seq_made, index_made}
+use Rattle.flow_rows.specs.Made.{source_made, const_made, unary_made, binary_made, fork_made, sink_made, iota_made, units_of_made, scan_add_made}
+use Rattle.flow_rows.specs.Made.{reduce_made, length_made, dist_made, pack_made, pack_groups_made, flag_of_bool_made, same_flags_made}
+use Rattle.flow_rows.specs.Made.{concat_flags_made, part_flags_made, the_check_made, append_flags_made, interleave_made, interleave_groups_made}
+use Rattle.flow_rows.specs.Made.{print_made, tab_made, seq_made, index_made}
 
 -- the row, over so many inputs and outputs, holds exactly where this function of the columns that come in gives the columns
 -- that go out

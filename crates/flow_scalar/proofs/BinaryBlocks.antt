@@ -67,7 +67,9 @@ module _ (dialect : Dialect) (op : BinaryOperator) where
     abbrev pub Block : List ℤ → List ℤ → List A → ℕ → Type 0
     Block xs ys zs n = Pairs (int_signals (take n xs)) (int_signals (take n ys)) (values_said said (take n zs)) (3 * n)
 
-    block_more : (xs ys : List ℤ) (zs : List A) (n : ℕ) → n < length xs → n < length ys → n < length zs → binary_value dialect op (Int (get_or xs n (pos 0))) (Int (get_or ys n (pos 0))) ≡ Ok (said (get_or zs n none)) → Block xs ys zs n → Block xs ys zs (n + 1)
+    block_more : (xs ys : List ℤ) (zs : List A) (n : ℕ) → n < length xs → n < length ys → n < length zs →
+        binary_value dialect op (Int (get_or xs n (pos 0))) (Int (get_or ys n (pos 0))) ≡ Ok (said (get_or zs n none)) → Block xs ys zs n →
+        Block xs ys zs (n + 1)
     block_more xs ys zs n in_xs in_ys in_zs value made =
         let m = binary_machine in
         let p : Dialect × BinaryOperator = (dialect, op) in
@@ -78,11 +80,14 @@ module _ (dialect : Dialect) (op : BinaryOperator) where
         let tell = λ (k : A). carry (cell_of_scalar (said k)) in
         let count : 3 * n + 3 ≡ 3 * (n + 1) = omega arith in
         let more = single_then m p (int_signals (take n xs)) (int_signals (take n ys)) (values_said said (take n zs)) (say x ∷ []) (say y ∷ []) (tell z ∷ []) made (pair x y (said z) value) in
-        ran_as m p more (int_signals (take (n + 1) xs)) (int_signals (take (n + 1) ys)) (only (values_said said (take (n + 1) zs))) (3 * (n + 1)) (one_more say xs n (pos 0) in_xs) (one_more say ys n (pos 0) in_ys) (λ q. ap (λ l. only l q) (one_more tell zs n none in_zs)) count
+        ran_as m p more (int_signals (take (n + 1) xs)) (int_signals (take (n + 1) ys)) (only (values_said said (take (n + 1) zs))) (3 * (n + 1))
+        (one_more say xs n (pos 0) in_xs) (one_more say ys n (pos 0) in_ys) (λ q. ap (λ l. only l q) (one_more tell zs n none in_zs)) count
 
     -- pairs at which there are values are instances
     pub block : (xs ys : List ℤ) (zs : List A) (n : ℕ) → n ≤ length xs → n ≤ length ys → n ≤ length zs → ValuesAt xs ys zs n → Block xs ys zs n
     block xs ys zs zero in_xs in_ys in_zs values = single_none binary_machine (dialect, op) Start
     block xs ys zs (suc n) in_xs in_ys in_zs values =
         let is : n + 1 ≡ suc n = omega arith in
-        subst (Block xs ys zs) is (block_more xs ys zs n (omega arith) (omega arith) (omega arith) (values n (omega arith)) (block xs ys zs n (omega arith) (omega arith) (omega arith) (λ k below. values k (omega arith))))
+        subst (Block xs ys zs) is
+        (block_more xs ys zs n (omega arith) (omega arith) (omega arith) (values n (omega arith))
+        (block xs ys zs n (omega arith) (omega arith) (omega arith) (λ k below. values k (omega arith))))

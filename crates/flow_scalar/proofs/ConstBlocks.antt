@@ -45,4 +45,5 @@ const_steps k (suc n) =
     let wrote = single_write m k true false (cell_of_scalar k) refl refl refl in
     let one = single_then m k (carry unit ∷ []) [] [] [] [] (carry (cell_of_scalar k) ∷ []) read wrote in
     let steps : (1 + 1) + 2 * n ≡ 2 * suc n = omega arith in
-    subst (Single m k false false (unit_signals (suc n)) [] (copies (cell_of_scalar k) (suc n))) steps (single_then m k (carry unit ∷ []) [] (carry (cell_of_scalar k) ∷ []) (unit_signals n) [] (copies (cell_of_scalar k) n) one (const_steps k n))
+    subst (Single m k false false (unit_signals (suc n)) [] (copies (cell_of_scalar k) (suc n))) steps
+    (single_then m k (carry unit ∷ []) [] (carry (cell_of_scalar k) ∷ []) (unit_signals n) [] (copies (cell_of_scalar k) n) one (const_steps k n))

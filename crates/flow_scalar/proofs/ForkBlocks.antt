@@ -1,5 +1,6 @@
 -- Copies of items, to each output.
-use Rattle.std.proofs.Common.{◌≡◌, ℕ, ℤ, pos, slice_index_or, zero, suc, ◌+◌, ◌-◌, ◌*◌, ◌<◌, ◌≤◌, Bool, true, false, cond, eqb, nat_lt, List, [], ◌∷◌, ◌++◌, length, take, Ok, Err, refl, sym, ◌∙◌, ap, subst, arith, append-nil, eq-eqb, ne_eqb, inl, inr}
+use Rattle.std.proofs.Common.{◌≡◌, ℕ, ℤ, pos, slice_index_or, zero, suc, ◌+◌, ◌-◌, ◌*◌, ◌<◌, ◌≤◌, Bool, true, false, cond, eqb, nat_lt, List, [], ◌∷◌}
+use Rattle.std.proofs.Common.{◌++◌, length, take, Ok, Err, refl, sym, ◌∙◌, ap, subst, arith, append-nil, eq-eqb, ne_eqb, inl, inr}
 use Rattle.std.proofs.lemmas.Bool.{cases_eq, cases_lt}
 use Rattle.std.proofs.lemmas.Bool.Decides.{nat_tests}
 use Rattle.std.proofs.Math.Seq.{take-length}
@@ -120,7 +121,8 @@ module _ (p : ForkPorts) where
       let all : List Signal = carry x ∷ block in
       let first = one x (kind_fits (is_of p.kind x) tt fits) in
       let steps : (1 + suc p.others) + (n + suc p.others * n) ≡ suc n + suc p.others * suc n = grind arith in
-      ran_as m p (ran_then m p first (copies block more)) all [] (to_first (suc p.others) all) (suc n + suc p.others * suc n) refl refl (λ q. block_then (nat_lt q (suc p.others)) (carry x ∷ []) block) steps
+      ran_as m p (ran_then m p first (copies block more)) all [] (to_first (suc p.others) all) (suc n + suc p.others * suc n) refl refl
+      (λ q. block_then (nat_lt q (suc p.others)) (carry x ∷ []) block) steps
   copies (stop ∷ block) (fits, more) = absurd fits
 
   -- copies of what was shown
@@ -141,7 +143,8 @@ module _ (p : ForkPorts) where
           ints = room;
           steps = may;
         };
-        ran = ran_as m p (copies items copied.fits) items [] (written_at m p block made) (n + suc p.others * n) refl refl (λ q. ap (λ l. to_first (suc p.others) l q) (copied.lie (n + suc p.others * n))) steps;
+        ran = ran_as m p (copies items copied.fits) items [] (written_at m p block made) (n + suc p.others * n) refl refl
+            (λ q. ap (λ l. to_first (suc p.others) l q) (copied.lie (n + suc p.others * n))) steps;
       }
 
 -- what is shown of the kind, and lies in the block
@@ -154,7 +157,8 @@ copied_units kind s block count n of_kind seen within =
       lie = λ steps. sym is;
     })
 
-pub copied_flags : (kind : Kind) (s : Shown) (block : Written) (flags : List Bool) (n : ℕ) → kind ≡ BoolKind → IsPrefix (flag_signals flags) (shown_signals s) → n ≤ length flags → take n block.flags ≡ take n flags → Copied kind n (shown_signals s) block
+pub copied_flags : (kind : Kind) (s : Shown) (block : Written) (flags : List Bool) (n : ℕ) → kind ≡ BoolKind →
+    IsPrefix (flag_signals flags) (shown_signals s) → n ≤ length flags → take n block.flags ≡ take n flags → Copied kind n (shown_signals s) block
 copied_flags kind s block flags n of_kind seen within same =
     let is : flag_signals (take n flags) ≡ take n (shown_signals s) = flags_shown s flags n seen within in
     subst (λ k. Copied k n (shown_signals s) block) (sym of_kind) (record {
@@ -163,7 +167,8 @@ copied_flags kind s block flags n of_kind seen within same =
       lie = λ steps. sym is ∙ ap flag_signals (sym same);
     })
 
-pub copied_ints : (kind : Kind) (s : Shown) (block : Written) (numbers : List ℤ) (n : ℕ) → kind ≡ IntKind → IsPrefix (int_signals numbers) (shown_signals s) → n ≤ length numbers → take n block.ints ≡ take n numbers → Copied kind n (shown_signals s) block
+pub copied_ints : (kind : Kind) (s : Shown) (block : Written) (numbers : List ℤ) (n : ℕ) → kind ≡ IntKind →
+    IsPrefix (int_signals numbers) (shown_signals s) → n ≤ length numbers → take n block.ints ≡ take n numbers → Copied kind n (shown_signals s) block
 copied_ints kind s block numbers n of_kind seen within same =
     let is : int_signals (take n numbers) ≡ take n (shown_signals s) = ints_shown s numbers n seen within in
     subst (λ k. Copied k n (shown_signals s) block) (sym of_kind) (record {
@@ -201,15 +206,18 @@ one_put v w f x put =
 
 -- a fork writes the item to its next output
 pub one_copy_more : (inputs outputs : List ℕ) (p : ForkPorts) (x : Cell) (left q at : ℕ) {s : NodeState (ForkPorts × ForkState)} {a v w : View} {n : ℕ} → q < length outputs → q ≡ p.others - left →
-    Went inputs outputs (behaviour_of fork_machine) s a (node_state (p, holding x left) Working at) v n → Wrote v (edge_of outputs q) (carry x) w → Went inputs outputs (behaviour_of fork_machine) s a (node_state (p, owing x left) Working at) w (n + 1)
+    Went inputs outputs (behaviour_of fork_machine) s a (node_state (p, holding x left) Working at) v n → Wrote v (edge_of outputs q) (carry x) w →
+    Went inputs outputs (behaviour_of fork_machine) s a (node_state (p, owing x left) Working at) w (n + 1)
 one_copy_more inputs outputs p x left q at {s} {a} {v} {w} {n} there is went wrote =
     let move = gives_next p x left in
     let state : Move ForkState → NodeState (ForkPorts × ForkState) = λ m. node_state (p, state_after_write (holding x left) m) Working at in
-    went_write (behaviour_of fork_machine) inputs outputs went q (carry x) (node_state (p, owing x left) Working at) w there (ap (λ m. want_for (ask_of m)) move ∙ ap Write (sym is)) (sym (ap (λ m. carry (written_cell m)) move)) wrote (sym (ap state move))
+    went_write (behaviour_of fork_machine) inputs outputs went q (carry x) (node_state (p, owing x left) Working at) w there
+    (ap (λ m. want_for (ask_of m)) move ∙ ap Write (sym is)) (sym (ap (λ m. carry (written_cell m)) move)) wrote (sym (ap state move))
 
 -- it looks for room at its next output, and gives the item there
 pub gave : (inputs outputs : List ℕ) (kind : Kind) (n next : ℕ) (x : Cell) (at : ℕ) {s : NodeState (ForkPorts × ForkState)} {a v u w : View} {k : ℕ} → n ≡ length outputs → next < n →
-    Went inputs outputs (behaviour_of fork_machine) s a (node_state (fork_ports kind n, holding x (n - (next + 1))) Working at) v k → LookedForRoom v (edge_of outputs next) u → Wrote u (edge_of outputs next) (carry x) w →
+    Went inputs outputs (behaviour_of fork_machine) s a (node_state (fork_ports kind n, holding x (n - (next + 1))) Working at) v k →
+    LookedForRoom v (edge_of outputs next) u → Wrote u (edge_of outputs next) (carry x) w →
     Went inputs outputs (behaviour_of fork_machine) s a (node_state (fork_ports kind n, owing x (n - (next + 1))) Working at) w (k + 1)
 gave inputs outputs kind n next x at counts below went looked wrote =
     let there : next < length outputs = omega (arith, counts, below) in

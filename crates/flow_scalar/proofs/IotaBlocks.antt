@@ -1,5 +1,6 @@
 -- Steps of Iota along integers: a flag and a number for each of many numbers.
-use Rattle.std.proofs.Common.{◌≡◌, ℕ, zero, suc, ◌+◌, ◌-◌, ◌*◌, ◌<◌, ◌≤◌, ℤ, pos, negsuc, ◌+ℤ◌, ◌≤ℤ◌, Bool, true, false, cond, not, eqb, nat_lt, List, [], ◌∷◌, ◌++◌, length, take, set, get_or, refl, sym, ◌∙◌, ap, subst, arith, append-nil, append_assoc, ne_eqb}
+use Rattle.std.proofs.Common.{◌≡◌, ℕ, zero, suc, ◌+◌, ◌-◌, ◌*◌, ◌<◌, ◌≤◌, ℤ, pos, negsuc, ◌+ℤ◌, ◌≤ℤ◌, Bool, true, false, cond, not, eqb, nat_lt, List}
+use Rattle.std.proofs.Common.{[], ◌∷◌, ◌++◌, length, take, set, get_or, refl, sym, ◌∙◌, ap, subst, arith, append-nil, append_assoc, ne_eqb}
 use Rattle.std.specs.Prelude.{Ok, int_lt, replicate}
 use Rattle.std.proofs.lemmas.Bool.Decides.{nat_tests}
 use Rattle.std.proofs.lemmas.Int.{ints}
@@ -23,7 +24,8 @@ fill_none xs from =
     let same : from + 0 ≡ from = omega arith in
     ap (λ n. take n xs) same ∙ sym (append-nil (take from xs))
 
-pub fill_more : {X : Type 0} (xs before ys : List X) (from n : ℕ) (y : X) → from + n < length xs → take (from + n) xs ≡ before ++ ys → take (from + (n + 1)) (set xs (from + n) y) ≡ before ++ (ys ++ y ∷ [])
+pub fill_more : {X : Type 0} (xs before ys : List X) (from n : ℕ) (y : X) → from + n < length xs → take (from + n) xs ≡ before ++ ys →
+    take (from + (n + 1)) (set xs (from + n) y) ≡ before ++ (ys ++ y ∷ [])
 fill_more xs before ys from n y there filled =
     let same : from + (n + 1) ≡ (from + n) + 1 = omega arith in
     ap (λ k. take k (set xs (from + n) y)) same ∙ take_more_set xs (from + n) y there ∙ ap (λ l. l ++ y ∷ []) filled ∙ append_assoc before ys (y ∷ [])
@@ -73,7 +75,9 @@ numbered_none : (s : Iota) → Numbered s s [] [] [] 0
 numbered_none s = ran_as iota_machine tt (ran_none iota_machine tt s) [] [] (written [] []) 0 refl refl (λ q. both_none (eqb q 0) (eqb q 1)) refl
 
 numbered_then : {s t u : Iota} {n k : ℕ} (xs fs ns xs' fs' ns' : List Signal) → Numbered s t xs fs ns n → Numbered t u xs' fs' ns' k → Numbered s u (xs ++ xs') (fs ++ fs') (ns ++ ns') (n + k)
-numbered_then {n = n} {k = k} xs fs ns xs' fs' ns' before after = ran_as iota_machine tt (ran_then iota_machine tt before after) (xs ++ xs') [] (written (fs ++ fs') (ns ++ ns')) (n + k) refl refl (λ q. both_then (eqb q 0) (eqb q 1) fs ns fs' ns') refl
+numbered_then {n = n} {k = k} xs fs ns xs' fs' ns' before after =
+    ran_as iota_machine tt (ran_then iota_machine tt before after) (xs ++ xs') [] (written (fs ++ fs') (ns ++ ns')) (n + k) refl refl
+    (λ q. both_then (eqb q 0) (eqb q 1) fs ns fs' ns') refl
 
 -- it writes a flag
 flagged : (next end : ℤ) (below : Bool) (t : Iota) → int_lt next end ≡ below → cond below (Number next end) Between ≡ t → Numbered (Flag next end) t [] (carry (flag (not below)) ∷ []) [] 1
@@ -123,21 +127,30 @@ Rounds s next end counts flags numbered read made = Numbered s (Flag next end) (
 pub no_rounds : (next end : ℤ) (counts : List ℤ) (flags : List Bool) (numbered : List ℤ) → Rounds (Flag next end) next end counts flags numbered 0 0
 no_rounds next end counts flags numbered = numbered_none (Flag next end)
 
-pub more_numbers : {s : Iota} (next end : ℤ) (counts : List ℤ) (flags flags' : List Bool) (numbered numbered' : List ℤ) (read made n : ℕ) → read ≤ made → (next +ℤ pos n) ≤ℤ end → take (made + n) flags' ≡ take made flags ++ replicate n false → take ((made - read) + n) numbered' ≡ take (made - read) numbered ++ numbers_from next n →
+pub more_numbers : {s : Iota} (next end : ℤ) (counts : List ℤ) (flags flags' : List Bool) (numbered numbered' : List ℤ) (read made n : ℕ) →
+    read ≤ made → (next +ℤ pos n) ≤ℤ end → take (made + n) flags' ≡ take made flags ++ replicate n false → take ((made - read) + n) numbered'
+    ≡ take (made - read) numbered ++ numbers_from next n →
     Rounds s next end counts flags numbered read made → Rounds s (next +ℤ pos n) end counts flags' numbered' read (made + n)
 more_numbers {s} next end counts flags flags' numbered numbered' read made n before below put_flags put_numbers rounds =
     let xs = int_signals (take read counts) in
     let fs = take made flags in
     let ns = take (made - read) numbered in
     let more = numbered_then xs (flag_signals fs) (int_signals ns) [] (flag_signals (replicate n false)) (int_signals (numbers_from next n)) rounds (numbers end n next below) in
-    let same_flags : flag_signals fs ++ flag_signals (replicate n false) ≡ flag_signals (take (made + n) flags') = sym (ap flag_signals put_flags ∙ map-append (λ b. carry (flag b)) fs (replicate n false)) in
+    let same_flags : flag_signals fs ++ flag_signals (replicate n false) ≡ flag_signals (take (made + n) flags') =
+    sym (ap flag_signals put_flags ∙ map-append (λ b. carry (flag b)) fs (replicate n false)) in
     let at : (made + n) - read ≡ (made - read) + n = omega arith in
-    let same_numbers : int_signals ns ++ int_signals (numbers_from next n) ≡ int_signals (take ((made + n) - read) numbered') = sym (ap (λ k. int_signals (take k numbered')) at ∙ ap int_signals put_numbers ∙ map-append (λ k. carry (int k)) ns (numbers_from next n)) in
+    let same_numbers : int_signals ns ++ int_signals (numbers_from next n) ≡ int_signals (take ((made + n) - read) numbered') =
+    sym (ap (λ k. int_signals (take k numbered')) at ∙ ap int_signals put_numbers ∙ map-append (λ k. carry (int k)) ns (numbers_from next n)) in
     let count : 2 * made + 2 * n ≡ 2 * (made + n) = omega arith in
-    ran_as iota_machine tt more xs [] (written (flag_signals (take (made + n) flags')) (int_signals (take ((made + n) - read) numbered'))) (2 * (made + n)) (append-nil xs) refl (λ q. ap (λ l. written l (int_signals ns ++ int_signals (numbers_from next n)) q) same_flags ∙ ap (λ l. written (flag_signals (take (made + n) flags')) l q) same_numbers) count
+    ran_as iota_machine tt more xs [] (written (flag_signals (take (made + n) flags')) (int_signals (take ((made + n) - read) numbered')))
+    (2 * (made + n)) (append-nil xs) refl
+    (λ q. ap (λ l. written l (int_signals ns ++ int_signals (numbers_from next n)) q) same_flags
+    ∙ ap (λ l. written (flag_signals (take (made + n) flags')) l q) same_numbers) count
 
 -- none were left
-pub no_more_numbers : {s : Iota} (next end : ℤ) (counts : List ℤ) (flags flags' : List Bool) (numbered numbered' : List ℤ) (read made n : ℕ) → n ≡ 0 → take (made + n) flags' ≡ take made flags ++ replicate n false → take ((made - read) + n) numbered' ≡ take (made - read) numbered ++ numbers_from next n →
+pub no_more_numbers : {s : Iota} (next end : ℤ) (counts : List ℤ) (flags flags' : List Bool) (numbered numbered' : List ℤ) (read made n : ℕ) → n ≡ 0 →
+    take (made + n) flags' ≡ take made flags ++ replicate n false → take ((made - read) + n) numbered' ≡ take (made - read) numbered
+    ++ numbers_from next n →
     Rounds s next end counts flags numbered read made → Rounds s next end counts flags' numbered' read made
 no_more_numbers {s} next end counts flags flags' numbered numbered' read made n none put_flags put_numbers rounds =
     let xs = int_signals (take read counts) in
@@ -147,21 +160,30 @@ no_more_numbers {s} next end counts flags flags' numbered numbered' read made n 
     let at_numbers : made - read ≡ (made - read) + n = omega (arith, none) in
     let same_flags : fs ≡ take made flags' = sym (ap (λ k. take k flags') at_flags ∙ put_flags ∙ ap (λ k. fs ++ replicate k false) none ∙ append-nil fs) in
     let same_numbers : ns ≡ take (made - read) numbered' = sym (ap (λ k. take k numbered') at_numbers ∙ put_numbers ∙ ap (λ k. ns ++ numbers_from next k) none ∙ append-nil ns) in
-    ran_as iota_machine tt rounds xs [] (written (flag_signals (take made flags')) (int_signals (take (made - read) numbered'))) (2 * made) refl refl (λ q. ap (λ l. written (flag_signals l) (int_signals ns) q) same_flags ∙ ap (λ l. written (flag_signals (take made flags')) (int_signals l) q) same_numbers) refl
+    ran_as iota_machine tt rounds xs [] (written (flag_signals (take made flags')) (int_signals (take (made - read) numbered'))) (2 * made) refl refl
+    (λ q. ap (λ l. written (flag_signals l) (int_signals ns) q) same_flags
+    ∙ ap (λ l. written (flag_signals (take made flags')) (int_signals l) q) same_numbers) refl
 
-pub next_segment : {s : Iota} (next end count : ℤ) (counts : List ℤ) (flags : List Bool) (numbered : List ℤ) (read made : ℕ) → read < length counts → made < length flags → int_lt next end ≡ false → pos 0 ≤ℤ count → count ≡ get_or counts read (pos 0) →
+pub next_segment : {s : Iota} (next end count : ℤ) (counts : List ℤ) (flags : List Bool) (numbered : List ℤ) (read made : ℕ) → read < length counts →
+    made < length flags → int_lt next end ≡ false → pos 0 ≤ℤ count → count ≡ get_or counts read (pos 0) →
     Rounds s next end counts flags numbered read made → Rounds s (pos 0) count counts (set flags made true) numbered (read + 1) (made + 1)
 next_segment {s} next end count counts flags numbered read made in_counts in_flags test natural seen rounds =
     let xs = take read counts in
     let fs = take made flags in
     let ns = int_signals (take (made - read) numbered) in
     let more = numbered_then (int_signals xs) (flag_signals fs) ns (carry (int count) ∷ []) (carry (flag true) ∷ []) [] rounds (one_segment next end count test natural) in
-    let same_counts : int_signals xs ++ carry (int count) ∷ [] ≡ int_signals (take (read + 1) counts) = ap (λ k. int_signals xs ++ carry (int k) ∷ []) seen ∙ sym (ap int_signals (take_more counts read (pos 0) in_counts) ∙ map-append (λ k. carry (int k)) xs (get_or counts read (pos 0) ∷ [])) in
-    let same_flags : flag_signals fs ++ carry (flag true) ∷ [] ≡ flag_signals (take (made + 1) (set flags made true)) = sym (ap flag_signals (take_more_set flags made true in_flags) ∙ map-append (λ b. carry (flag b)) fs (true ∷ [])) in
+    let same_counts : int_signals xs ++ carry (int count) ∷ [] ≡ int_signals (take (read + 1) counts) =
+    ap (λ k. int_signals xs ++ carry (int k) ∷ []) seen
+    ∙ sym (ap int_signals (take_more counts read (pos 0) in_counts) ∙ map-append (λ k. carry (int k)) xs (get_or counts read (pos 0) ∷ [])) in
+    let same_flags : flag_signals fs ++ carry (flag true) ∷ [] ≡ flag_signals (take (made + 1) (set flags made true)) =
+    sym (ap flag_signals (take_more_set flags made true in_flags) ∙ map-append (λ b. carry (flag b)) fs (true ∷ [])) in
     let at : made - read ≡ (made + 1) - (read + 1) = omega arith in
     let same_numbers : ns ++ [] ≡ int_signals (take ((made + 1) - (read + 1)) numbered) = append-nil ns ∙ ap (λ k. int_signals (take k numbered)) at in
     let count : 2 * made + 2 ≡ 2 * (made + 1) = omega arith in
-    ran_as iota_machine tt more (int_signals (take (read + 1) counts)) [] (written (flag_signals (take (made + 1) (set flags made true))) (int_signals (take ((made + 1) - (read + 1)) numbered))) (2 * (made + 1)) same_counts refl (λ q. ap (λ l. written l (ns ++ []) q) same_flags ∙ ap (λ l. written (flag_signals (take (made + 1) (set flags made true))) l q) same_numbers) count
+    ran_as iota_machine tt more (int_signals (take (read + 1) counts)) []
+    (written (flag_signals (take (made + 1) (set flags made true))) (int_signals (take ((made + 1) - (read + 1)) numbered))) (2 * (made + 1))
+    same_counts refl (λ q. ap (λ l. written l (ns ++ []) q) same_flags
+    ∙ ap (λ l. written (flag_signals (take (made + 1) (set flags made true))) l q) same_numbers) count
 
 -- what the two outputs get of a block
 written_to : (block : Written) (made : Moved) (q : ℕ) → written (flag_signals (take made.flags block.flags)) (int_signals (take made.ints block.ints)) q ≡ written_at iota_machine tt block made q
@@ -173,11 +195,15 @@ written_to block made (suc (suc q)) =
     let ns = int_signals (take made.ints block.ints) in
     let not_flags = ne_eqb (suc (suc q)) 0 (λ e. omega (arith, e)) in
     let not_numbers = ne_eqb (suc (suc q)) 1 (λ e. omega (arith, e)) in
-    ap (λ b. cond b fs (cond (eqb (suc (suc q)) 1) ns [])) not_flags ∙ ap (λ b. cond b ns no_messages) not_numbers ∙ ap (λ b. cond b (written_signals block made (iota_kind_out (suc (suc q)))) no_messages) (sym over)
+    ap (λ b. cond b fs (cond (eqb (suc (suc q)) 1) ns [])) not_flags ∙ ap (λ b. cond b ns no_messages) not_numbers
+    ∙ ap (λ b. cond b (written_signals block made (iota_kind_out (suc (suc q)))) no_messages) (sym over)
 
 -- rounds are what it made of what was shown
-pub iota_moves : (s : Iota) (next end : ℤ) (first second : Shown) (space most : ℕ) (block : Written) (counts : List ℤ) (read made : ℕ) → IsPrefix (int_signals counts) (shown_signals first) → read ≤ length counts → read ≤ made → made ≤ space → 2 * made ≤ most →
-    Rounds s next end counts block.flags block.ints read made → MovesAlong iota_machine (tt, s) (tt, Flag next end) first second space most block (record { first = read; second = 0; units = 0; flags = made; ints = made - read; steps = 2 * made })
+pub iota_moves : (s : Iota) (next end : ℤ) (first second : Shown) (space most : ℕ) (block : Written) (counts : List ℤ) (read made : ℕ) →
+    IsPrefix (int_signals counts) (shown_signals first) → read ≤ length counts → read ≤ made → made ≤ space → 2 * made ≤ most →
+    Rounds s next end counts block.flags block.ints read made →
+    MovesAlong iota_machine (tt, s) (tt, Flag next end) first second space most block
+    (record { first = read; second = 0; units = 0; flags = made; ints = made - read; steps = 2 * made })
 iota_moves s next end first second space most block counts read made seen in_counts before room may rounds =
     let moved : Moved = record { first = read; second = 0; units = 0; flags = made; ints = made - read; steps = 2 * made } in
     record {
@@ -189,5 +215,6 @@ iota_moves s next end first second space most block counts read made seen in_cou
         ints = omega (arith, room);
         steps = may;
       };
-      ran = ran_as iota_machine tt rounds (take read (shown_signals first)) [] (written_at iota_machine tt block moved) (2 * made) (ints_shown first counts read seen in_counts) refl (written_to block moved) refl;
+      ran = ran_as iota_machine tt rounds (take read (shown_signals first)) [] (written_at iota_machine tt block moved) (2 * made)
+          (ints_shown first counts read seen in_counts) refl (written_to block moved) refl;
     }

@@ -61,5 +61,7 @@ sink_moves kind first second block space most n count shown_items within may =
         ints = omega arith;
         steps = may;
       };
-      ran = ran_as m kind (sink_steps kind items (fit_first kind count shown_items.block shown_items.fits)) (take count (shown_signals first)) [] (written_at m kind block made) count (sym (shown shown_items.block (shown_signals first) count shown_items.first in_block)) refl (no_output m kind block made refl) long;
+      ran = ran_as m kind (sink_steps kind items (fit_first kind count shown_items.block shown_items.fits)) (take count (shown_signals first)) []
+          (written_at m kind block made) count (sym (shown shown_items.block (shown_signals first) count shown_items.first in_block)) refl
+          (no_output m kind block made refl) long;
     }

@@ -50,7 +50,8 @@ module _ (dialect : Dialect) (op : UnaryOperator) where
       let p : Dialect × UnaryOperator = (dialect, op) in
       let type = unary_operand op in
       let begin = on_operand type (unary_next dialect op) in
-      let leads : state_after_item begin (cell_of_scalar x) ≡ Ok (Some v) = operand_taken type (unary_next dialect op) (cell_of_scalar x) x (takes_it dialect op x v e) ∙ ap (λ r. and_then r (λ k. Ok (Some k))) e in
+      let leads : state_after_item begin (cell_of_scalar x) ≡ Ok (Some v) =
+      operand_taken type (unary_next dialect op) (cell_of_scalar x) x (takes_it dialect op x v e) ∙ ap (λ r. and_then r (λ k. Ok (Some k))) e in
       let read = single_first m p None (Some v) (cell_of_scalar x) refl leads in
       let wrote = single_write m p (Some v) None (cell_of_scalar v) refl refl refl in
       single_then m p (carry (cell_of_scalar x) ∷ []) [] [] [] [] (carry (cell_of_scalar v) ∷ []) read wrote
@@ -72,7 +73,8 @@ module _ (dialect : Dialect) (op : UnaryOperator) where
         let z = get_or zs n none in
         let count : 2 * n + 2 ≡ 2 * (n + 1) = omega arith in
         let more = single_then m p (values_said said (take n xs)) [] (values_said said (take n zs)) (tell x ∷ []) [] (tell z ∷ []) made (one_value (said x) (said z) value) in
-        ran_as m p more (values_said said (take (n + 1) xs)) [] (only (values_said said (take (n + 1) zs))) (2 * (n + 1)) (one_more tell xs n none in_xs) refl (λ q. ap (λ l. only l q) (one_more tell zs n none in_zs)) count
+        ran_as m p more (values_said said (take (n + 1) xs)) [] (only (values_said said (take (n + 1) zs))) (2 * (n + 1))
+        (one_more tell xs n none in_xs) refl (λ q. ap (λ l. only l q) (one_more tell zs n none in_zs)) count
 
     -- operands at which there are values are instances
     pub block : (xs zs : List A) (n : ℕ) → n ≤ length xs → n ≤ length zs → ValuesAt xs zs n → Block xs zs n

@@ -30,9 +30,12 @@ units_of_steps (false ∷ flags) =
     let wrote = single_write m tt true false unit refl refl refl in
     let one = single_then m tt (carry (flag false) ∷ []) [] [] [] [] (carry unit ∷ []) read wrote in
     let steps : (1 + 1) + (length flags + elements flags) ≡ length (false ∷ flags) + elements (false ∷ flags) = omega arith in
-    subst (Single m tt false false (flag_signals (false ∷ flags)) [] (unit_signals (elements (false ∷ flags)))) steps (single_then m tt (carry (flag false) ∷ []) [] (carry unit ∷ []) (flag_signals flags) [] (unit_signals (elements flags)) one (units_of_steps flags))
+    subst (Single m tt false false (flag_signals (false ∷ flags)) [] (unit_signals (elements (false ∷ flags)))) steps
+    (single_then m tt (carry (flag false) ∷ []) [] (carry unit ∷ []) (flag_signals flags) [] (unit_signals (elements flags)) one
+    (units_of_steps flags))
 units_of_steps (true ∷ flags) =
     let m = units_of_machine in
     let one = single_first m tt false false (flag true) refl refl in
     let steps : 1 + (length flags + elements flags) ≡ length (true ∷ flags) + elements (true ∷ flags) = omega arith in
-    subst (Single m tt false false (flag_signals (true ∷ flags)) [] (unit_signals (elements (true ∷ flags)))) steps (single_then m tt (carry (flag true) ∷ []) [] [] (flag_signals flags) [] (unit_signals (elements flags)) one (units_of_steps flags))
+    subst (Single m tt false false (flag_signals (true ∷ flags)) [] (unit_signals (elements (true ∷ flags)))) steps
+    (single_then m tt (carry (flag true) ∷ []) [] [] (flag_signals flags) [] (unit_signals (elements flags)) one (units_of_steps flags))

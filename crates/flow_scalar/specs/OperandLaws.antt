@@ -15,14 +15,16 @@ use Rattle.flow_folds.specs.Scalars.{cell_of_scalar}
 use Rattle.flow_scalar.specs.Operands.{on_operand}
 
 -- an item that carries an operand leads where the operand does
-pub operand_leads : {S : Type 0} (type : ScalarType) (next : Scalar → Result S FaultKind) (k : Scalar) (P : S → Type 0) → type_of k ≡ type → OnNext (next k) P → OnNext (state_after_item (on_operand type next) (cell_of_scalar k)) P
+pub operand_leads : {S : Type 0} (type : ScalarType) (next : Scalar → Result S FaultKind) (k : Scalar) (P : S → Type 0) → type_of k ≡ type →
+    OnNext (next k) P → OnNext (state_after_item (on_operand type next) (cell_of_scalar k)) P
 operand_leads IntType next (Int n) P e h = h
 operand_leads BoolType next (Truth b) P e h = h
 operand_leads IntType next (Truth b) P e h = absurd (cc)
 operand_leads BoolType next (Int n) P e h = absurd (cc)
 
 -- and no other leads on
-pub operand_led : {S : Type 0} (type : ScalarType) (next : Scalar → Result S FaultKind) (x : Cell) (P : S → Type 0) → OnNext (state_after_item (on_operand type next) x) P → (k : Scalar) × (x ≡ cell_of_scalar k) × OnNext (next k) P
+pub operand_led : {S : Type 0} (type : ScalarType) (next : Scalar → Result S FaultKind) (x : Cell) (P : S → Type 0) →
+    OnNext (state_after_item (on_operand type next) x) P → (k : Scalar) × (x ≡ cell_of_scalar k) × OnNext (next k) P
 operand_led IntType next (int n) P h = (Int n, refl, h)
 operand_led BoolType next (flag b) P h = (Truth b, refl, h)
 operand_led IntType next _ P h = absurd h
@@ -36,7 +38,8 @@ operand_of_kind IntType next P h _ e = tt
 operand_of_kind BoolType next P h _ e = tt
 
 -- so too with the range
-pub operand_of_range : (dialect : Dialect) {S : Type 0} (type : ScalarType) (next : Scalar → Result S FaultKind) (P : S → Type 0) → ((k : Scalar) → ScalarInRange dialect k → OfNext (next k) P) → OfRange dialect P (on_operand type next)
+pub operand_of_range : (dialect : Dialect) {S : Type 0} (type : ScalarType) (next : Scalar → Result S FaultKind) (P : S → Type 0) →
+    ((k : Scalar) → ScalarInRange dialect k → OfNext (next k) P) → OfRange dialect P (on_operand type next)
 operand_of_range dialect IntType next P h (int n) e range = h (Int n) range
 operand_of_range dialect BoolType next P h (flag b) e range = h (Truth b) tt
 operand_of_range dialect IntType next P h _ e range = tt

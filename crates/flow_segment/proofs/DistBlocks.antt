@@ -1,5 +1,6 @@
 -- What Dist makes of blocks: copies of an item for the elements of its segment.
-use Rattle.std.proofs.Common.{◌≡◌, ℕ, zero, suc, ◌+◌, ◌*◌, ◌<◌, ◌≤◌, ℤ, pos, Bool, true, false, cond, eqb, List, [], ◌∷◌, ◌++◌, length, take, get_or, Option, Some, None, Ok, refl, ◌∙◌, ap, subst, arith}
+use Rattle.std.proofs.Common.{◌≡◌, ℕ, zero, suc, ◌+◌, ◌*◌, ◌<◌, ◌≤◌, ℤ, pos, Bool, true, false, cond, eqb, List, [], ◌∷◌, ◌++◌, length, take, get_or}
+use Rattle.std.proofs.Common.{Option, Some, None, Ok, refl, ◌∙◌, ap, subst, arith}
 use Rattle.std.specs.Prelude.{replicate}
 use mathlib.Core.List.{IsPrefix}
 use Rattle.flow_messages.specs.Cells.{Cell, cell_of, is_of, unit, flag, int}
@@ -36,7 +37,8 @@ same_block x d (suc n) (y ∷ xs) within same =
     ap (λ z. z ∷ take n xs) first ∙ ap (λ l. x ∷ l) rest
 
 -- the flags of elements, and the flag that ends their segment
-pub segment_block : (n : ℕ) (xs : List Bool) → n < length xs → ((k : ℕ) → k < n → get_or xs k true ≡ false) → get_or xs n false ≡ true → flag_signals (take (suc n) xs) ≡ flag_signals (replicate n false) ++ carry (flag true) ∷ []
+pub segment_block : (n : ℕ) (xs : List Bool) → n < length xs → ((k : ℕ) → k < n → get_or xs k true ≡ false) → get_or xs n false ≡ true →
+    flag_signals (take (suc n) xs) ≡ flag_signals (replicate n false) ++ carry (flag true) ∷ []
 segment_block n [] within same last = absurd (omega arith)
 segment_block zero (y ∷ xs) within same last = ap (λ z. carry (flag z) ∷ []) last
 segment_block (suc n) (y ∷ xs) within same last =
@@ -89,14 +91,17 @@ module _ (ins outs : List ℕ) (kind : Kind) (at : ℕ) where
   pub copies_rounds : (x : Cell) (n : ℕ) → Copies (at_flag x) (at_flag x) (flag_signals (replicate n false)) (replicate n (carry x)) (2 * n)
   copies_rounds x zero =
       let b = behaviour_of dist_machine in
-      batch_as ins outs b (batch_none ins outs b (on (at_flag x))) (λ e. cond (eqb e (edge_of ins 1)) [] []) (λ e. cond (eqb e (edge_of outs 0)) [] []) (λ e. no_block (eqb e (edge_of ins 1))) (λ e. no_block (eqb e (edge_of outs 0)))
+      batch_as ins outs b (batch_none ins outs b (on (at_flag x))) (λ e. cond (eqb e (edge_of ins 1)) [] [])
+      (λ e. cond (eqb e (edge_of outs 0)) [] []) (λ e. no_block (eqb e (edge_of ins 1))) (λ e. no_block (eqb e (edge_of outs 0)))
   copies_rounds x (suc n) =
       let b = behaviour_of dist_machine in
       let reads = λ (e : ℕ). cond (eqb e (edge_of ins 1)) (flag_signals (replicate (suc n) false)) [] in
       let writes = λ (e : ℕ). cond (eqb e (edge_of outs 0)) (replicate (suc n) (carry x)) [] in
       let one = batch_read ins outs b (batch_none ins outs b (on (at_flag x))) 1 (carry (flag false)) (on (at_copy x)) refl refl in
       let two = batch_write ins outs b one 0 x (on (at_flag x)) refl refl refl in
-      let all = batch_as ins outs b (batch_then ins outs b two (copies_rounds x n)) reads writes (λ e. block_then (eqb e (edge_of ins 1)) (carry (flag false) ∷ []) (flag_signals (replicate n false))) (λ e. block_then (eqb e (edge_of outs 0)) (carry x ∷ []) (replicate n (carry x))) in
+      let all = batch_as ins outs b (batch_then ins outs b two (copies_rounds x n)) reads writes
+      (λ e. block_then (eqb e (edge_of ins 1)) (carry (flag false) ∷ []) (flag_signals (replicate n false)))
+      (λ e. block_then (eqb e (edge_of outs 0)) (carry x ∷ []) (replicate n (carry x))) in
       let steps : 2 + 2 * n ≡ 2 * suc n = omega arith in
       subst (Batch ins outs b (on (at_flag x)) (on (at_flag x)) reads writes) steps all
 
@@ -110,7 +115,8 @@ module _ (ins outs : List ℕ) (kind : Kind) (at : ℕ) where
       batch_as ins outs b all reads writes (λ e. block_then (eqb e (edge_of ins 1)) (flag_signals (replicate n false)) (carry (flag true) ∷ [])) (λ e. refl)
 
   -- blocks that are taken and put are those rounds
-  pub copies_went : {t : DistState} {k : ℕ} (x : Cell) (xs : List Signal) (n : ℕ) → 1 < length ins → 0 < length outs → (a v w z : View) → LookedForRoom a (edge_of outs 0) v → Copies (at_flag x) t xs (replicate n (carry x)) k → 0 < k →
+  pub copies_went : {t : DistState} {k : ℕ} (x : Cell) (xs : List Signal) (n : ℕ) → 1 < length ins → 0 < length outs → (a v w z : View) →
+      LookedForRoom a (edge_of outs 0) v → Copies (at_flag x) t xs (replicate n (carry x)) k → 0 < k →
       TakenAll v (edge_of ins 1) xs w → PutAll w (edge_of outs 0) (replicate n (carry x)) z → Went ins outs (behaviour_of dist_machine) (on (at_flag x)) a (on t) z k
   copies_went {t} {k} x xs n reads writes a v w z looked rounds some taken put =
       let b = behaviour_of dist_machine in
@@ -121,9 +127,11 @@ module _ (ins outs : List ℕ) (kind : Kind) (at : ℕ) where
       subst (Went ins outs b (on (at_flag x)) a (on t) z) steps (went_batch ins outs b began rounds some z two)
 
   -- an item of the kind is read
-  pub item_went : 0 < length ins → (x : Cell) → is_of kind x ≡ true → (a w : View) → TakenAll a (edge_of ins 0) (carry x ∷ []) w → Went ins outs (behaviour_of dist_machine) (on at_start) a (on (at_flag x)) w 1
+  pub item_went : 0 < length ins → (x : Cell) → is_of kind x ≡ true → (a w : View) → TakenAll a (edge_of ins 0) (carry x ∷ []) w →
+      Went ins outs (behaviour_of dist_machine) (on at_start) a (on (at_flag x)) w 1
   item_went there x fits a w taken =
       let b = behaviour_of dist_machine in
       let leads = item_leads kind (λ i. Ok (at_flag i)) (at_flag x) x fits refl in
-      let one = batch_read ins outs b (batch_none ins outs b (on at_start)) 0 (carry x) (on (at_flag x)) refl (leads_on dist_machine kind at_start (at_flag x) at (on_kind kind (λ i. Ok (at_flag i))) (carry x) (λ i. refl) leads) in
+      let one = batch_read ins outs b (batch_none ins outs b (on at_start)) 0 (carry x) (on (at_flag x)) refl
+      (leads_on dist_machine kind at_start (at_flag x) at (on_kind kind (λ i. Ok (at_flag i))) (carry x) (λ i. refl) leads) in
       went_batch ins outs b (went_none b ins outs (on at_start) a) one (omega arith) w (shifted_skip ins outs (shifted_none ins outs a) 0 (carry x ∷ []) w there taken)

@@ -10,7 +10,8 @@ use Rattle.flow_segment.specs.PackMachine.{at_start, at_item, at_copy, kept, tru
 use Rattle.flow_segment.proofs.Leading.{item_leads}
 
 -- one truth value and one item more
-kept_more : {A : Type 0} (bs : List Bool) (xs : List A) (n : ℕ) (d : A) → n < length bs → n < length xs → kept (take (suc n) bs) (take (suc n) xs) ≡ kept (take n bs) (take n xs) ++ cond (get_or bs n false) (get_or xs n d ∷ []) []
+kept_more : {A : Type 0} (bs : List Bool) (xs : List A) (n : ℕ) (d : A) → n < length bs → n < length xs → kept (take (suc n) bs) (take (suc n) xs)
+    ≡ kept (take n bs) (take n xs) ++ cond (get_or bs n false) (get_or xs n d ∷ []) []
 kept_more [] xs n d in_bs in_xs = absurd (omega arith)
 kept_more (b ∷ bs) [] n d in_bs in_xs = absurd (omega arith)
 kept_more (true ∷ bs) (x ∷ xs) zero d in_bs in_xs = refl
@@ -18,7 +19,8 @@ kept_more (false ∷ bs) (x ∷ xs) zero d in_bs in_xs = refl
 kept_more (true ∷ bs) (x ∷ xs) (suc n) d in_bs in_xs = ap (λ l. x ∷ l) (kept_more bs xs n d (omega arith) (omega arith))
 kept_more (false ∷ bs) (x ∷ xs) (suc n) d in_bs in_xs = kept_more bs xs n d (omega arith) (omega arith)
 
-kept_counted : {A : Type 0} (block : List A) (count : ℕ) (x : A) (before : List A) → take count block ≡ before → count < length block → (b : Bool) → take (count + cond b 1 0) (set block count x) ≡ before ++ cond b (x ∷ []) []
+kept_counted : {A : Type 0} (block : List A) (count : ℕ) (x : A) (before : List A) → take count block ≡ before → count < length block → (b : Bool) →
+    take (count + cond b 1 0) (set block count x) ≡ before ++ cond b (x ∷ []) []
 kept_counted block count x before so_far in_block true = take_more_set block count x in_block ∙ ap (λ l. l ++ x ∷ []) so_far
 kept_counted block count x before so_far in_block false =
     let still : count + 0 ≡ count = omega arith in
@@ -26,11 +28,15 @@ kept_counted block count x before so_far in_block false =
     ap (λ k. take k (set block count x)) still ∙ take-set block count x ∙ so_far ∙ sym whole
 
 -- a step of the loop that puts those that are kept side by side: one that is dropped is put too, but not counted
-pub kept_put : {A : Type 0} (bs : List Bool) (xs block : List A) (n count : ℕ) (x : A) → n < length bs → n < length xs → count < length block → x ≡ get_or xs n x → take count block ≡ kept (take n bs) (take n xs) → (b : Bool) → get_or bs n false ≡ b → take (count + cond b 1 0) (set block count x) ≡ kept (take (n + 1) bs) (take (n + 1) xs)
+pub kept_put : {A : Type 0} (bs : List Bool) (xs block : List A) (n count : ℕ) (x : A) → n < length bs → n < length xs → count < length block → x
+    ≡ get_or xs n x → take count block ≡ kept (take n bs) (take n xs) → (b : Bool) → get_or bs n false ≡ b →
+    take (count + cond b 1 0) (set block count x) ≡ kept (take (n + 1) bs) (take (n + 1) xs)
 kept_put bs xs block n count x in_bs in_xs in_block is so_far b keeps =
     let next : n + 1 ≡ suc n = omega arith in
     let before = kept (take n bs) (take n xs) in
-    let more : before ++ cond b (x ∷ []) [] ≡ kept (take (n + 1) bs) (take (n + 1) xs) = ap (λ y. before ++ cond b (y ∷ []) []) is ∙ ap (λ k. before ++ cond k (get_or xs n x ∷ []) []) (sym keeps) ∙ sym (kept_more bs xs n x in_bs in_xs) ∙ ap (λ k. kept (take k bs) (take k xs)) (sym next) in
+    let more : before ++ cond b (x ∷ []) [] ≡ kept (take (n + 1) bs) (take (n + 1) xs) = ap (λ y. before ++ cond b (y ∷ []) []) is
+    ∙ ap (λ k. before ++ cond k (get_or xs n x ∷ []) []) (sym keeps) ∙ sym (kept_more bs xs n x in_bs in_xs)
+    ∙ ap (λ k. kept (take k bs) (take k xs)) (sym next) in
     kept_counted block count x before so_far in_block b ∙ more
 
 -- one truth value more
@@ -97,14 +103,19 @@ module _ (kind : Kind) {A : Type 0} (said : A → Cell) (fits : (x : A) → is_o
   pairs (true ∷ bs) (x ∷ xs) long =
       let n = 2 * length bs + length (kept bs xs) in
       let steps : 3 + n ≡ 2 * suc (length bs) + suc (length (kept bs xs)) = omega arith in
-      subst (Pairs (true ∷ bs) (x ∷ xs) (x ∷ kept bs xs)) steps (single_then pack_machine kind (flag_signals (true ∷ [])) (items_said (x ∷ [])) (items_said (x ∷ [])) (flag_signals bs) (items_said xs) (items_said (kept bs xs)) (pair_kept x) (pairs bs xs (omega arith)))
+      subst (Pairs (true ∷ bs) (x ∷ xs) (x ∷ kept bs xs)) steps
+      (single_then pack_machine kind (flag_signals (true ∷ [])) (items_said (x ∷ [])) (items_said (x ∷ [])) (flag_signals bs) (items_said xs)
+      (items_said (kept bs xs)) (pair_kept x) (pairs bs xs (omega arith)))
   pairs (false ∷ bs) (x ∷ xs) long =
       let n = 2 * length bs + length (kept bs xs) in
       let steps : 2 + n ≡ 2 * suc (length bs) + length (kept bs xs) = omega arith in
-      subst (Pairs (false ∷ bs) (x ∷ xs) (kept bs xs)) steps (single_then pack_machine kind (flag_signals (false ∷ [])) (items_said (x ∷ [])) [] (flag_signals bs) (items_said xs) (items_said (kept bs xs)) (pair_dropped x) (pairs bs xs (omega arith)))
+      subst (Pairs (false ∷ bs) (x ∷ xs) (kept bs xs)) steps
+      (single_then pack_machine kind (flag_signals (false ∷ [])) (items_said (x ∷ [])) [] (flag_signals bs) (items_said xs)
+      (items_said (kept bs xs)) (pair_dropped x) (pairs bs xs (omega arith)))
 
   -- the first of the truth values and of the items are pairs
-  pub first_pairs : (bs : List Bool) (xs : List A) (n : ℕ) → n ≤ length bs → n ≤ length xs → Pairs (take n bs) (take n xs) (kept (take n bs) (take n xs)) (2 * n + length (kept (take n bs) (take n xs)))
+  pub first_pairs : (bs : List Bool) (xs : List A) (n : ℕ) → n ≤ length bs → n ≤ length xs →
+      Pairs (take n bs) (take n xs) (kept (take n bs) (take n xs)) (2 * n + length (kept (take n bs) (take n xs)))
   first_pairs bs xs n in_bs in_xs =
       let truths = take n bs in
       let items = take n xs in

@@ -29,11 +29,13 @@ pub each_none : (count : ℕ) (before : List ℕ) → AskedAtEach 0 count before
 each_none count before = record { times = 0; counted = omega arith; asked = sym (append-nil before) }
 
 -- one turn more
-pub each_next : (turns more count again : ℕ) (before now after : List ℕ) → AskedAtEach turns count before now → AskedForEach again now after → again ≡ count → more ≡ u64_saturate (turns + 1) → AskedAtEach more count before after
+pub each_next : (turns more count again : ℕ) (before now after : List ℕ) → AskedAtEach turns count before now → AskedForEach again now after → again
+    ≡ count → more ≡ u64_saturate (turns + 1) → AskedAtEach more count before after
 each_next turns more count again before now after was asked same counted = record {
   times = suc was.times;
   counted = omega (arith, counted, was.counted);
-  asked = asked ∙ ap (λ l. l ++ range_with_len 0 again) was.asked ∙ ap (λ n. (before ++ each_again was.times count) ++ range_with_len 0 n) same ∙ append_assoc before (each_again was.times count) (range_with_len 0 count);
+  asked = asked ∙ ap (λ l. l ++ range_with_len 0 again) was.asked ∙ ap (λ n. (before ++ each_again was.times count) ++ range_with_len 0 n) same
+      ∙ append_assoc before (each_again was.times count) (range_with_len 0 count);
 }
 
 -- of as many threads

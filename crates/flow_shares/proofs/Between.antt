@@ -22,13 +22,17 @@ find_port e (f ∷ edges) = go (cases_eq e f) (find_port e edges)
     go (inr other) (inr (p, inside, is)) = inr (suc p, omega (arith, inside), is)
 
 -- an edge is at no port of these nodes, or is at one
-pub find_node : {X : Type 0} (edges : X → List ℕ) (e : ℕ) (nodes : List X) → All (λ node. IsNone (edges node) e) nodes ⊎ ((k p : ℕ) × (d : X) × (k < length nodes) × (p < length (edges (get_or nodes k d))) × (e ≡ edge_of (edges (get_or nodes k d)) p))
+pub find_node : {X : Type 0} (edges : X → List ℕ) (e : ℕ) (nodes : List X) →
+    All (λ node. IsNone (edges node) e) nodes ⊎
+    ((k p : ℕ) × (d : X) × (k < length nodes) × (p < length (edges (get_or nodes k d))) × (e ≡ edge_of (edges (get_or nodes k d)) p))
 find_node edges e [] = inl (All-nil (λ node. IsNone (edges node) e))
 find_node {X} edges e (node ∷ nodes) = go (find_port e (edges node)) (find_node edges e nodes)
   where
     go : IsNone (edges node) e ⊎ ((p : ℕ) × (p < length (edges node)) × (e ≡ edge_of (edges node) p))
         → All (λ node. IsNone (edges node) e) nodes ⊎ ((k p : ℕ) × (d : X) × (k < length nodes) × (p < length (edges (get_or nodes k d))) × (e ≡ edge_of (edges (get_or nodes k d)) p))
-        → All (λ node. IsNone (edges node) e) (node ∷ nodes) ⊎ ((k p : ℕ) × (d : X) × (k < length (node ∷ nodes)) × (p < length (edges (get_or (node ∷ nodes) k d))) × (e ≡ edge_of (edges (get_or (node ∷ nodes) k d)) p))
+        → All (λ node. IsNone (edges node) e) (node ∷ nodes) ⊎
+        ((k p : ℕ) × (d : X) × (k < length (node ∷ nodes)) × (p < length (edges (get_or (node ∷ nodes) k d)))
+        × (e ≡ edge_of (edges (get_or (node ∷ nodes) k d)) p))
     go (inr (p, inside, is)) rest = inr (0, p, node, omega arith, inside, is)
     go (inl none) (inl nones) = inl (All-cons (λ n. IsNone (edges n) e) node nodes none nones)
     go (inl none) (inr (k, p, d, l, inside, is)) = inr (suc k, p, d, omega (arith, l), inside, is)

@@ -25,7 +25,8 @@ no_step b laws ins outs (Reads p m ∷ h) s s' has_in has_out (wants, rest) none
 no_step b laws ins outs (Writes q m ∷ h) s s' has_in has_out (wants, is, rest) none_read none_wrote =
     absurd (let no : m ∷ writes q h ≡ [] = sym (ap (λ c. cond c (m ∷ writes q h) (writes q h)) (eq-eqb q q refl)) ∙ none_wrote q (output_port b laws outs s q wants has_out) in cc)
 
-pub quiet : {X : Type 0} {t : Ghosts X} (laws : BehaviourLaws t.behaviour) (nodes later : List (Placed X t)) (a v : View) (moved : HaveMoved nodes later a v) → SameTraffic a v → (k : ℕ) (d : Placed X t) → k < length nodes → moved.history k ≡ []
+pub quiet : {X : Type 0} {t : Ghosts X} (laws : BehaviourLaws t.behaviour) (nodes later : List (Placed X t)) (a v : View)
+    (moved : HaveMoved nodes later a v) → SameTraffic a v → (k : ℕ) (d : Placed X t) → k < length nodes → moved.history k ≡ []
 quiet {X} {t} laws nodes later a v moved same k d l =
     let node : Placed X t = get_or nodes k d in
     no_step t.behaviour laws (inputs_of node) (outputs_of node) (moved.history k) (placed_state node) (placed_state (get_or later k d))

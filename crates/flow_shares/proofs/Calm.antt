@@ -99,7 +99,8 @@ module _ {X : Type 0} {t : Ghosts X} where
     still_stuck = still (t.behaviour.process.want (placed_state z)) refl
 
   -- one node more, in its place, made no step
-  module _ (laws : BehaviourLaws t.behaviour) (nodes mid : List (Placed X t)) (same : length mid ≡ length nodes) (apart : AreApart mid) (k : ℕ) (x y : Placed X t) (inside : k < length mid) (is : x ≡ get_or mid k x) (place : IsSamePlace x y) (a v w : View)
+  module _ (laws : BehaviourLaws t.behaviour) (nodes mid : List (Placed X t)) (same : length mid ≡ length nodes) (apart : AreApart mid) (k : ℕ)
+      (x y : Placed X t) (inside : k < length mid) (is : x ≡ get_or mid k x) (place : IsSamePlace x y) (a v w : View)
       (alone : LeavesAlone (inputs_of x) (outputs_of x) v w) (unmoved : placed_state x ≡ placed_state y) (stuck : Stuck w x) where
     stuck_later : Stuck w y
     stuck_later =

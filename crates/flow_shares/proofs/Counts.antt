@@ -59,11 +59,15 @@ module _ {X : Type 0} {t : Ghosts X} where
     same_traffic = record {
       received = λ e. elim (find_node inputs_of e nodes) [
         | inl away ↦ moved.other_received e away
-        | inr (k, p, d, l, port, is) ↦ subst (λ f. v.received f ≡ a.received f) (sym is) (let f = edge_of (inputs_of (get_or nodes k d)) p in moved.received k p d l port ∙ ap (λ h. a.received f ++ reads p h) (no_events k l) ∙ append-nil (a.received f))
+        | inr (k, p, d, l, port, is) ↦ subst (λ f. v.received f ≡ a.received f) (sym is)
+            (let f = edge_of (inputs_of (get_or nodes k d)) p in moved.received k p d l port ∙ ap (λ h. a.received f ++ reads p h) (no_events k l)
+            ∙ append-nil (a.received f))
       ];
       sent = λ e. elim (find_node outputs_of e nodes) [
         | inl away ↦ moved.other_sent e away
-        | inr (k, q, d, l, port, is) ↦ subst (λ f. v.sent f ≡ a.sent f) (sym is) (let f = edge_of (outputs_of (get_or nodes k d)) q in moved.sent k q d l port ∙ ap (λ h. a.sent f ++ writes q h) (no_events k l) ∙ append-nil (a.sent f))
+        | inr (k, q, d, l, port, is) ↦ subst (λ f. v.sent f ≡ a.sent f) (sym is)
+            (let f = edge_of (outputs_of (get_or nodes k d)) q in moved.sent k q d l port ∙ ap (λ h. a.sent f ++ writes q h) (no_events k l)
+            ∙ append-nil (a.sent f))
       ];
     }
 
@@ -74,7 +78,8 @@ module _ {X : Type 0} {t : Ghosts X} where
   ]
 
 -- one turn more, of which `more` messages came
-pub turn_counted : (turns idle idle_turns count more now : ℕ) (any : Bool) → turns ≤ idle_turns * count + idle → idle < idle_turns → (any ≡ true → 0 < more) → ((any ≡ true) × (now ≡ 0)) ⊎ ((any ≡ false) × (now ≡ idle + 1)) → turns + 1 ≤ idle_turns * (count + more) + now
+pub turn_counted : (turns idle idle_turns count more now : ℕ) (any : Bool) → turns ≤ idle_turns * count + idle → idle < idle_turns →
+    (any ≡ true → 0 < more) → ((any ≡ true) × (now ≡ 0)) ⊎ ((any ≡ false) × (now ≡ idle + 1)) → turns + 1 ≤ idle_turns * (count + more) + now
 turn_counted turns idle idle_turns count more now any before few some (inl (busy, none)) =
     let one : 1 ≤ more = some busy in
     omega (arith, before, few, none, mul-le-mul_left idle_turns one)

@@ -23,7 +23,8 @@ module _ {X : Type 0} {t : Ghosts X} where
     back = λ s i d ls li. absurd (omega (arith, li, ap length (get_or-replicate {A = List (Placed X t)} count s [] [] (omega (arith, ls, length-replicate {A = List (Placed X t)} count [])))));
   }
 
-  module _ (share : List ℕ) (nodes : List (Placed X t)) (dealt : List (List (Placed X t))) (node : Placed X t) (was : AreJustDealt share nodes dealt) (number : node.number ≡ length nodes) (there : share_of share (length nodes) < length dealt) where
+  module _ (share : List ℕ) (nodes : List (Placed X t)) (dealt : List (List (Placed X t))) (node : Placed X t) (was : AreJustDealt share nodes dealt)
+      (number : node.number ≡ length nodes) (there : share_of share (length nodes) < length dealt) where
     abbrev n : ℕ
     n = length nodes
 

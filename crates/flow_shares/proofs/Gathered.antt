@@ -1,5 +1,6 @@
 -- The last of the nodes that are left is gathered, and all of them are.
-use Rattle.std.proofs.Common.{◌≡◌, ℕ, ◌+◌, ◌-◌, ◌<◌, ◌≤◌, List, [], ◌∷◌, ◌++◌, length, get_or, set, take, drop, reverse, ◌⊎◌, inl, inr, sym, ◌∙◌, ap, subst, arith, get_or-set_same, get_or-set_other, get_or-take}
+use Rattle.std.proofs.Common.{◌≡◌, ℕ, ◌+◌, ◌-◌, ◌<◌, ◌≤◌, List, [], ◌∷◌, ◌++◌, length, get_or, set, take, drop, reverse, ◌⊎◌, inl, inr, sym, ◌∙◌, ap}
+use Rattle.std.proofs.Common.{subst, arith, get_or-set_same, get_or-set_other, get_or-take}
 use Rattle.std.proofs.lemmas.Bool.{cases_eq, cases_lt}
 use Rattle.std.specs.declared.vec.Vec.{Vec}
 use Rattle.std.proofs.lemmas.List.{length-set, length-map, length-take-le, map-set, get_or-map, take_all, drop_all, drop_more, reverse-append, same_lists}
@@ -9,7 +10,8 @@ use Rattle.flow_networks.specs.Places.{IsSamePlace}
 use Rattle.flow_shares.specs.Deals.{share_of, lists_in, node_at, AreJustDealt, AreSomeDealt, AreSameAsDealt, AreJustAsDealt}
 use Rattle.flow_shares.proofs.Places.{found, length-found, found_are, gathered, equally_many}
 
-module _ {X : Type 0} {t : Ghosts X} (share : List ℕ) (nodes : List (Placed X t)) (left : List (List (Placed X t))) (k : ℕ) (in_list : k < length nodes) (are : AreJustDealt share (take (k + 1) nodes) left) where
+module _ {X : Type 0} {t : Ghosts X} (share : List ℕ) (nodes : List (Placed X t)) (left : List (List (Placed X t))) (k : ℕ)
+    (in_list : k < length nodes) (are : AreJustDealt share (take (k + 1) nodes) left) where
   -- its share, before and then
   abbrev s : ℕ
   s = share_of share k
@@ -84,7 +86,8 @@ module _ {X : Type 0} {t : Ghosts X} (share : List ℕ) (nodes : List (Placed X 
       ∙ are.here j d (omega (arith, l, few))
       ∙ sym (kept (share_of share j) (are.place j) d (less_inside d j l).1).1
 
-  less_back : (r i : ℕ) (d : Placed X t) → r < length then → i < length (get_or then r []) → let j = (node_at then r i d).number in (j < length (take k nodes)) × (share_of share j ≡ r) × (are.place j ≡ i)
+  less_back : (r i : ℕ) (d : Placed X t) → r < length then → i < length (get_or then r []) → let j = (node_at then r i d).number in
+      (j < length (take k nodes)) × (share_of share j ≡ r) × (are.place j ≡ i)
   less_back r i d lr li =
       let h = kept r i d li in
       let j : ℕ = (node_at left r i d).number in
@@ -147,7 +150,8 @@ module _ {X : Type 0} {t : Ghosts X} {share : List ℕ} {count : ℕ} {dealt : L
       share_some = some share is.nodes left last in_list rest
 
       -- one turn of the loop that gathers nodes
-      gathers : (node : Placed X t) → let old = get_or left (share_of share last) [] in node ≡ get_or old (length old - 1) node → IsGathering share count dealt last (set left (share_of share last) (take (length old - 1) old)) (taken ++ node ∷ [])
+      gathers : (node : Placed X t) → let old = get_or left (share_of share last) [] in node ≡ get_or old (length old - 1) node →
+          IsGathering share count dealt last (set left (share_of share last) (take (length old - 1) old)) (taken ++ node ∷ [])
       gathers node is_last =
           let same : node ≡ get_or is.nodes last node = is_last ∙ last_is share is.nodes left last in_list rest node in
           let next : last + 1 ≡ k = omega (arith, more) in
@@ -170,7 +174,8 @@ module _ {X : Type 0} {t : Ghosts X} {share : List ℕ} {count : ℕ} {dealt : L
         let same : result ≡ is.nodes = is_back ∙ is.back ∙ ap (λ n. drop n is.nodes) none in
         (ap length same ∙ is.so_many, subst (λ ns. AreJustDealt share ns dealt) (sym same) is.just)
 
-  module _ {Z : Type 0} {k : ℕ} (lists : List (Vec (Placed X t) Z)) {taken : List (Placed X t)} (is : IsGathering share count dealt k (lists_in lists) taken) (more : 0 < k) (most : k ≤ count) {r : ℕ} (r_is : r ≡ share_of share (k - 1)) where
+  module _ {Z : Type 0} {k : ℕ} (lists : List (Vec (Placed X t) Z)) {taken : List (Placed X t)}
+      (is : IsGathering share count dealt k (lists_in lists) taken) (more : 0 < k) (most : k ≤ count) {r : ℕ} (r_is : r ≡ share_of share (k - 1)) where
     pub list_there : r < length lists
     list_there = omega (arith, share_there is more most, r_is, length-map lists (λ (v : Vec (Placed X t) Z). v.items))
 
@@ -184,7 +189,9 @@ module _ {X : Type 0} {t : Ghosts X} {share : List ℕ} {count : ℕ} {dealt : L
       pub list_some : 0 < list.len
       list_some = omega (arith, share_some is more most, ap length items_are, list.ok.0)
 
-      pub one_gathered : (new : Vec (Placed X t) Z) (node : Placed X t) (gained : List (Placed X t)) → node ≡ get_or list.items (list.len - 1) node → new.items ≡ take (list.len - 1) list.items → gained ≡ taken ++ node ∷ [] → IsGathering share count dealt (k - 1) (lists_in (set lists r new)) gained
+      pub one_gathered : (new : Vec (Placed X t) Z) (node : Placed X t) (gained : List (Placed X t)) → node ≡ get_or list.items (list.len - 1) node →
+          new.items ≡ take (list.len - 1) list.items → gained ≡ taken ++ node ∷ [] →
+          IsGathering share count dealt (k - 1) (lists_in (set lists r new)) gained
       one_gathered new node gained is_last new_is gained_is =
           let lists_are : lists_in (set lists r new) ≡ set (lists_in lists) (share_of share (k - 1)) (take (length list.items - 1) list.items) =
           map-set (λ (v : Vec (Placed X t) Z). v.items) lists r new
@@ -192,7 +199,8 @@ module _ {X : Type 0} {t : Ghosts X} {share : List ℕ} {count : ℕ} {dealt : L
           ∙ ap (λ q. set (lists_in lists) q (take (length list.items - 1) list.items)) r_is in
           let old_is : node ≡ get_or list.items (length list.items - 1) node = is_last ∙ ap (λ n. get_or list.items (n - 1) node) list.ok.0 in
           subst (IsGathering share count dealt (k - 1) (lists_in (set lists r new))) (sym gained_is)
-          (subst (λ ls. IsGathering share count dealt (k - 1) ls (taken ++ node ∷ [])) (sym (lists_are ∙ ap (λ (ns : List (Placed X t)). set (lists_in lists) (share_of share (k - 1)) (take (length ns - 1) ns)) items_are))
+          (subst (λ ls. IsGathering share count dealt (k - 1) ls (taken ++ node ∷ []))
+          (sym (lists_are ∙ ap (λ (ns : List (Placed X t)). set (lists_in lists) (share_of share (k - 1)) (take (length ns - 1) ns)) items_are))
           (gathers is more most node (old_is ∙ ap (λ (ns : List (Placed X t)). get_or ns (length ns - 1) node) items_are)))
 
 -- what was gathered is what was dealt out, perhaps later

@@ -50,7 +50,8 @@ module _ {X : Type 0} {t : Ghosts X} where
         go j d (inl at) =
             subst (λ (i : ℕ). IsSamePlace (get_or nodes i d) (get_or (set nodes k y) i d)) (sym at)
             (subst (λ (z : Placed X t). IsSamePlace z (get_or (set nodes k y) k d)) (sym (it_is d)) (subst (λ (z : Placed X t). IsSamePlace x z) (sym (now_is d)) same))
-        go j d (inr ne) = subst (λ (z : Placed X t). IsSamePlace (get_or nodes j d) z) (sym (get_or-set_other nodes k j y d ne)) (record { number = refl; inputs = refl; outputs = refl; opening = refl })
+        go j d (inr ne) = subst (λ (z : Placed X t). IsSamePlace (get_or nodes j d) z) (sym (get_or-set_other nodes k j y d ne))
+            (record { number = refl; inputs = refl; outputs = refl; opening = refl })
 
   module _ (nodes later : List (Placed X t)) (same : AreSamePlaces nodes later) where
     -- what holds of each node's edges does later

@@ -49,11 +49,13 @@ module _ {X : Type 0} {t : Ghosts X} where
     pub moved_then : HaveMoved mid later v w → HaveMoved nodes later a w
     moved_then second = record {
       history = λ k. first.history k ++ second.history k;
-      does = λ k d l. does_then t.behaviour.process (placed_state (get_or nodes k d)) (placed_state (get_or mid k d)) (placed_state (get_or later k d)) (first.history k) (second.history k) (first.does k d l) (second.does k d (there k l));
+      does = λ k d l. does_then t.behaviour.process (placed_state (get_or nodes k d)) (placed_state (get_or mid k d))
+          (placed_state (get_or later k d)) (first.history k) (second.history k) (first.does k d l) (second.does k d (there k l));
       received = λ k p d l port.
           let e = edge_of (inputs_of (get_or nodes k d)) p in
           twice (w.received e) (v.received e) (a.received e) (reads p (first.history k)) (reads p (second.history k)) (reads p (first.history k ++ second.history k))
-          (subst (λ edges. p < length edges → w.received (edge_of edges p) ≡ v.received (edge_of edges p) ++ reads p (second.history k)) (same.each k d l).inputs (second.received k p d (there k l)) port)
+          (subst (λ edges. p < length edges → w.received (edge_of edges p) ≡ v.received (edge_of edges p) ++ reads p (second.history k))
+          (same.each k d l).inputs (second.received k p d (there k l)) port)
           (first.received k p d l port) (reads_append p (first.history k) (second.history k));
       sent = λ k q d l port.
           let e = edge_of (outputs_of (get_or nodes k d)) q in
@@ -73,13 +75,19 @@ module _ {X : Type 0} {t : Ghosts X} where
     lost_then second = record {
       history = λ k. first.history k ++ second.history k;
       lost = second.lost;
-      does = λ k d l. does_then t.behaviour.process (placed_state (get_or nodes k d)) (placed_state (get_or mid k d)) (placed_state (get_or later k d)) (first.history k) (second.history k) (first.does k d l) (second.does k d (there k l));
+      does = λ k d l. does_then t.behaviour.process (placed_state (get_or nodes k d)) (placed_state (get_or mid k d))
+          (placed_state (get_or later k d)) (first.history k) (second.history k) (first.does k d l) (second.does k d (there k l));
       received = λ k p d l port.
           let e = edge_of (inputs_of (get_or nodes k d)) p in
           let before = v.received e ++ reads p (second.history k) in
-          let all : before ≡ a.received e ++ reads p (first.history k ++ second.history k) = twice before (v.received e) (a.received e) (reads p (first.history k)) (reads p (second.history k)) (reads p (first.history k ++ second.history k)) refl (first.received k p d l port) (reads_append p (first.history k) (second.history k)) in
+          let all : before ≡ a.received e ++ reads p (first.history k ++ second.history k) =
+          twice before (v.received e) (a.received e) (reads p (first.history k)) (reads p (second.history k))
+          (reads p (first.history k ++ second.history k)) refl (first.received k p d l port) (reads_append p (first.history k) (second.history k))
+          in
           subst (λ l. Begins l (w.received e) × (length (w.received e) ≤ length l + 1) × ((e ≡ second.lost → ⊥) → w.received e ≡ l)) all
-          (subst (λ edges. p < length edges → let f = edge_of edges p in let l = v.received f ++ reads p (second.history k) in Begins l (w.received f) × (length (w.received f) ≤ length l + 1) × ((f ≡ second.lost → ⊥) → w.received f ≡ l)) (same.each k d l).inputs (second.received k p d (there k l)) port);
+          (subst (λ edges. p < length edges → let f = edge_of edges p in let l = v.received f ++ reads p (second.history k) in Begins l (w.received f)
+          × (length (w.received f) ≤ length l + 1) × ((f ≡ second.lost → ⊥) → w.received f ≡ l)) (same.each k d l).inputs
+          (second.received k p d (there k l)) port);
       sent = λ k q d l port.
           let e = edge_of (outputs_of (get_or nodes k d)) q in
           twice (w.sent e) (v.sent e) (a.sent e) (writes q (first.history k)) (writes q (second.history k)) (writes q (first.history k ++ second.history k))
@@ -107,4 +115,5 @@ module _ {X : Type 0} {t : Ghosts X} where
   pub own_later : (nodes later : List (Placed X t)) (a v : View) → AreSamePlaces nodes later → HaveMoved nodes later a v → All (IsOwn a) nodes → All (IsOwn v) later
   own_later nodes later a v same moved own k d l =
       let l' : k < length nodes = omega (arith, l, same.count) in
-      own_after (get_or nodes k d) (get_or later k d) a v (same.each k d l') (moved.history k) (moved.does k d l') (λ p port. moved.received k p d l' port) (λ q port. moved.sent k q d l' port) (own k d l')
+      own_after (get_or nodes k d) (get_or later k d) a v (same.each k d l') (moved.history k) (moved.does k d l')
+      (λ p port. moved.received k p d l' port) (λ q port. moved.sent k q d l' port) (own k d l')

@@ -83,7 +83,9 @@ module _ {X : Type 0} {t : Ghosts X} where
 
         busy_here : one ≡ true → SameTraffic v w → ⊥
         unfolding moved_next
-        busy_here busy same = visited.some busy (sym (visit_history laws mid k x y inside is apart_mid visited.history visited.does v w node_own visited.carried) ∙ quiet laws mid (set mid k y) v w moved_next same k x inside)
+        busy_here busy same =
+            visited.some busy (sym (visit_history laws mid k x y inside is apart_mid visited.history visited.does v w node_own visited.carried)
+            ∙ quiet laws mid (set mid k y) v w moved_next same k x inside)
 
         busy_next : (before now : Bool) → (before ≡ true → SameTraffic a v → ⊥) → (now ≡ true → SameTraffic v w → ⊥) → before || now ≡ true → SameTraffic a w → ⊥
         busy_next true now first second h same = first refl (same_first a v w (moved_grows nodes mid a v passed.moved) (moved_grows mid (set mid k y) v w moved_next) same)
@@ -94,7 +96,9 @@ module _ {X : Type 0} {t : Ghosts X} where
             calm_next laws nodes mid passed.places.count apart_mid k x y inside is place a v w (visited.calm still)
             (subst (λ h. Does t.behaviour.process (placed_state x) h (placed_state y)) (visited.none still) visited.does) (visited.stuck still) calm
 
-        calm_both : (before now : Bool) → (before ≡ false → AreCalm k nodes mid a v) → (now ≡ false → AreCalm k nodes mid a v → AreCalm (k + 1) nodes (set mid k y) a w) → before || now ≡ false → AreCalm (k + 1) nodes (set mid k y) a w
+        calm_both : (before now : Bool) → (before ≡ false → AreCalm k nodes mid a v) →
+            (now ≡ false → AreCalm k nodes mid a v → AreCalm (k + 1) nodes (set mid k y) a w) → before || now ≡ false →
+            AreCalm (k + 1) nodes (set mid k y) a w
         calm_both true now first second h = cc
         calm_both false now first second h = second h (first refl)
 

@@ -57,7 +57,8 @@ module _ {S : Type 0} (b : Behaviour S) (laws : BehaviourLaws b) (edges : List �
   read_own own p inside (Reads q m ∷ h) s t has (wants, rest) =
       let e = edge_of edges p in
       let more = read_own own p inside h (P.read s m) t (inputs_read s q m wants has) rest in
-      ap (λ c. cond c (m ∷ read_from (edge_of edges) e h) (read_from (edge_of edges) e h)) (same_test e (edge_of edges q) p q (own p q inside (input_port s q wants has)) (λ same. ap (edge_of edges) same))
+      ap (λ c. cond c (m ∷ read_from (edge_of edges) e h) (read_from (edge_of edges) e h))
+      (same_test e (edge_of edges q) p q (own p q inside (input_port s q wants has)) (λ same. ap (edge_of edges) same))
       ∙ ap (λ l. cond (eqb p q) (m ∷ l) l) more
   read_own own p inside (Writes q m ∷ h) s t has (wants, is, rest) = read_own own p inside h (P.wrote s) t (inputs_wrote s q wants has) rest
 
@@ -94,18 +95,26 @@ module _ {S : Type 0} (b : Behaviour S) (laws : BehaviourLaws b) (edges : List �
   all_read : (q : ℕ) (s : S) (sent : List Signal) (p : ℕ) (m : Signal) → P.want s ≡ Read p → WroteAll q s sent → WroteAll q (P.read s m) sent
   all_read q s sent p m wants all = ∥∥₁_map all (λ (before, did, is). (
     before ++ Reads p m ∷ [],
-    subst (λ o. Does P o (before ++ Reads p m ∷ []) (P.read s m)) (sym (opening_read b laws s (P.read s m) p m wants refl)) (does_then P (b.opening s) s (P.read s m) before (Reads p m ∷ []) did (wants, refl)),
+    subst (λ o. Does P o (before ++ Reads p m ∷ []) (P.read s m)) (sym (opening_read b laws s (P.read s m) p m wants refl))
+        (does_then P (b.opening s) s (P.read s m) before (Reads p m ∷ []) did (wants, refl)),
     is ∙ sym (writes_push_read q p m before),
   ))
 
-  did_write : (s : S) (q : ℕ) (m : Signal) (before : List (Event Signal)) → P.want s ≡ Write q → P.written s ≡ m → Does P (b.opening s) before s → Does P (b.opening (P.wrote s)) (before ++ Writes q m ∷ []) (P.wrote s)
-  did_write s q m before wants is did = subst (λ o. Does P o (before ++ Writes q m ∷ []) (P.wrote s)) (sym (opening_wrote b laws s (P.wrote s) q wants refl)) (does_then P (b.opening s) s (P.wrote s) before (Writes q m ∷ []) did (wants, is, refl))
+  did_write : (s : S) (q : ℕ) (m : Signal) (before : List (Event Signal)) → P.want s ≡ Write q → P.written s ≡ m → Does P (b.opening s) before s →
+      Does P (b.opening (P.wrote s)) (before ++ Writes q m ∷ []) (P.wrote s)
+  did_write s q m before wants is did =
+      subst (λ o. Does P o (before ++ Writes q m ∷ []) (P.wrote s)) (sym (opening_wrote b laws s (P.wrote s) q wants refl))
+      (does_then P (b.opening s) s (P.wrote s) before (Writes q m ∷ []) did (wants, is, refl))
 
   all_wrote : (p q : ℕ) (s : S) (sent : List Signal) (m : Signal) → p ≡ q → P.want s ≡ Write q → P.written s ≡ m → WroteAll p s sent → WroteAll p (P.wrote s) (sent ++ m ∷ [])
-  all_wrote p q s sent m same wants written all = ∥∥₁_map all (λ (before, did, is). (before ++ Writes q m ∷ [], did_write s q m before wants written did, ap (λ l. l ++ m ∷ []) is ∙ sym (writes_push p q m before same)))
+  all_wrote p q s sent m same wants written all =
+      ∥∥₁_map all (λ (before, did, is).
+      (before ++ Writes q m ∷ [], did_write s q m before wants written did, ap (λ l. l ++ m ∷ []) is ∙ sym (writes_push p q m before same)))
 
   all_other : (p q : ℕ) (s : S) (sent : List Signal) (m : Signal) → (p ≡ q → ⊥) → P.want s ≡ Write q → P.written s ≡ m → WroteAll p s sent → WroteAll p (P.wrote s) sent
-  all_other p q s sent m other wants written all = ∥∥₁_map all (λ (before, did, is). (before ++ Writes q m ∷ [], did_write s q m before wants written did, is ∙ sym (writes_push_other p q m before other)))
+  all_other p q s sent m other wants written all =
+      ∥∥₁_map all (λ (before, did, is).
+      (before ++ Writes q m ∷ [], did_write s q m before wants written did, is ∙ sym (writes_push_other p q m before other)))
 
   -- it writes nothing after its end
   still_open : (s : S) (q : ℕ) (sent : List Signal) → P.want s ≡ Write q → WroteAll q s sent → ended sent ≡ false
@@ -115,7 +124,8 @@ module _ {S : Type 0} (b : Behaviour S) (laws : BehaviourLaws b) (edges : List �
   ])
 
   -- to the edge at one of its ports it put what it wrote there
-  pub sent_own : AreOwn edges → (p : ℕ) → p < length edges → (h : List (Event Signal)) (s t : S) → HasOutputs s → Does P s h t → (sent : List Signal) → WroteAll p s sent → sent_after (edge_of edges) (edge_of edges p) sent h ≡ sent ++ writes p h
+  pub sent_own : AreOwn edges → (p : ℕ) → p < length edges → (h : List (Event Signal)) (s t : S) → HasOutputs s → Does P s h t → (sent : List Signal)
+      → WroteAll p s sent → sent_after (edge_of edges) (edge_of edges p) sent h ≡ sent ++ writes p h
   unfolding sent_after
   sent_own own p inside [] s t has does sent all = sym (append-nil sent)
   sent_own own p inside (Reads q m ∷ h) s t has (wants, rest) sent all = sent_own own p inside h (P.read s m) t (outputs_read s q m wants has) rest sent (all_read p s sent q m wants all)
@@ -124,7 +134,8 @@ module _ {S : Type 0} (b : Behaviour S) (laws : BehaviourLaws b) (edges : List �
       e : ℕ
       e = edge_of edges p
 
-      go : ((sent' : List Signal) → WroteAll p (P.wrote s) sent' → sent_after (edge_of edges) (edge_of edges p) sent' h ≡ sent' ++ writes p h) → (p ≡ q) ⊎ (p ≡ q → ⊥) → sent_after (edge_of edges) (edge_of edges p) sent (Writes q m ∷ h) ≡ sent ++ writes p (Writes q m ∷ h)
+      go : ((sent' : List Signal) → WroteAll p (P.wrote s) sent' → sent_after (edge_of edges) (edge_of edges p) sent' h ≡ sent' ++ writes p h) →
+          (p ≡ q) ⊎ (p ≡ q → ⊥) → sent_after (edge_of edges) (edge_of edges p) sent (Writes q m ∷ h) ≡ sent ++ writes p (Writes q m ∷ h)
       go more (inl same) =
           ap (λ c. sent_after (edge_of edges) (edge_of edges p) (cond c (cond (ended sent) sent (sent ++ m ∷ [])) sent) h) (eq-eqb (edge_of edges p) (edge_of edges q) (ap (edge_of edges) same))
           ∙ ap (λ c. sent_after (edge_of edges) (edge_of edges p) (cond c sent (sent ++ m ∷ [])) h) (still_open s q sent wants (subst (λ k. WroteAll k s sent) same all))
@@ -132,7 +143,8 @@ module _ {S : Type 0} (b : Behaviour S) (laws : BehaviourLaws b) (edges : List �
           ∙ append_assoc sent (m ∷ []) (writes p h)
           ∙ sym (ap (λ c. sent ++ cond c (m ∷ writes p h) (writes p h)) (eq-eqb p q same))
       go more (inr other) =
-          ap (λ c. sent_after (edge_of edges) (edge_of edges p) (cond c (cond (ended sent) sent (sent ++ m ∷ [])) sent) h) (ne_eqb (edge_of edges p) (edge_of edges q) (λ same. other (own p q inside (output_port s q wants has) same)))
+          ap (λ c. sent_after (edge_of edges) (edge_of edges p) (cond c (cond (ended sent) sent (sent ++ m ∷ [])) sent) h)
+          (ne_eqb (edge_of edges p) (edge_of edges q) (λ same. other (own p q inside (output_port s q wants has) same)))
           ∙ more sent (all_other p q s sent m other wants written all)
           ∙ sym (ap (λ c. sent ++ cond c (m ∷ writes p h) (writes p h)) (ne_eqb p q other))
 

@@ -88,7 +88,8 @@ module _ {X : Type 0} {t : Ghosts X} where
       was_stuck : (n : ℕ) → Turned n idle idle_turns nodes mid a v → SameTraffic a w → AreStuck a nodes
       was_stuck zero now same =
           let start = now.first refl in
-          subst (λ (z : List (Placed X t)). AreStuck a z) start.0 (subst (λ (z : View). AreStuck z mid) start.1 (still any went.busy went.stuck (subst (λ (z : View). SameTraffic z w) (sym start.1) same)))
+          subst (λ (z : List (Placed X t)). AreStuck a z) start.0
+          (subst (λ (z : View). AreStuck z mid) start.1 (still any went.busy went.stuck (subst (λ (z : View). SameTraffic z w) (sym start.1) same)))
       was_stuck (suc n) now same = now.progress (omega arith) (same_first a v w (moved_grows nodes mid a v now.moved) (moved_grows mid later v w went.moved) same)
 
       pub turned_next : (now : ℕ) → now < idle_turns → ((any ≡ true) × (now ≡ 0)) ⊎ ((any ≡ false) × (now ≡ idle + 1)) → Turned (turns + 1) now idle_turns nodes later a w
@@ -129,7 +130,9 @@ module _ {X : Type 0} {t : Ghosts X} (nodes mid later : List (Placed X t)) (a v 
 -- a share that is put together again
 module _ {X : Type 0} {t : Ghosts X} (nodes later out : List (Placed X t)) (a v w : View) (nodes_are : out ≡ later) (view_is : w ≡ v) (places : AreSamePlaces nodes later) where
   pub there_out : SameEnds a v → All (HasItsEnds a) nodes → All (HasItsEnds w) out
-  there_out ends there = subst (λ (z : List (Placed X t)). All (HasItsEnds w) z) (sym nodes_are) (subst (λ (z : View). All (HasItsEnds z) later) (sym view_is) (there_later nodes later places a v ends there))
+  there_out ends there =
+      subst (λ (z : List (Placed X t)). All (HasItsEnds w) z) (sym nodes_are)
+      (subst (λ (z : View). All (HasItsEnds z) later) (sym view_is) (there_later nodes later places a v ends there))
 
   pub apart_out : AreApart nodes → AreApart out
   apart_out apart = subst (λ (z : List (Placed X t)). AreApart z) (sym nodes_are) (apart_later nodes later places apart)
@@ -138,4 +141,6 @@ module _ {X : Type 0} {t : Ghosts X} (nodes later out : List (Placed X t)) (a v 
   own_out moved own = subst (λ (z : List (Placed X t)). All (IsOwn w) z) (sym nodes_are) (subst (λ (z : View). All (IsOwn z) later) (sym view_is) (own_later nodes later a v places moved own))
 
   pub often_out : (turns idle_turns : ℕ) → HaveMovedForTurns turns idle_turns nodes later a v → HaveMovedForTurns turns idle_turns nodes out a w
-  often_out turns idle_turns often = subst (λ (z : List (Placed X t)). HaveMovedForTurns turns idle_turns nodes z a w) (sym nodes_are) (subst (λ (z : View). HaveMovedForTurns turns idle_turns nodes later a z) (sym view_is) often)
+  often_out turns idle_turns often =
+      subst (λ (z : List (Placed X t)). HaveMovedForTurns turns idle_turns nodes z a w) (sym nodes_are)
+      (subst (λ (z : View). HaveMovedForTurns turns idle_turns nodes later a z) (sym view_is) often)

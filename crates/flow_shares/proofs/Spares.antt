@@ -14,7 +14,8 @@ module _ {X : Type 0} {t : Ghosts X} where
   spared_none nodes a = record { coming = λ e none. prefix_same (a.coming e) (a.coming e) refl; room = λ e none. omega arith }
 
   -- a visit of one of them
-  pub visit_spares : (nodes : List (Placed X t)) (k : ℕ) (x : Placed X t) → k < length nodes → x ≡ get_or nodes k x → (v w : View) → SparesOthers (inputs_of x) (outputs_of x) v w → SpareOthers nodes v w
+  pub visit_spares : (nodes : List (Placed X t)) (k : ℕ) (x : Placed X t) → k < length nodes → x ≡ get_or nodes k x → (v w : View) →
+      SparesOthers (inputs_of x) (outputs_of x) v w → SpareOthers nodes v w
   visit_spares nodes k x inside is v w spares = record {
     coming = λ e none. spares.coming e (subst (λ (z : Placed X t). IsNone (inputs_of z) e) (sym is) (none k x inside));
     room = λ e none. spares.room e (subst (λ (z : Placed X t). IsNone (outputs_of z) e) (sym is) (none k x inside));

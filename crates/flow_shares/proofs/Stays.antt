@@ -39,9 +39,11 @@ module _ {X : Type 0} {t : Ghosts X} where
     pub stays_here : (k : ℕ) (d : Placed X t) → k < length nodes → IsSamePlace (get_or nodes k d) (node_at later (share_of share k) (was.place k) d)
     stays_here k d l =
         let h = was.inside k l in
-        same_places (get_or nodes k d) (node_at dealt (share_of share k) (was.place k) d) (node_at later (share_of share k) (was.place k) d) (was.here k d l) ((same.each (share_of share k) h.0).each (was.place k) d h.1)
+        same_places (get_or nodes k d) (node_at dealt (share_of share k) (was.place k) d) (node_at later (share_of share k) (was.place k) d)
+        (was.here k d l) ((same.each (share_of share k) h.0).each (was.place k) d h.1)
 
-    pub stays_back : (s i : ℕ) (d : Placed X t) → s < length later → i < length (get_or later s []) → let k = (node_at later s i d).number in (k < length nodes) × (share_of share k ≡ s) × (was.place k ≡ i)
+    pub stays_back : (s i : ℕ) (d : Placed X t) → s < length later → i < length (get_or later s []) → let k = (node_at later s i d).number in
+        (k < length nodes) × (share_of share k ≡ s) × (was.place k ≡ i)
     stays_back s i d ls li =
         let there : s < length dealt = omega (arith, ls, same.count) in
         let within : i < length (get_or dealt s []) = omega (arith, li, long s there) in

@@ -1,5 +1,6 @@
 -- What a visit of one node makes of all.
-use Rattle.std.proofs.Common.{◌≡◌, ℕ, ◌+◌, ◌<◌, ◌≤◌, true, false, cond, eqb, List, [], ◌++◌, length, get_or, set, map, ◌⊎◌, inl, inr, refl, sym, ◌∙◌, ap, subst, arith, append-nil, eq-eqb, ne_eqb, get_or-set_other}
+use Rattle.std.proofs.Common.{◌≡◌, ℕ, ◌+◌, ◌<◌, ◌≤◌, true, false, cond, eqb, List, [], ◌++◌, length, get_or, set, map, ◌⊎◌, inl, inr, refl, sym, ◌∙◌}
+use Rattle.std.proofs.Common.{ap, subst, arith, append-nil, eq-eqb, ne_eqb, get_or-set_other}
 use Rattle.std.specs.List.{All}
 use Rattle.std.proofs.lemmas.Bool.{cases_eq}
 use Rattle.std.proofs.lemmas.List.{get_or-map, length-set}
@@ -38,7 +39,9 @@ module _ {X : Type 0} (edges : X → List ℕ) (nodes : List X) (once : StandOnc
   pub none_away : (e : ℕ) → All (λ node. IsNone (edges node) e) nodes → IsAway (edges x) e
   none_away e none q port same = subst (λ (z : X). IsNone (edges z) e) (is x) (none k x inside) q 0 port same
 
-module _ {X : Type 0} {t : Ghosts X} (laws : BehaviourLaws t.behaviour) (nodes : List (Placed X t)) (k : ℕ) (x y : Placed X t) (inside : k < length nodes) (is : x ≡ get_or nodes k x) (apart : AreApart nodes) (h : List (Event Signal)) (does : Does t.behaviour.process (placed_state x) h (placed_state y)) where
+module _ {X : Type 0} {t : Ghosts X} (laws : BehaviourLaws t.behaviour) (nodes : List (Placed X t)) (k : ℕ) (x y : Placed X t)
+    (inside : k < length nodes) (is : x ≡ get_or nodes k x) (apart : AreApart nodes) (h : List (Event Signal))
+    (does : Does t.behaviour.process (placed_state x) h (placed_state y)) where
   abbrev b : Behaviour t.State
   b = t.behaviour
 
@@ -72,7 +75,8 @@ module _ {X : Type 0} {t : Ghosts X} (laws : BehaviourLaws t.behaviour) (nodes :
           subst (λ l. Does b.process (placed_state (get_or nodes j d)) l (placed_state (get_or (set nodes k y) j d))) (sym (at_here j same))
           (subst (λ (z : Placed X t). Does b.process (placed_state z) h (placed_state (get_or (set nodes k y) j d))) (sym (here j d same))
           (subst (λ (z : Placed X t). Does b.process (placed_state x) h (placed_state z)) (sym later) does))
-      go (inr other) = subst (λ l. Does b.process (placed_state (get_or nodes j d)) l (placed_state (get_or (set nodes k y) j d))) (sym (at_other j other)) (sym (ap placed_state (get_or-set_other nodes k j y d other)))
+      go (inr other) = subst (λ l. Does b.process (placed_state (get_or nodes j d)) l (placed_state (get_or (set nodes k y) j d)))
+          (sym (at_other j other)) (sym (ap placed_state (get_or-set_other nodes k j y d other)))
 
   -- what the visit takes from the edges at the input ports of node j
   reads_at : (j p : ℕ) (d : Placed X t) → j < length nodes → p < length (inputs_of (get_or nodes j d)) → read_from (edge_of (inputs_of x)) (edge_of (inputs_of (get_or nodes j d)) p) h ≡ reads p (at j)
@@ -81,36 +85,45 @@ module _ {X : Type 0} {t : Ghosts X} (laws : BehaviourLaws t.behaviour) (nodes :
       go : (j ≡ k) ⊎ (j ≡ k → ⊥) → read_from (edge_of (inputs_of x)) (edge_of (inputs_of (get_or nodes j d)) p) h ≡ reads p (at j)
       go (inl same) =
           subst (λ (z : Placed X t). p < length (inputs_of z) → read_from (edge_of (inputs_of x)) (edge_of (inputs_of z) p) h ≡ reads p (at j)) (sym (here j d same))
-          (λ port'. read_own b laws (inputs_of x) (are_own inputs_of nodes apart.inputs k x inside (it_is nodes k x y inside is)) p port' h (placed_state x) (placed_state y) has_inputs does ∙ ap (reads p) (sym (at_here j same)))
+          (λ port'. read_own b laws (inputs_of x) (are_own inputs_of nodes apart.inputs k x inside (it_is nodes k x y inside is)) p port' h
+          (placed_state x) (placed_state y) has_inputs does ∙ ap (reads p) (sym (at_here j same)))
           port
       go (inr other) =
-          read_other b laws (inputs_of x) (edge_of (inputs_of (get_or nodes j d)) p) (is_away inputs_of nodes apart.inputs k x inside (it_is nodes k x y inside is) j p d l other port) h (placed_state x) (placed_state y) has_inputs does
+          read_other b laws (inputs_of x) (edge_of (inputs_of (get_or nodes j d)) p)
+          (is_away inputs_of nodes apart.inputs k x inside (it_is nodes k x y inside is) j p d l other port) h (placed_state x) (placed_state y)
+          has_inputs does
           ∙ ap (reads p) (sym (at_other j other))
 
   none_read : (e : ℕ) → All (λ placed. IsNone (inputs_of placed) e) nodes → read_from (edge_of (inputs_of x)) e h ≡ []
   none_read e none = read_other b laws (inputs_of x) e (none_away inputs_of nodes apart.inputs k x inside (it_is nodes k x y inside is) e none) h (placed_state x) (placed_state y) has_inputs does
 
   none_sent : (e : ℕ) (sent : List Signal) → All (λ placed. IsNone (outputs_of placed) e) nodes → sent_after (edge_of (outputs_of x)) e sent h ≡ sent
-  none_sent e sent none = sent_other b laws (outputs_of x) e (none_away outputs_of nodes apart.outputs k x inside (it_is nodes k x y inside is) e none) h (placed_state x) (placed_state y) has_outputs does sent
+  none_sent e sent none =
+      sent_other b laws (outputs_of x) e (none_away outputs_of nodes apart.outputs k x inside (it_is nodes k x y inside is) e none) h (placed_state x)
+      (placed_state y) has_outputs does sent
 
   module _ (v w : View) (own : IsOwn v x) where
     wrote_all : (q : ℕ) → q < length (outputs_of x) → WroteAll b laws (outputs_of x) q (placed_state x) (v.sent (edge_of (outputs_of x) q))
     wrote_all q port = ∥∥₁_map own (λ (before : HasHistory v x). (before.history, before.does, before.sent q port))
 
     -- what the visit puts on the edges at the output ports of node j
-    sent_at : (j q : ℕ) (d : Placed X t) → j < length nodes → q < length (outputs_of (get_or nodes j d)) → let e = edge_of (outputs_of (get_or nodes j d)) q in sent_after (edge_of (outputs_of x)) e (v.sent e) h ≡ v.sent e ++ writes q (at j)
+    sent_at : (j q : ℕ) (d : Placed X t) → j < length nodes → q < length (outputs_of (get_or nodes j d)) → let e =
+        edge_of (outputs_of (get_or nodes j d)) q in sent_after (edge_of (outputs_of x)) e (v.sent e) h ≡ v.sent e ++ writes q (at j)
     sent_at j q d l port = go (cases_eq j k)
       where
         go : (j ≡ k) ⊎ (j ≡ k → ⊥) → let e = edge_of (outputs_of (get_or nodes j d)) q in sent_after (edge_of (outputs_of x)) e (v.sent e) h ≡ v.sent e ++ writes q (at j)
         go (inl same) =
-            subst (λ (z : Placed X t). q < length (outputs_of z) → let e = edge_of (outputs_of z) q in sent_after (edge_of (outputs_of x)) e (v.sent e) h ≡ v.sent e ++ writes q (at j)) (sym (here j d same))
+            subst (λ (z : Placed X t). q < length (outputs_of z) → let e = edge_of (outputs_of z) q in
+            sent_after (edge_of (outputs_of x)) e (v.sent e) h ≡ v.sent e ++ writes q (at j)) (sym (here j d same))
             (λ port'.
-            sent_own b laws (outputs_of x) (are_own outputs_of nodes apart.outputs k x inside (it_is nodes k x y inside is)) q port' h (placed_state x) (placed_state y) has_outputs does (v.sent (edge_of (outputs_of x) q)) (wrote_all q port')
+            sent_own b laws (outputs_of x) (are_own outputs_of nodes apart.outputs k x inside (it_is nodes k x y inside is)) q port' h
+            (placed_state x) (placed_state y) has_outputs does (v.sent (edge_of (outputs_of x) q)) (wrote_all q port')
             ∙ ap (λ l. v.sent (edge_of (outputs_of x) q) ++ writes q l) (sym (at_here j same)))
             port
         go (inr other) =
             let e = edge_of (outputs_of (get_or nodes j d)) q in
-            sent_other b laws (outputs_of x) e (is_away outputs_of nodes apart.outputs k x inside (it_is nodes k x y inside is) j q d l other port) h (placed_state x) (placed_state y) has_outputs does (v.sent e)
+            sent_other b laws (outputs_of x) e (is_away outputs_of nodes apart.outputs k x inside (it_is nodes k x y inside is) j q d l other port) h
+            (placed_state x) (placed_state y) has_outputs does (v.sent e)
             ∙ sym (append-nil (v.sent e)) ∙ ap (λ l. v.sent e ++ writes q l) (sym (at_other j other))
 
     -- where it took and put just its messages, all have moved
@@ -129,7 +142,8 @@ module _ {X : Type 0} {t : Ghosts X} (laws : BehaviourLaws t.behaviour) (nodes :
     visit_history carried = at_here k refl
 
 -- where memory was refused
-module _ {X : Type 0} {t : Ghosts X} (laws : BehaviourLaws t.behaviour) (nodes : List (Placed X t)) (k : ℕ) (x y : Placed X t) (inside : k < length nodes) (is : x ≡ get_or nodes k x) (apart : AreApart nodes) (v w : View) (own : IsOwn v x)
+module _ {X : Type 0} {t : Ghosts X} (laws : BehaviourLaws t.behaviour) (nodes : List (Placed X t)) (k : ℕ) (x y : Placed X t)
+    (inside : k < length nodes) (is : x ≡ get_or nodes k x) (apart : AreApart nodes) (v w : View) (own : IsOwn v x)
     (broke : BrokeOff (inputs_of x) (outputs_of x) t.behaviour (placed_state x) v (placed_state y) w) where
   pub visit_lost : HaveMovedAndLost nodes (set nodes k y) v w
   visit_lost = record {
@@ -149,6 +163,8 @@ module _ {X : Type 0} {t : Ghosts X} (laws : BehaviourLaws t.behaviour) (nodes :
 
   pub visit_starves : TakesMemory (set nodes k y)
   visit_starves none =
-      let spared : t.behaviour.takes_memory (placed_state y) ≡ false = subst (λ (z : Placed X t). t.behaviour.takes_memory (placed_state z) ≡ false) (now_is nodes k x y inside is y) (none k y (omega (arith, inside, length-set nodes k y))) in
+      let spared : t.behaviour.takes_memory (placed_state y) ≡ false =
+      subst (λ (z : Placed X t). t.behaviour.takes_memory (placed_state z) ≡ false) (now_is nodes k x y inside is y)
+      (none k y (omega (arith, inside, length-set nodes k y))) in
       let no : true ≡ false = sym broke.starves ∙ spared in
       cc

@@ -30,7 +30,8 @@ module _ {X : Type 0} {t : Ghosts X} where
     pub inside : (k : ℕ) → k < length nodes → (share_of share k < length dealt) × (place k < length (slice_index_or dealt (share_of share k) []))
     pub order : (j k : ℕ) → j < k → k < length nodes → share_of share j ≡ share_of share k → place j < place k
     pub here : (k : ℕ) (d : Placed X t) → k < length nodes → R (slice_index_or nodes k d) (node_at dealt (share_of share k) (place k) d)
-    pub back : (s i : ℕ) (d : Placed X t) → s < length dealt → i < length (slice_index_or dealt s []) → let k = (node_at dealt s i d).number in (k < length nodes) × (share_of share k ≡ s) × (place k ≡ i)
+    pub back : (s i : ℕ) (d : Placed X t) → s < length dealt → i < length (slice_index_or dealt s []) → let k = (node_at dealt s i d).number in
+        (k < length nodes) × (share_of share k ≡ s) × (place k ≡ i)
 
   -- the same nodes, perhaps later
   abbrev pub AreDealt : List ℕ → List (Placed X t) → List (List (Placed X t)) → Type 0
@@ -61,7 +62,8 @@ module _ {X : Type 0} {t : Ghosts X} where
 
   -- these nodes stay dealt out, each at its place, while their shares become the same places later
   abbrev pub StayDealt : List (Placed X t) → Type 0
-  StayDealt nodes = (share : List ℕ) (dealt later : List (List (Placed X t))) → (was : AreDealt share nodes dealt) → AreSameShares dealt later → (is : AreDealt share nodes later) × (is.place ≡ was.place)
+  StayDealt nodes = (share : List ℕ) (dealt later : List (List (Placed X t))) → (was : AreDealt share nodes dealt) → AreSameShares dealt later →
+      (is : AreDealt share nodes later) × (is.place ≡ was.place)
 
   -- these nodes are dealt out where they were just dealt out, each at its place
   abbrev pub AreDealtAsGiven : List (Placed X t) → Type 0

@@ -76,8 +76,10 @@ module _ {X : Type 0} {t : Ghosts X} where
   pub record HaveMoved (nodes later : List (Placed X t)) (a v : View) : Type 0 where
     pub history : ℕ → List (Event Signal)
     pub does : (k : ℕ) (d : Placed X t) → k < length nodes → Does t.behaviour.process (placed_state (slice_index_or nodes k d)) (history k) (placed_state (slice_index_or later k d))
-    pub received : (k p : ℕ) (d : Placed X t) → k < length nodes → let edges = inputs_of (slice_index_or nodes k d) in p < length edges → v.received (edge_of edges p) ≡ a.received (edge_of edges p) ++ reads p (history k)
-    pub sent : (k q : ℕ) (d : Placed X t) → k < length nodes → let edges = outputs_of (slice_index_or nodes k d) in q < length edges → v.sent (edge_of edges q) ≡ a.sent (edge_of edges q) ++ writes q (history k)
+    pub received : (k p : ℕ) (d : Placed X t) → k < length nodes → let edges = inputs_of (slice_index_or nodes k d) in p < length edges →
+        v.received (edge_of edges p) ≡ a.received (edge_of edges p) ++ reads p (history k)
+    pub sent : (k q : ℕ) (d : Placed X t) → k < length nodes → let edges = outputs_of (slice_index_or nodes k d) in q < length edges →
+        v.sent (edge_of edges q) ≡ a.sent (edge_of edges q) ++ writes q (history k)
     pub other_received : (e : ℕ) → All (λ placed. IsNone (inputs_of placed) e) nodes → v.received e ≡ a.received e
     pub other_sent : (e : ℕ) → All (λ placed. IsNone (outputs_of placed) e) nodes → v.sent e ≡ a.sent e
 
@@ -100,7 +102,10 @@ module _ {X : Type 0} {t : Ghosts X} where
     pub history : ℕ → List (Event Signal)
     pub lost : ℕ  -- the edge that may have lost a message
     pub does : (k : ℕ) (d : Placed X t) → k < length nodes → Does t.behaviour.process (placed_state (slice_index_or nodes k d)) (history k) (placed_state (slice_index_or later k d))
-    pub received : (k p : ℕ) (d : Placed X t) → k < length nodes → let edges = inputs_of (slice_index_or nodes k d) in p < length edges → let before = a.received (edge_of edges p) ++ reads p (history k) in Begins before (v.received (edge_of edges p)) × (length (v.received (edge_of edges p)) ≤ length before + 1) × ((edge_of edges p ≡ lost → ⊥) → v.received (edge_of edges p) ≡ before)
-    pub sent : (k q : ℕ) (d : Placed X t) → k < length nodes → let edges = outputs_of (slice_index_or nodes k d) in q < length edges → v.sent (edge_of edges q) ≡ a.sent (edge_of edges q) ++ writes q (history k)
+    pub received : (k p : ℕ) (d : Placed X t) → k < length nodes → let edges = inputs_of (slice_index_or nodes k d) in p < length edges → let before =
+        a.received (edge_of edges p) ++ reads p (history k) in Begins before (v.received (edge_of edges p))
+        × (length (v.received (edge_of edges p)) ≤ length before + 1) × ((edge_of edges p ≡ lost → ⊥) → v.received (edge_of edges p) ≡ before)
+    pub sent : (k q : ℕ) (d : Placed X t) → k < length nodes → let edges = outputs_of (slice_index_or nodes k d) in q < length edges →
+        v.sent (edge_of edges q) ≡ a.sent (edge_of edges q) ++ writes q (history k)
     pub other_received : (e : ℕ) → All (λ placed. IsNone (inputs_of placed) e) nodes → v.received e ≡ a.received e
     pub other_sent : (e : ℕ) → All (λ placed. IsNone (outputs_of placed) e) nodes → v.sent e ≡ a.sent e

@@ -43,7 +43,8 @@ bare_network t = record { nodes = []; edges = []; fit = none_fit t; share = []; 
 pub no_owners : AreOwners [] [] []
 no_owners = record { count = refl; writers = λ e w l. absurd (omega (arith, l)); readers = λ e w l. absurd (omega (arith, l)) }
 
-pub bare_graph : {X : Type 0} {t : Ghosts X} {u : EndsGhosts Rings} (shares : List (Share X Rings t u)) → All (λ share. length share.nodes.items ≡ 0) shares → All (λ share. HasNoEnds (u.view share.ends)) shares
+pub bare_graph : {X : Type 0} {t : Ghosts X} {u : EndsGhosts Rings} (shares : List (Share X Rings t u)) →
+    All (λ share. length share.nodes.items ≡ 0) shares → All (λ share. HasNoEnds (u.view share.ends)) shares
     → AreOfOneGraph (bare_network t) shares
 bare_graph {X} {t} {u} shares bare none = record {
   deals = record {

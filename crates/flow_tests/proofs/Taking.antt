@@ -11,7 +11,8 @@ use Rattle.flow_meetings.specs.Open.{kind_at, HasFreshEnds}
 use Rattle.flow_tests.specs.Taking.{AllTake}
 
 -- fresh ends of edges of one kind take all items of it
-pub fresh_take : (owners : List EdgeOwners) (kinds : List Kind) (kind : Kind) (capacity s : ℕ) (v : View) → kinds ≡ replicate (length owners) kind → HasFreshEnds owners kinds capacity s v → AllTake v kind
+pub fresh_take : (owners : List EdgeOwners) (kinds : List Kind) (kind : Kind) (capacity s : ℕ) (v : View) → kinds ≡ replicate (length owners) kind →
+    HasFreshEnds owners kinds capacity s v → AllTake v kind
 fresh_take owners kinds kind capacity s v is fresh e there =
     let inside : e < length owners = at_line-there (λ (owner : EdgeOwners). owner.writer == s) owners e (sym (fresh.writes e) ∙ there) in
     subst (TakesKind (v.kind e)) (ap (λ ks. kind_at ks e) is ∙ get_or-replicate (length owners) e kind UnitKind inside) (fresh.kind e there)

@@ -34,7 +34,9 @@ use Rattle.flow_texts.proofs.LastTexts.{last_is}
 -- values of a type that put the same on its edges are one value
 same_value : (ty : Ty) (v w : Value) → is_a ty v ≡ true → is_a ty w ≡ true → ((p : ℕ) → p < width ty → flat ty 0 (v ∷ []) p ≡ flat ty 0 (w ∷ []) p) → v ≡ w
 same_value ty v w is_v is_w same =
-    let one : v ∷ [] ≡ w ∷ [] = laid_injective ty (v ∷ []) (w ∷ []) (all_cons ty v [] is_v refl) (all_cons ty w [] is_w refl) (columns_same (width ty) (flat ty 0 (v ∷ [])) (flat ty 0 (w ∷ [])) same) in
+    let one : v ∷ [] ≡ w ∷ [] =
+    laid_injective ty (v ∷ []) (w ∷ []) (all_cons ty v [] is_v refl) (all_cons ty w [] is_w refl)
+    (columns_same (width ty) (flat ty 0 (v ∷ [])) (flat ty 0 (w ∷ [])) same) in
     cc
 
 module _ (states : List StreamNodeState) (edges : List Edge) (is_net : IsNetwork node_behaviour states edges) (opened : AreOpened node_behaviour states) where

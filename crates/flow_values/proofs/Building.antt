@@ -46,7 +46,8 @@ pub fits_after : (ty : Ty) (items : List Item) (x : Item) (n : ℕ) → n ≡ le
 fits_after ty items x n all fits = ap (λ k. part_fits ty k (cell_of x)) (length-map items cell_of ∙ sym all) ∙ sym fits
 
 -- all fit where it may have been added
-pub parts_pushed : (ty : Ty) (old new : List Item) (x : Item) (pushed : Bool) → PartsFit ty (map cell_of old) → part_fits ty (length (map cell_of old)) (cell_of x) ≡ true → new ≡ if pushed then (old ++ x ∷ []) else old → PartsFit ty (map cell_of new)
+pub parts_pushed : (ty : Ty) (old new : List Item) (x : Item) (pushed : Bool) → PartsFit ty (map cell_of old) →
+    part_fits ty (length (map cell_of old)) (cell_of x) ≡ true → new ≡ if pushed then (old ++ x ∷ []) else old → PartsFit ty (map cell_of new)
 parts_pushed ty old new x true fit next is =
     subst (λ l. PartsFit ty l) (sym (ap (map cell_of) is ∙ map-append cell_of old (x ∷ []))) (parts_more ty (map cell_of old) (cell_of x) fit next)
 parts_pushed ty old new x false fit next is = subst (λ l. PartsFit ty (map cell_of l)) (sym is) fit
@@ -143,7 +144,8 @@ module _ (ty : Ty) (es : List Value) (got : List Cell) (fit : PartsFit ty got) (
   refused_answer (Ok u) h = absurd h
   refused_answer (Err e) h = subst (λ e. Takes (with_parameters ty (grown ty es got)) old (Err e) new) (sym h) refused_grows
 
-  pub stopped_answer : (r : Result (Unit {0}) Stop) (e : Stop) (items : List Item) → MakesDatum (built ty got) (Err e) items → IsErrAnd r (λ d. d ≡ e) → Takes (with_parameters ty (grown ty es got)) old r new
+  pub stopped_answer : (r : Result (Unit {0}) Stop) (e : Stop) (items : List Item) → MakesDatum (built ty got) (Err e) items → IsErrAnd r (λ d. d ≡ e)
+      → Takes (with_parameters ty (grown ty es got)) old r new
   stopped_answer (Ok u) e items h is = absurd is
   stopped_answer (Err d) e items h is = subst (λ d. Takes (with_parameters ty (grown ty es got)) old (Err d) new) (sym is) (stopped_grows e items h)
 
@@ -155,7 +157,8 @@ all_there ty items kinds i k items_are kinds_are same le =
     omega (arith, le, size, edges, items_are, kinds_are)
 
 -- where the next item fits as well, it leads on, with the memory for it
-pub refused_item : (ty : Ty) (es : List Value) (got : List Cell) (x : Cell) → PartsFit ty got → part_fits ty (length got) x ≡ true → (old new : Ty × TabState) → new ≡ old → Takes (with_parameters ty (item_given ty es got x)) old (Err OutOfMemory) new
+pub refused_item : (ty : Ty) (es : List Value) (got : List Cell) (x : Cell) → PartsFit ty got → part_fits ty (length got) x ≡ true →
+    (old new : Ty × TabState) → new ≡ old → Takes (with_parameters ty (item_given ty es got x)) old (Err OutOfMemory) new
 refused_item ty es got x fit next old new same =
     let lt = fits_within ty (length got) x next in
     let inside : nat_lt (length got) (width ty) ≡ true = grind (arith, nat_tests, lt) in

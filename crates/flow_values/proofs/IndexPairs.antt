@@ -94,12 +94,14 @@ still_next v w e f m y apart taken first next = elim (cases_eq f e) [
 ]
 
 -- the edge of the indices is another than that of the vectors
-index_still : {item : Ty} {x : Cell} (v w : View) (e f : ℕ) (shown : PairShown item (v.coming e) (v.coming f) x) → Taken v e (carry (datum (a_vec shown.picked.vector))) w → IsPrefix (carry (int_cell shown.picked.index) ∷ []) (w.coming f)
+index_still : {item : Ty} {x : Cell} (v w : View) (e f : ℕ) (shown : PairShown item (v.coming e) (v.coming f) x) →
+    Taken v e (carry (datum (a_vec shown.picked.vector))) w → IsPrefix (carry (int_cell shown.picked.index) ∷ []) (w.coming f)
 index_still v w e f shown taken = still_next v w e f (carry (datum (a_vec shown.picked.vector))) (carry (int_cell shown.picked.index)) (λ same. cc) taken shown.vector_next shown.index_next
 
 -- who takes what comes first on both edges takes the vector and the index
 pub pair_taken : {item : Ty} {x : Cell} (v u t : View) (e f : ℕ) (shown : PairShown item (v.coming e) (v.coming f) x) →
-    ((m : Signal) → IsPrefix (m ∷ []) (v.coming e) → Taken v e m u) → ((m : Signal) → IsPrefix (m ∷ []) (u.coming f) → Taken u f m t) → Taken v e (carry (datum (a_vec shown.picked.vector))) u × Taken u f (carry (int_cell shown.picked.index)) t
+    ((m : Signal) → IsPrefix (m ∷ []) (v.coming e) → Taken v e m u) → ((m : Signal) → IsPrefix (m ∷ []) (u.coming f) → Taken u f m t) →
+    Taken v e (carry (datum (a_vec shown.picked.vector))) u × Taken u f (carry (int_cell shown.picked.index)) t
 pair_taken v u t e f shown takes_vector takes_index =
     let vector = takes_vector (carry (datum (a_vec shown.picked.vector))) shown.vector_next in
     (vector, takes_index (carry (int_cell shown.picked.index)) (index_still v u e f shown vector))
@@ -109,7 +111,8 @@ module _ (inputs outputs : List ℕ) (item : Ty) (at : ℕ) where
   on s = node_state (item, s) Working at
 
   -- its vector and its index are read, and the element is written
-  pub pair_went : {x : Cell} (a v u t w : View) → 1 < length inputs → 0 < length outputs → LookedForRoom a (edge_of outputs 0) v → (shown : PairShown item (v.coming (edge_of inputs 0)) (v.coming (edge_of inputs 1)) x) →
+  pub pair_went : {x : Cell} (a v u t w : View) → 1 < length inputs → 0 < length outputs → LookedForRoom a (edge_of outputs 0) v →
+      (shown : PairShown item (v.coming (edge_of inputs 0)) (v.coming (edge_of inputs 1)) x) →
       Taken v (edge_of inputs 0) (carry (datum (a_vec shown.picked.vector))) u → Taken u (edge_of inputs 1) (carry (int_cell shown.picked.index)) t → Wrote t (edge_of outputs 0) (carry x) w →
       Went inputs outputs (behaviour_of index_machine) (on (writing [])) a (on (writing [])) w 3
   pair_went {x} a v u t w reads writes looked shown vector index wrote =
@@ -117,10 +120,16 @@ module _ (inputs outputs : List ℕ) (item : Ty) (at : ℕ) where
       let p = shown.picked in
       let dues = dues_of item 0 p.element in
       let leads : Leads (on_kind VecKind (vector_given item)) (carry (datum (a_vec p.vector))) (held p.vector) = ap (λ c. cond c (Ok (held p.vector)) (Err Shape)) p.of_type in
-      let then : Leads (on_int (λ n. element_given item (element_at p.vector n))) (carry (int_cell p.index)) (writing (due 0 x ∷ [])) = ap (element_given item) p.found ∙ ap (λ ds. Ok (writing ds)) (pair_dues shown) in
+      let then : Leads (on_int (λ n. element_given item (element_at p.vector n))) (carry (int_cell p.index)) (writing (due 0 x ∷ [])) =
+      ap (element_given item) p.found ∙ ap (λ ds. Ok (writing ds)) (pair_dues shown) in
       let began = went_looked b inputs outputs (went_none b inputs outputs (on (writing [])) a) 0 v writes looked in
-      let holds = went_read b inputs outputs began 0 (carry (datum (a_vec p.vector))) (on (held p.vector)) u (omega (arith, reads)) refl vector (leads_on index_machine item (writing []) (held p.vector) at (on_kind VecKind (vector_given item)) (carry (datum (a_vec p.vector))) (λ y. refl) leads) in
-      let owes = went_read b inputs outputs holds 1 (carry (int_cell p.index)) (on (writing (due 0 x ∷ []))) t reads refl index (leads_on index_machine item (held p.vector) (writing (due 0 x ∷ [])) at (on_int (λ n. element_given item (element_at p.vector n))) (carry (int_cell p.index)) (λ y. refl) then) in
+      let holds = went_read b inputs outputs began 0 (carry (datum (a_vec p.vector))) (on (held p.vector)) u (omega (arith, reads)) refl vector
+      (leads_on index_machine item (writing []) (held p.vector) at (on_kind VecKind (vector_given item)) (carry (datum (a_vec p.vector)))
+      (λ y. refl) leads) in
+      let owes = went_read b inputs outputs holds 1 (carry (int_cell p.index)) (on (writing (due 0 x ∷ []))) t reads refl index
+      (leads_on index_machine item (held p.vector) (writing (due 0 x ∷ [])) at (on_int (λ n. element_given item (element_at p.vector n)))
+      (carry (int_cell p.index)) (λ y. refl) then) in
       let out = output_of (width item) 0 in
       let first = first_output (width item) in
-      went_write b inputs outputs owes out (carry x) (on (writing [])) w (subst (λ q. q < length outputs) (sym first) writes) refl refl (subst (λ q. Wrote t (edge_of outputs q) (carry x) w) (sym first) wrote) refl
+      went_write b inputs outputs owes out (carry x) (on (writing [])) w (subst (λ q. q < length outputs) (sym first) writes) refl refl
+      (subst (λ q. Wrote t (edge_of outputs q) (carry x) w) (sym first) wrote) refl

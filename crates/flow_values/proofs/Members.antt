@@ -24,7 +24,8 @@ and_both true b c h e = h e
 and_both false b c h e = absurd (cc)
 
 -- all before are of the type, and the next one
-pub one_more_is : (item : Ty) (ds : List Datum) (i : ℕ) (d : Datum) → i < length ds → d ≡ get_or ds i d → is_a item (value_of d) ≡ true → each_is item (take i ds) ≡ true → each_is item (take (i + 1) ds) ≡ true
+pub one_more_is : (item : Ty) (ds : List Datum) (i : ℕ) (d : Datum) → i < length ds → d ≡ get_or ds i d → is_a item (value_of d) ≡ true →
+    each_is item (take i ds) ≡ true → each_is item (take (i + 1) ds) ≡ true
 one_more_is item [] i d lt at h all = absurd (omega arith)
 one_more_is item (x ∷ ds) zero d lt at h all = ap (λ b. b && true) (ap (λ x. is_a item (value_of x)) (sym at) ∙ h)
 one_more_is item (x ∷ ds) (suc i) d lt at h all =

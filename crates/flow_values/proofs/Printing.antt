@@ -1,5 +1,6 @@
 -- What is ahead of a value that is printed, as it grows.
-use Rattle.std.proofs.Common.{◌≡◌, ℕ, zero, suc, ◌+◌, ◌-◌, ◌<◌, ◌≤◌, ◌^◌, List, [], ◌∷◌, ◌++◌, length, take, codes, refl, sym, ap, ◌∙◌, subst, arith, Result, Ok, Err, OnOk, Bool, true, false, cond, nat_lt, Option, Some, None, append_assoc, length-append}
+use Rattle.std.proofs.Common.{◌≡◌, ℕ, zero, suc, ◌+◌, ◌-◌, ◌<◌, ◌≤◌, ◌^◌, List, [], ◌∷◌, ◌++◌, length, take, codes, refl, sym, ap, ◌∙◌, subst, arith}
+use Rattle.std.proofs.Common.{Result, Ok, Err, OnOk, Bool, true, false, cond, nat_lt, Option, Some, None, append_assoc, length-append}
 use Rattle.std.proofs.Math.Path.{ap₂}
 use Rattle.snesl_data.specs.Types.{Ty, int, bool, pair, vec, seq}
 use Rattle.std.specs.List.{slice_get}
@@ -13,7 +14,8 @@ use Rattle.flow_base.specs.declared.worker.Stop.TheVariants.{Faulted as Stopped,
 use Rattle.flow_values.specs.Shapes.{kinds_of, is_a, kind_at}
 use Rattle.flow_values.specs.Flats.{width}
 use Rattle.flow_values.specs.Places.{PortsFit}
-use Rattle.flow_values.specs.PrintMachine.{closing_brackets, Pending, whole, PrintReading, print_reading, entered_value, next, checked, port_of, print_stage, print_state, want_at, read_at, memory_at, print_behaviour}
+use Rattle.flow_values.specs.PrintMachine.{closing_brackets, Pending, whole, PrintReading, print_reading, entered_value, next, checked, port_of}
+use Rattle.flow_values.specs.PrintMachine.{print_stage, print_state, want_at, read_at, memory_at, print_behaviour}
 use Rattle.flow_values.specs.Aheads.{pending_of, stack, LeadsAhead, Finds, LooksAhead, where_led, stage_in, state_in}
 use Rattle.flow_values.specs.declared.pending.Pending.{Pending as PendingInMemory}
 use Rattle.flow_values.specs.declared.ahead.Ahead.{Ahead}
@@ -31,9 +33,11 @@ pub one_next : (old new : List PendingInMemory) (x : PendingInMemory) (a : Pendi
 one_next old new x a after is same = ap (λ l. stack l after) is ∙ stack-append old (x ∷ []) after ∙ ap (λ t. t ∷ stack old after) same
 
 -- an element is the next, and then further ones
-pub two_next : {E : Type 0} (r : Result (Unit {0}) E) (old start one two : List PendingInMemory) (x y : PendingInMemory) (a b : Pending) → start ≡ old → one ≡ start ++ x ∷ [] → OnOk r (two ≡ one ++ y ∷ []) → pending_of x ≡ a → pending_of y ≡ b →
+pub two_next : {E : Type 0} (r : Result (Unit {0}) E) (old start one two : List PendingInMemory) (x y : PendingInMemory) (a b : Pending) → start ≡ old
+    → one ≡ start ++ x ∷ [] → OnOk r (two ≡ one ++ y ∷ []) → pending_of x ≡ a → pending_of y ≡ b →
     OnOk r ((after : List Pending) → stack two after ≡ b ∷ a ∷ stack old after)
-two_next (Ok u) old start one two x y a b same first second of_x of_y = λ after. one_next one two y b after second of_y ∙ ap (λ l. b ∷ l) (one_next start one x a after first of_x ∙ ap (λ l. a ∷ stack l after) same)
+two_next (Ok u) old start one two x y a b same first second of_x of_y = λ after. one_next one two y b after second of_y
+    ∙ ap (λ l. b ∷ l) (one_next start one x a after first of_x ∙ ap (λ l. a ∷ stack l after) same)
 two_next (Err e) old start one two x y a b same first second of_x of_y = tt
 
 some_edge : (ty : Ty) → 1 ≤ width ty
@@ -56,7 +60,9 @@ pub bracket_fits : (ty : Ty) (p c : ℕ) → PortsFit ty p c → c + 1 < 2 ^ 64
 bracket_fits ty p c h = let some = some_edge ty in let b = h.1 in omega (arith, some, b)
 
 -- an item that goes to the first of a pair
-module _ (first second : Ty) (p c : ℕ) (x : Cell) (old between new : Ahead) (start : List PendingInMemory) (y : PendingInMemory) (said : between.text.items ≡ old.text.items ++ codes "(") (same : start ≡ old.pending.items) (there : between.pending.items ≡ start ++ y ∷ []) (is : pending_of y ≡ whole true second (p + width first) (suc c)) where
+module _ (first second : Ty) (p c : ℕ) (x : Cell) (old between new : Ahead) (start : List PendingInMemory) (y : PendingInMemory)
+    (said : between.text.items ≡ old.text.items ++ codes "(") (same : start ≡ old.pending.items) (there : between.pending.items ≡ start ++ y ∷ [])
+    (is : pending_of y ≡ whole true second (p + width first) (suc c)) where
   pub leads_pair : (r : Result (Unit {0}) Stop) → LeadsAhead (entered_value first p 0 x) r between new → LeadsAhead (entered_value (pair first second) p c x) r old new
   leads_pair (Ok u) h =
       λ after. ap₂ (λ a b. entered_value first p 0 x a b)
@@ -84,7 +90,8 @@ entered_after int p c _ after u v = refl
 entered_after bool p c (flag true) after u v = said_after u v _ after
 entered_after bool p c (flag false) after u v = said_after u v _ after
 entered_after bool p c _ after u v = refl
-entered_after (vec item) p c (datum a) after u v = ap (λ l. cond (is_a (vec item) a) (Some (print_reading after l)) None) (append_assoc u v _) ∙ front-cond u (is_a (vec item) a) (print_reading after _)
+entered_after (vec item) p c (datum a) after u v = ap (λ l. cond (is_a (vec item) a) (Some (print_reading after l)) None) (append_assoc u v _)
+    ∙ front-cond u (is_a (vec item) a) (print_reading after _)
 entered_after (vec item) p c _ after u v = refl
 entered_after (pair first second) p c x after u v = ap (entered_value first p 0 x _) (append_assoc u v (codes "(")) ∙ entered_after first p 0 x _ u (v ++ codes "(")
 entered_after (seq item) p c (flag false) after u v = said_after u v _ _
@@ -92,7 +99,9 @@ entered_after (seq item) p c (flag true) after u v = said_after u v _ _
 entered_after (seq item) p c _ after u v = refl
 
 -- what leads from no text leads from any
-pub finds_entered : (ty : Ty) (p c : ℕ) (x : Cell) (said : List ℕ) (old new : Ahead) → old.pending.items ≡ [] → old.text.items ≡ said → ((after : List Pending) → entered_value ty p c x (stack old.pending.items after) old.text.items ≡ Some (print_reading (stack new.pending.items after) new.text.items)) →
+pub finds_entered : (ty : Ty) (p c : ℕ) (x : Cell) (said : List ℕ) (old new : Ahead) → old.pending.items ≡ [] → old.text.items ≡ said →
+    ((after : List Pending) → entered_value ty p c x (stack old.pending.items after) old.text.items
+    ≡ Some (print_reading (stack new.pending.items after) new.text.items)) →
     (after : List Pending) (before : List ℕ) → entered_value ty p c x after (before ++ said) ≡ Some (print_reading (stack new.pending.items after) (before ++ new.text.items))
 finds_entered ty p c x said old new none is leads after before =
     entered_after ty p c x after before said
@@ -139,40 +148,49 @@ step_free [] = refl
 step_free (x ∷ xs) = refl
 
 -- the state where the last was taken and this was put in its place
-pub advanced : (ty : Ty) (text said new_text : List ℕ) (at : ℕ) (stuck : Bool) (old popped new more : List PendingInMemory) → stuck ≡ false → popped ≡ take (length old - 1) old → new ≡ popped ++ more → new_text ≡ text ++ said →
-    (rest : List PendingInMemory) (first : PendingInMemory) → old ≡ rest ++ first ∷ [] → state_in ty new new_text 0 stuck at ≡ print_state ty (print_stage (stack more (stack rest []))) (text ++ said) at
+pub advanced : (ty : Ty) (text said new_text : List ℕ) (at : ℕ) (stuck : Bool) (old popped new more : List PendingInMemory) → stuck ≡ false → popped
+    ≡ take (length old - 1) old → new ≡ popped ++ more → new_text ≡ text ++ said →
+    (rest : List PendingInMemory) (first : PendingInMemory) → old ≡ rest ++ first ∷ [] → state_in ty new new_text 0 stuck at
+    ≡ print_state ty (print_stage (stack more (stack rest []))) (text ++ said) at
 advanced ty text said new_text at stuck old popped new more free pop put is rest first e =
     let there : stack new [] ≡ stack more (stack rest []) = ap (λ l. stack l []) (put ∙ ap (λ l. l ++ more) (pop ∙ all_but_last old rest first e)) ∙ stack-append rest more [] in
     ap₂ (λ s t. print_state ty s t at) (ap₂ (λ b l. stage_in b 0 l) free there ∙ step_free (stack more (stack rest []))) is
 
 -- what the state wants where something is still to be read, and where nothing is
 pub wants_last : (ty : Ty) (pending : List PendingInMemory) (text : List ℕ) (port : ℕ) (stuck : Bool) (at : ℕ) (x : PendingInMemory) → stuck ≡ false → slice_get pending (length pending - 1) ≡ Some x →
-    print_behaviour.process.want (state_in ty pending text port stuck at) ≡ cond (nat_lt (port_of (pending_of x)) (width ty)) (Read (port_of (pending_of x))) (Faulted (record { kind = Shape; at = at }))
+    print_behaviour.process.want (state_in ty pending text port stuck at)
+    ≡ cond (nat_lt (port_of (pending_of x)) (width ty)) (Read (port_of (pending_of x))) (Faulted (record { kind = Shape; at = at }))
 wants_last ty pending text port stuck at x free e =
     ap₂ (λ b l. want_at (stage_in b port l) (print_state ty (stage_in b port l) text at)) free (stack_last pending x e)
 
-pub wants_read : (ty : Ty) (pending : List PendingInMemory) (text : List ℕ) (port : ℕ) (stuck : Bool) (at : ℕ) (x : PendingInMemory) (n p : ℕ) → stuck ≡ false → slice_get pending (length pending - 1) ≡ Some x → n ≡ width ty → p ≡ port_of (pending_of x) → p < n →
+pub wants_read : (ty : Ty) (pending : List PendingInMemory) (text : List ℕ) (port : ℕ) (stuck : Bool) (at : ℕ) (x : PendingInMemory) (n p : ℕ) → stuck
+    ≡ false → slice_get pending (length pending - 1) ≡ Some x → n ≡ width ty → p ≡ port_of (pending_of x) → p < n →
     Read p ≡ print_behaviour.process.want (state_in ty pending text port stuck at)
 wants_read ty pending text port stuck at x n p free e size is lt =
     let inside : nat_lt (port_of (pending_of x)) (width ty) ≡ true = grind (arith, nat_tests) in
     ap Read is ∙ sym (wants_last ty pending text port stuck at x free e ∙ ap (λ b. cond b (Read (port_of (pending_of x))) (Faulted (record { kind = Shape; at = at }))) inside)
 
-pub wants_fault : (ty : Ty) (pending : List PendingInMemory) (text : List ℕ) (port : ℕ) (stuck : Bool) (at : ℕ) (x : PendingInMemory) (n p : ℕ) → stuck ≡ false → slice_get pending (length pending - 1) ≡ Some x → n ≡ width ty → p ≡ port_of (pending_of x) → n ≤ p →
+pub wants_fault : (ty : Ty) (pending : List PendingInMemory) (text : List ℕ) (port : ℕ) (stuck : Bool) (at : ℕ) (x : PendingInMemory) (n p : ℕ) →
+    stuck ≡ false → slice_get pending (length pending - 1) ≡ Some x → n ≡ width ty → p ≡ port_of (pending_of x) → n ≤ p →
     Faulted (record { kind = Shape; at = at }) ≡ print_behaviour.process.want (state_in ty pending text port stuck at)
 wants_fault ty pending text port stuck at x n p free e size is le =
     let outside : nat_lt (port_of (pending_of x)) (width ty) ≡ false = grind (arith, nat_tests) in
     sym (wants_last ty pending text port stuck at x free e ∙ ap (λ b. cond b (Read (port_of (pending_of x))) (Faulted (record { kind = Shape; at = at }))) outside)
 
 -- where an item leads that is given to the last
-pub found_last : (ty : Ty) (pending : List PendingInMemory) (text : List ℕ) (port : ℕ) (stuck : Bool) (at : ℕ) (x : PendingInMemory) (free : stuck ≡ false) (e : slice_get pending (length pending - 1) ≡ Some x) (c : Cell) →
-    where_led (stage_in stuck port (stack pending [])) (state_in ty pending text port stuck at) c ≡ checked (is_of (kind_at (kinds_of ty) (port_of (pending_of x))) c) (next (pending_of x) c (stack (last_of pending x e).0 []) text)
+pub found_last : (ty : Ty) (pending : List PendingInMemory) (text : List ℕ) (port : ℕ) (stuck : Bool) (at : ℕ) (x : PendingInMemory)
+    (free : stuck ≡ false) (e : slice_get pending (length pending - 1) ≡ Some x) (c : Cell) →
+    where_led (stage_in stuck port (stack pending [])) (state_in ty pending text port stuck at) c
+    ≡ checked (is_of (kind_at (kinds_of ty) (port_of (pending_of x))) c) (next (pending_of x) c (stack (last_of pending x e).0 []) text)
 found_last ty pending text port stuck at x free e c =
     ap₂ (λ b l. where_led (stage_in b port l) (print_state ty (stage_in b port l) text at) c) free (stack_last pending x e)
 
 -- an item of another kind than the port's leads nowhere
-pub found_none : (ty : Ty) (pending : List PendingInMemory) (text : List ℕ) (port : ℕ) (stuck : Bool) (at : ℕ) (x : PendingInMemory) → stuck ≡ false → slice_get pending (length pending - 1) ≡ Some x → (c : Cell) →
+pub found_none : (ty : Ty) (pending : List PendingInMemory) (text : List ℕ) (port : ℕ) (stuck : Bool) (at : ℕ) (x : PendingInMemory) → stuck ≡ false →
+    slice_get pending (length pending - 1) ≡ Some x → (c : Cell) →
     is_of (kind_at (kinds_of ty) (port_of (pending_of x))) c ≡ false → where_led (stage_in stuck port (stack pending [])) (state_in ty pending text port stuck at) c ≡ None
-found_none ty pending text port stuck at x free e c other = found_last ty pending text port stuck at x free e c ∙ ap (λ b. checked b (next (pending_of x) c (stack (last_of pending x e).0 []) text)) other
+found_none ty pending text port stuck at x free e c other = found_last ty pending text port stuck at x free e c
+    ∙ ap (λ b. checked b (next (pending_of x) c (stack (last_of pending x e).0 []) text)) other
 
 not_empty : {A : Type 0} (xs rest : List A) (x : A) → xs ≡ rest ++ x ∷ [] → xs ≡ [] → ⊥
 not_empty xs rest x e none = go rest (sym none ∙ e)
@@ -182,8 +200,10 @@ not_empty xs rest x e none = go rest (sym none ∙ e)
     go (y ∷ rest) e = absurd (cc)
 
 -- what was found ahead of the last is where the item leads
-pub found_ahead : (ty : Ty) (pending : List PendingInMemory) (text : List ℕ) (port : ℕ) (stuck : Bool) (at : ℕ) (x : PendingInMemory) → stuck ≡ false → slice_get pending (length pending - 1) ≡ Some x → (c : Cell) →
-    is_of (kind_at (kinds_of ty) (port_of (pending_of x))) c ≡ true → (result : Result Ahead Stop) → Finds (next (pending_of x) c) result → LooksAhead (where_led (stage_in stuck port (stack pending [])) (state_in ty pending text port stuck at) c) pending text result
+pub found_ahead : (ty : Ty) (pending : List PendingInMemory) (text : List ℕ) (port : ℕ) (stuck : Bool) (at : ℕ) (x : PendingInMemory) → stuck ≡ false
+    → slice_get pending (length pending - 1) ≡ Some x → (c : Cell) →
+    is_of (kind_at (kinds_of ty) (port_of (pending_of x))) c ≡ true → (result : Result Ahead Stop) → Finds (next (pending_of x) c) result →
+    LooksAhead (where_led (stage_in stuck port (stack pending [])) (state_in ty pending text port stuck at) c) pending text result
 found_ahead ty pending text port stuck at x free e c fits result finds = go result finds
   where
     rest : List PendingInMemory
@@ -192,13 +212,15 @@ found_ahead ty pending text port stuck at x free e c fits result finds = go resu
     there : where_led (stage_in stuck port (stack pending [])) (state_in ty pending text port stuck at) c ≡ next (pending_of x) c (stack (last_of pending x e).0 []) text
     there = found_last ty pending text port stuck at x free e c ∙ ap (λ b. checked b (next (pending_of x) c (stack (last_of pending x e).0 []) text)) fits
 
-    go : (result : Result Ahead Stop) → Finds (next (pending_of x) c) result → LooksAhead (where_led (stage_in stuck port (stack pending [])) (state_in ty pending text port stuck at) c) pending text result
+    go : (result : Result Ahead Stop) → Finds (next (pending_of x) c) result →
+        LooksAhead (where_led (stage_in stuck port (stack pending [])) (state_in ty pending text port stuck at) c) pending text result
     go (Ok ahead) h = ((last_of pending x e).0, x, (last_of pending x e).1, there ∙ h (stack (last_of pending x e).0 []) text)
     go (Err (Stopped kind)) h = there ∙ h.1 (stack (last_of pending x e).0 []) text
     go (Err OutOfMemory) h = not_empty pending (last_of pending x e).0 x (last_of pending x e).1
 
 -- what wants to read is not stuck
-pub not_stuck : (ty : Ty) (pending : List PendingInMemory) (text : List ℕ) (port : ℕ) (stuck : Bool) (at p : ℕ) → print_behaviour.process.want (state_in ty pending text port stuck at) ≡ Read p → stuck ≡ false
+pub not_stuck : (ty : Ty) (pending : List PendingInMemory) (text : List ℕ) (port : ℕ) (stuck : Bool) (at p : ℕ) →
+    print_behaviour.process.want (state_in ty pending text port stuck at) ≡ Read p → stuck ≡ false
 not_stuck ty pending text port false at p e = refl
 not_stuck ty pending text port true at p e = absurd (cc)
 
@@ -207,7 +229,8 @@ stack_full [] a after = (a, after, refl)
 stack_full (x ∷ xs) a after = stack_full xs (pending_of x) (a ∷ after)
 
 -- an end inside the value
-pub end_inside : (ty : Ty) (pending : List PendingInMemory) (text : List ℕ) (port : ℕ) (stuck : Bool) (at : ℕ) → (pending ≡ [] → ⊥) → state_in ty pending text port true at ≡ read_at (stage_in stuck port (stack pending [])) (state_in ty pending text port stuck at) stop
+pub end_inside : (ty : Ty) (pending : List PendingInMemory) (text : List ℕ) (port : ℕ) (stuck : Bool) (at : ℕ) → (pending ≡ [] → ⊥) →
+    state_in ty pending text port true at ≡ read_at (stage_in stuck port (stack pending [])) (state_in ty pending text port stuck at) stop
 end_inside ty [] text port stuck at some = absurd (some refl)
 end_inside ty (x ∷ pending) text port true at some = refl
 end_inside ty (x ∷ pending) text port false at some =
@@ -223,11 +246,14 @@ none_ahead (x ∷ pending) port stuck free e =
     absurd (cc)
 
 -- where all inputs have ended, nothing is read
-pub no_more_ends : (ty : Ty) (pending : List PendingInMemory) (text : List ℕ) (port : ℕ) (stuck : Bool) (at n p : ℕ) → pending ≡ [] → n ≡ width ty → n ≤ port → print_behaviour.process.want (state_in ty pending text port stuck at) ≡ Read p → ⊥
+pub no_more_ends : (ty : Ty) (pending : List PendingInMemory) (text : List ℕ) (port : ℕ) (stuck : Bool) (at n p : ℕ) → pending ≡ [] → n ≡ width ty →
+    n ≤ port → print_behaviour.process.want (state_in ty pending text port stuck at) ≡ Read p → ⊥
 no_more_ends ty pending text port stuck at n p none size le e =
     let outside : nat_lt port (width ty) ≡ false = grind (arith, nat_tests) in
     let free = not_stuck ty pending text port stuck at p e in
-    let never : Ended ≡ Read p = sym (ap₂ (λ b l. want_at (stage_in b port (stack l [])) (print_state ty (stage_in b port (stack l [])) text at)) free none ∙ ap (λ b. cond b (Read port) Ended) outside) ∙ e in
+    let never : Ended ≡ Read p =
+    sym (ap₂ (λ b l. want_at (stage_in b port (stack l [])) (print_state ty (stage_in b port (stack l [])) text at)) free none
+    ∙ ap (λ b. cond b (Read port) Ended) outside) ∙ e in
     absurd (cc)
 
 -- memory is refused only where something is still to be read

@@ -30,7 +30,8 @@ member_is item (x ∷ ds) (suc i) d lt at h = member_is item ds i d (omega arith
 abbrev before : Ty → ℕ → List Datum → ℕ → List DueCell
 before item p ds i = concatenation_by (element_dues p (λ e. dues_of item (p + 1) e)) (map value_of (take i ds))
 
-one_more : (item : Ty) (p : ℕ) (ds : List Datum) (i : ℕ) (d : Datum) → i < length ds → d ≡ get_or ds i d → before item p ds (i + 1) ≡ before item p ds i ++ (due p F ∷ dues_of item (p + 1) (value_of d))
+one_more : (item : Ty) (p : ℕ) (ds : List Datum) (i : ℕ) (d : Datum) → i < length ds → d ≡ get_or ds i d → before item p ds (i + 1)
+    ≡ before item p ds i ++ (due p F ∷ dues_of item (p + 1) (value_of d))
 one_more item p [] i d lt at = absurd (omega arith)
 one_more item p (x ∷ ds) zero d lt at =
     ap (λ l. due p F ∷ l) (append-nil (dues_of item (p + 1) (value_of x))) ∙ ap (λ x. due p F ∷ dues_of item (p + 1) (value_of x)) (sym at)

@@ -1,5 +1,6 @@
 -- Steps of Seq along integers: a flag and the integer for each element, and the flag behind the last.
-use Rattle.std.proofs.Common.{◌≡◌, ℕ, ℤ, zero, suc, ◌+◌, ◌-◌, ◌*◌, ◌<◌, ◌≤◌, Bool, true, false, cond, eqb, nat_lt, List, [], ◌∷◌, ◌++◌, length, take, drop, map, set, Option, Some, Global, refl, sym, ◌∙◌, ap, subst, arith, append-nil, ne_eqb}
+use Rattle.std.proofs.Common.{◌≡◌, ℕ, ℤ, zero, suc, ◌+◌, ◌-◌, ◌*◌, ◌<◌, ◌≤◌, Bool, true, false, cond, eqb, nat_lt, List, [], ◌∷◌, ◌++◌, length, take}
+use Rattle.std.proofs.Common.{drop, map, set, Option, Some, Global, refl, sym, ◌∙◌, ap, subst, arith, append-nil, ne_eqb}
 use Rattle.std.specs.Prelude.{replicate}
 use Rattle.std.specs.Arc.{arc_value}
 use Rattle.std.specs.declared.sync.Arc.{Arc}
@@ -165,7 +166,8 @@ pub record Fronts (ns : List ℤ) (n : ℕ) (flags : List Bool) (ints : List ℤ
   pub ints_are : take n ints ≡ take n ns
 
 -- told by how many they are
-pub fronts : (ns : List ℤ) (n : ℕ) (flags : List Bool) (ints : List ℤ) → n ≤ length ns → take (length (take n ns)) flags ≡ replicate (length (take n ns)) false → take (length (take n ns)) ints ≡ take n ns →
+pub fronts : (ns : List ℤ) (n : ℕ) (flags : List Bool) (ints : List ℤ) → n ≤ length ns → take (length (take n ns)) flags
+    ≡ replicate (length (take n ns)) false → take (length (take n ns)) ints ≡ take n ns →
     Fronts ns n flags ints
 fronts ns n flags ints within put_flags put_ints =
     let size : length (take n ns) ≡ n = omega (arith, within, length-take n ns) in

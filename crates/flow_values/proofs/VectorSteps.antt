@@ -37,8 +37,11 @@ index_refuses item [] (int n) none = refl
 index_refuses item (d ∷ ds) x none = refl
 
 -- a vector of such elements is taken where one may begin
-pub seq_takes : (item : Ty) (old : List DueCell) (kept : Option Elements) (begun : ℕ) (all : Elements) (x : Cell) → IsReading (ask_of (seq_move item (old ++ left_dues item kept begun))) → x ≡ datum (a_vec (elements_of all)) → all_are item (elements_of all) ≡ true →
-    Takes (with_parameters item (state_after_read (seq_move item (old ++ left_dues item kept begun)) x)) (item, old ++ left_dues item kept begun) (Ok (tt {0})) (item, old ++ left_dues item (Some all) 0)
+pub seq_takes : (item : Ty) (old : List DueCell) (kept : Option Elements) (begun : ℕ) (all : Elements) (x : Cell) →
+    IsReading (ask_of (seq_move item (old ++ left_dues item kept begun))) → x ≡ datum (a_vec (elements_of all)) → all_are item (elements_of all)
+    ≡ true →
+    Takes (with_parameters item (state_after_read (seq_move item (old ++ left_dues item kept begun)) x)) (item, old ++ left_dues item kept begun)
+    (Ok (tt {0})) (item, old ++ left_dues item (Some all) 0)
 seq_takes item [] None begun all x reading is e =
     let vs = elements_of all in
     let leads : with_parameters item (state_after_read (seq_move item []) x) ≡ Ok (item, segment_dues item 0 (list_of vs)) =

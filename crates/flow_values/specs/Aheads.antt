@@ -51,6 +51,7 @@ where_led _ s x = None
 -- what a look ahead answers that was given an item, where the item leads there: what comes in place of the last that is
 -- still to be read, and the text that is said
 abbrev pub LooksAhead : Option PrintReading → List PendingInMemory → List ℕ → Result Ahead Stop → Type 0
-LooksAhead there pending text (Ok ahead) = (rest : List PendingInMemory) × (first : PendingInMemory) × (pending ≡ rest ++ first ∷ []) × (there ≡ Some (print_reading (stack ahead.pending.items (stack rest [])) (text ++ ahead.text.items)))
+LooksAhead there pending text (Ok ahead) = (rest : List PendingInMemory) × (first : PendingInMemory) × (pending ≡ rest ++ first ∷ [])
+    × (there ≡ Some (print_reading (stack ahead.pending.items (stack rest [])) (text ++ ahead.text.items)))
 LooksAhead there pending text (Err (Faulted kind)) = there ≡ None
 LooksAhead there pending text (Err OutOfMemory) = pending ≡ [] → ⊥

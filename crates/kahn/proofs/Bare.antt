@@ -23,12 +23,14 @@ module _ {State Message : Type 0} (P : Process State Message) (net : Network Sta
   held_is state h c (same, fits) e = omega (arith, ap length (fits e), length-append (c.received e) (h e))
 
   -- the next message of the edge, and what it holds after that
-  first_of_held : (state : ℕ → State) (h : ℕ → List Message) (c : Configuration State Message) → IsConfigurationOf state h c → (e : ℕ) (m : Message) (some : Begins (c.received e ++ m ∷ []) (c.sent e)) → m ∷ some.0 ≡ h e
+  first_of_held : (state : ℕ → State) (h : ℕ → List Message) (c : Configuration State Message) → IsConfigurationOf state h c →
+      (e : ℕ) (m : Message) (some : Begins (c.received e ++ m ∷ []) (c.sent e)) → m ∷ some.0 ≡ h e
   first_of_held state h c (same, fits) e m (rest, is) =
       append_cancel_left (c.received e) (m ∷ rest) (h e) (sym (append_assoc (c.received e) (m ∷ []) rest) ∙ is ∙ sym (fits e))
 
   module _ (limit : Option ℕ) where
-    pub fits_can : (state : ℕ → State) (h : ℕ → List Message) (c d : Configuration State Message) → IsConfigurationOf state h c → IsConfigurationOf state h d → (a : Event Message) → Can P net limit c a → Can P net limit d a
+    pub fits_can : (state : ℕ → State) (h : ℕ → List Message) (c d : Configuration State Message) → IsConfigurationOf state h c →
+        IsConfigurationOf state h d → (a : Event Message) → Can P net limit c a → Can P net limit d a
     fits_can state h c d fits_c fits_d (Reads e m) (inside, wants, some) = (
       inside,
       ap (λ s. P.want (s (net.reader e))) (fits_d.0 ∙ sym fits_c.0) ∙ wants,
@@ -46,15 +48,19 @@ module _ {State Message : Type 0} (P : Process State Message) (net : Network Sta
   state_after state (Reads e m) = updated state (net.reader e) (P.read (state (net.reader e)) m)
   state_after state (Writes e m) = updated state (net.writer e) (P.wrote (state (net.writer e)))
 
-  pub fits_read : (state : ℕ → State) (h : ℕ → List Message) (c : Configuration State Message) → IsConfigurationOf state h c → (e : ℕ) (m : Message) (rest : List Message) → m ∷ rest ≡ h e → IsConfigurationOf (state_after state (Reads e m)) (updated h e rest) (next P net c (Reads e m))
+  pub fits_read : (state : ℕ → State) (h : ℕ → List Message) (c : Configuration State Message) → IsConfigurationOf state h c →
+      (e : ℕ) (m : Message) (rest : List Message) → m ∷ rest ≡ h e →
+      IsConfigurationOf (state_after state (Reads e m)) (updated h e rest) (next P net c (Reads e m))
   fits_read state h c (same, fits) e m rest is =
       (ap (λ s. updated s (net.reader e) (P.read (s (net.reader e)) m)) same, λ f. go f (cases_eq f e))
     where
       go : (f : ℕ) → ((f ≡ e) ⊎ (f ≡ e → ⊥)) → updated c.received e (c.received e ++ m ∷ []) f ++ updated h e rest f ≡ c.sent f
-      go f (inl at) = rw (updated_at c.received e f (c.received e ++ m ∷ []) at, updated_at h e f rest at) (append_assoc (c.received e) (m ∷ []) rest ∙ ap (λ l. c.received e ++ l) is ∙ fits e ∙ ap c.sent (sym at))
+      go f (inl at) = rw (updated_at c.received e f (c.received e ++ m ∷ []) at, updated_at h e f rest at)
+          (append_assoc (c.received e) (m ∷ []) rest ∙ ap (λ l. c.received e ++ l) is ∙ fits e ∙ ap c.sent (sym at))
       go f (inr other) = rw (updated_other c.received e f (c.received e ++ m ∷ []) other, updated_other h e f rest other) (fits f)
 
-  pub fits_write : (state : ℕ → State) (h : ℕ → List Message) (c : Configuration State Message) → IsConfigurationOf state h c → (e : ℕ) (m : Message) → IsConfigurationOf (state_after state (Writes e m)) (updated h e (h e ++ m ∷ [])) (next P net c (Writes e m))
+  pub fits_write : (state : ℕ → State) (h : ℕ → List Message) (c : Configuration State Message) → IsConfigurationOf state h c → (e : ℕ) (m : Message)
+      → IsConfigurationOf (state_after state (Writes e m)) (updated h e (h e ++ m ∷ [])) (next P net c (Writes e m))
   fits_write state h c (same, fits) e m =
       (ap (λ s. updated s (net.writer e) (P.wrote (s (net.writer e)))) same, λ f. go f (cases_eq f e))
     where
@@ -63,18 +69,24 @@ module _ {State Message : Type 0} (P : Process State Message) (net : Network Sta
       go f (inr other) = rw (updated_other c.sent e f (c.sent e ++ m ∷ []) other, updated_other h e f (h e ++ m ∷ []) other) (fits f)
 
   -- after an event two alike configurations are alike
-  pub fits_next : (limit : Option ℕ) (state : ℕ → State) (h : ℕ → List Message) (c d : Configuration State Message) → IsConfigurationOf state h c → IsConfigurationOf state h d → (a : Event Message) → Can P net limit c a → (g : ℕ → List Message) × IsConfigurationOf (state_after state a) g (next P net c a) × IsConfigurationOf (state_after state a) g (next P net d a)
+  pub fits_next : (limit : Option ℕ) (state : ℕ → State) (h : ℕ → List Message) (c d : Configuration State Message) → IsConfigurationOf state h c →
+      IsConfigurationOf state h d → (a : Event Message) → Can P net limit c a → (g : ℕ → List Message)
+      × IsConfigurationOf (state_after state a) g (next P net c a) × IsConfigurationOf (state_after state a) g (next P net d a)
   fits_next limit state h c d fits_c fits_d (Reads e m) (inside, wants, some) =
       let is : m ∷ some.0 ≡ h e = first_of_held state h c fits_c e m some in
       (updated h e some.0, fits_read state h c fits_c e m some.0 is, fits_read state h d fits_d e m some.0 is)
   fits_next limit state h c d fits_c fits_d (Writes e m) can = (updated h e (h e ++ m ∷ []), fits_write state h c fits_c e m, fits_write state h d fits_d e m)
 
-  pub fits_run : (limit : Option ℕ) (events : List (Event Message)) (state : ℕ → State) (h : ℕ → List Message) (c d r : Configuration State Message) → IsConfigurationOf state h c → IsConfigurationOf state h d → Run P net limit events c r → AtRest P net limit r → (q : Configuration State Message) × Run P net limit events d q × AtRest P net limit q
+  pub fits_run : (limit : Option ℕ) (events : List (Event Message)) (state : ℕ → State) (h : ℕ → List Message) (c d r : Configuration State Message) →
+      IsConfigurationOf state h c → IsConfigurationOf state h d → Run P net limit events c r → AtRest P net limit r → (q : Configuration State Message)
+      × Run P net limit events d q × AtRest P net limit q
   fits_run limit [] state h c d r fits_c fits_d same rest =
       (d, refl, λ a can. rest a (subst (λ x. Can P net limit x a) same (fits_can limit state h d c fits_d fits_c a can)))
   fits_run limit (a ∷ more) state h c d r fits_c fits_d (can, run) rest =
-      let after : (g : ℕ → List Message) × IsConfigurationOf (state_after state a) g (next P net c a) × IsConfigurationOf (state_after state a) g (next P net d a) = fits_next limit state h c d fits_c fits_d a can in
-      let then : (q : Configuration State Message) × Run P net limit more (next P net d a) q × AtRest P net limit q = fits_run limit more (state_after state a) after.0 (next P net c a) (next P net d a) r after.1 after.2 run rest in
+      let after : (g : ℕ → List Message) × IsConfigurationOf (state_after state a) g (next P net c a)
+      × IsConfigurationOf (state_after state a) g (next P net d a) = fits_next limit state h c d fits_c fits_d a can in
+      let then : (q : Configuration State Message) × Run P net limit more (next P net d a) q × AtRest P net limit q =
+      fits_run limit more (state_after state a) after.0 (next P net c a) (next P net d a) r after.1 after.2 run rest in
       (then.0, (fits_can limit state h c d fits_c fits_d a can, then.1), then.2)
 
   module _ (wired : IsWired net) (settles : Settles P) where
@@ -83,17 +95,23 @@ module _ {State Message : Type 0} (P : Process State Message) (net : Network Sta
     pub to_come : (ℕ → State) → (ℕ → List Message) → ℕ
     to_come state h = most_events P net wired settles (bare state h) (λ e inside. (h e, refl))
 
-    pub to_come_is : (state : ℕ → State) (h : ℕ → List Message) (c : Configuration State Message) (fits : IsConfigurationOf state h c) (events : List (Event Message)) (r : Configuration State Message) → Run P net None events c r → AtRest P net None r → to_come state h ≡ length events
+    pub to_come_is : (state : ℕ → State) (h : ℕ → List Message) (c : Configuration State Message) (fits : IsConfigurationOf state h c)
+        (events : List (Event Message)) (r : Configuration State Message) → Run P net None events c r → AtRest P net None r → to_come state h
+        ≡ length events
     unfolding to_come most_events
     to_come_is state h c fits events r run rest =
-        let all : (more : List (Event Message)) × (end : Configuration State Message) × Maximal P net None more (bare state h) end = all_events P net wired settles (bare state h) (λ e inside. (h e, refl)) in
-        let other : (q : Configuration State Message) × Run P net None all.0 c q × AtRest P net None q = fits_run None all.0 state h (bare state h) c all.1 (refl, λ e. refl) fits all.2.run all.2.rest in
+        let all : (more : List (Event Message)) × (end : Configuration State Message) × Maximal P net None more (bare state h) end =
+        all_events P net wired settles (bare state h) (λ e inside. (h e, refl)) in
+        let other : (q : Configuration State Message) × Run P net None all.0 c q × AtRest P net None q =
+        fits_run None all.0 state h (bare state h) c all.1 (refl, λ e. refl) fits all.2.run all.2.rest in
         let a : (left : List (Event Message)) × Run P net None left other.0 r × (length events ≡ length all.0 + length left) = goes_on P net wired None all.0 events c other.0 r run rest other.1 in
         let b : (left : List (Event Message)) × Run P net None left r other.0 × (length all.0 ≡ length events + length left) = goes_on P net wired None events all.0 c r other.0 other.1 other.2 run in
         omega (arith, a.2, b.2)
 
     -- the measure falls by one at each event
-    pub to_come_falls : (limit : Option ℕ) (state state' : ℕ → State) (h h' : ℕ → List Message) (c d : Configuration State Message) → IsConfigurationOf state h c → IsConfigurationOf state' h' d → (events : List (Event Message)) → Run P net limit events c d → to_come state h ≡ length events + to_come state' h'
+    pub to_come_falls : (limit : Option ℕ) (state state' : ℕ → State) (h h' : ℕ → List Message) (c d : Configuration State Message) →
+        IsConfigurationOf state h c → IsConfigurationOf state' h' d → (events : List (Event Message)) → Run P net limit events c d → to_come state h
+        ≡ length events + to_come state' h'
     to_come_falls limit state state' h h' c d fits_c fits_d events run =
         let all : (more : List (Event Message)) × (end : Configuration State Message) × Maximal P net None more d end = all_events P net wired settles d (fits_flows state' h' d fits_d) in
         let whole : Run P net None (events ++ all.0) c all.1 = run_then P net None events all.0 c d all.1 (unbounded_run P net limit events c d run) all.2.run in

@@ -32,7 +32,8 @@ module _ {State Message : Type 0} (P : Process State Message) (net : Network Sta
   pub steps_move : StepsMove P net
   steps_move limit c a can = moved_next P net limit c a can
 
-  rises_most : (n : ℕ) → ((c : Configuration State Message) → IsSound P net c → moved net c ≤ n) → (c : Configuration State Message) (more : List (Configuration State Message)) → Rises P net c more → length more + moved net c ≤ n
+  rises_most : (n : ℕ) → ((c : Configuration State Message) → IsSound P net c → moved net c ≤ n) →
+      (c : Configuration State Message) (more : List (Configuration State Message)) → Rises P net c more → length more + moved net c ≤ n
   rises_most n most c [] sound = omega (arith, most c sound)
   rises_most n most c (d ∷ more) (less, rises) = omega (arith, rises_most n most d more rises)
 
@@ -86,7 +87,8 @@ module _ {State Message : Type 0} (P : Process State Message) (net : Network Sta
 
     pub whole_traffic : Settles P → WholeTraffic P net
     whole_traffic settles =
-        let all : (events : List (Event Message)) × (end : Configuration State Message) × Maximal P net None events (start net) end = all_events P net wired settles (start net) (λ e inside. ([], refl)) in
+        let all : (events : List (Event Message)) × (end : Configuration State Message) × Maximal P net None events (start net) end =
+        all_events P net wired settles (start net) (λ e inside. ([], refl)) in
         let sound : IsSound P net all.1 = runs_are_sound None all.0 all.1 all.2.run in
         record {
           events = all.0;

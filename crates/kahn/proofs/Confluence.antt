@@ -67,42 +67,52 @@ module _ {State Message : Type 0} (P : Process State Message) (net : Network Sta
       -- a step of one node leaves another node's event as it is
       pub stays : (a b : Event Message) → Can P net limit c b → (actor net a ≡ actor net b → ⊥) → Can P net limit (next P net c a) b
       stays (Reads e m) (Reads f n) (inside, wants, some) apart =
-          let s : updated c.state (net.reader e) (P.read (c.state (net.reader e)) m) (net.reader f) ≡ c.state (net.reader f) = updated_other c.state (net.reader e) (net.reader f) _ (λ h. apart (sym h)) in
+          let s : updated c.state (net.reader e) (P.read (c.state (net.reader e)) m) (net.reader f) ≡ c.state (net.reader f) =
+          updated_other c.state (net.reader e) (net.reader f) _ (λ h. apart (sym h)) in
           let r : updated c.received e (c.received e ++ m ∷ []) f ≡ c.received f = updated_other c.received e f _ (λ h. apart (ap net.reader (sym h))) in
           (inside, ap P.want s ∙ wants, subst (λ l. Begins (l ++ n ∷ []) (c.sent f)) (sym r) some)
       stays (Reads e m) (Writes f n) (inside, wants, is, room) apart =
-          let s : updated c.state (net.reader e) (P.read (c.state (net.reader e)) m) (net.writer f) ≡ c.state (net.writer f) = updated_other c.state (net.reader e) (net.writer f) _ (λ h. apart (sym h)) in
+          let s : updated c.state (net.reader e) (P.read (c.state (net.reader e)) m) (net.writer f) ≡ c.state (net.writer f) =
+          updated_other c.state (net.reader e) (net.writer f) _ (λ h. apart (sym h)) in
           (inside, ap P.want s ∙ wants, ap P.written s ∙ is, room_less limit (held c f) _ (fewer f (cases_eq f e)) room)
         where
           fewer : (f : ℕ) → ((f ≡ e) ⊎ (f ≡ e → ⊥)) → length (c.sent f) - length (updated c.received e (c.received e ++ m ∷ []) f) ≤ held c f
           fewer f (inl h) = rw (updated_at c.received e f (c.received e ++ m ∷ []) h, length_push (c.received e) m, h) (omega arith)
           fewer f (inr h) = rw (updated_other c.received e f (c.received e ++ m ∷ []) h) (omega arith)
       stays (Writes e m) (Reads f n) (inside, wants, some) apart =
-          let s : updated c.state (net.writer e) (P.wrote (c.state (net.writer e))) (net.reader f) ≡ c.state (net.reader f) = updated_other c.state (net.writer e) (net.reader f) _ (λ h. apart (sym h)) in
+          let s : updated c.state (net.writer e) (P.wrote (c.state (net.writer e))) (net.reader f) ≡ c.state (net.reader f) =
+          updated_other c.state (net.writer e) (net.reader f) _ (λ h. apart (sym h)) in
           (inside, ap P.want s ∙ wants, more f some (cases_eq f e))
         where
           more : (f : ℕ) → Begins (c.received f ++ n ∷ []) (c.sent f) → ((f ≡ e) ⊎ (f ≡ e → ⊥)) → Begins (c.received f ++ n ∷ []) (updated c.sent e (c.sent e ++ m ∷ []) f)
           more f some (inl h) = rw (updated_at c.sent e f (c.sent e ++ m ∷ []) h, ← h) (begins_more (c.received f ++ n ∷ []) (c.sent f) (m ∷ []) some)
           more f some (inr h) = rw (updated_other c.sent e f (c.sent e ++ m ∷ []) h) some
       stays (Writes e m) (Writes f n) (inside, wants, is, room) apart =
-          let s : updated c.state (net.writer e) (P.wrote (c.state (net.writer e))) (net.writer f) ≡ c.state (net.writer f) = updated_other c.state (net.writer e) (net.writer f) _ (λ h. apart (sym h)) in
+          let s : updated c.state (net.writer e) (P.wrote (c.state (net.writer e))) (net.writer f) ≡ c.state (net.writer f) =
+          updated_other c.state (net.writer e) (net.writer f) _ (λ h. apart (sym h)) in
           let r : updated c.sent e (c.sent e ++ m ∷ []) f ≡ c.sent f = updated_other c.sent e f _ (λ h. apart (ap net.writer (sym h))) in
           (inside, ap P.want s ∙ wants, ap P.written s ∙ is, subst (λ l. HasRoom limit (length l - length (c.received f))) (sym r) room)
 
   module _ (wired : IsWired net) (limit : Option ℕ) where
     -- an event that may come now may be moved to the front of a run that ends at rest
-    pub sooner : (more : List (Event Message)) (c r : Configuration State Message) (a : Event Message) → Run P net limit more c r → AtRest P net limit r → Can P net limit c a → (left : List (Event Message)) × Run P net limit left (next P net c a) r × (length more ≡ suc (length left))
+    pub sooner : (more : List (Event Message)) (c r : Configuration State Message) (a : Event Message) → Run P net limit more c r →
+        AtRest P net limit r → Can P net limit c a → (left : List (Event Message)) × Run P net limit left (next P net c a) r
+        × (length more ≡ suc (length left))
     sooner [] c r a same rest can = absurd (rest a (subst (λ x. Can P net limit x a) same can))
     sooner (b ∷ more) c r a (can_b, run) rest can_a = go (λ can. sooner more (next P net c b) r a run rest can) (cases_eq (actor net a) (actor net b))
       where
-        go : (Can P net limit (next P net c b) a → (left : List (Event Message)) × Run P net limit left (next P net (next P net c b) a) r × (length more ≡ suc (length left))) → ((actor net a ≡ actor net b) ⊎ (actor net a ≡ actor net b → ⊥)) → (left : List (Event Message)) × Run P net limit left (next P net c a) r × (suc (length more) ≡ suc (length left))
+        go : (Can P net limit (next P net c b) a → (left : List (Event Message)) × Run P net limit left (next P net (next P net c b) a) r
+            × (length more ≡ suc (length left))) → ((actor net a ≡ actor net b) ⊎ (actor net a ≡ actor net b → ⊥)) → (left : List (Event Message))
+            × Run P net limit left (next P net c a) r × (suc (length more) ≡ suc (length left))
         go later (inl same) = (more, subst (λ x. Run P net limit more (next P net c x) r) (one_event wired limit c b a can_b can_a (sym same)) run, refl)
         go later (inr apart) =
-            let ih : (left : List (Event Message)) × Run P net limit left (next P net (next P net c b) a) r × (length more ≡ suc (length left)) = later (stays c limit b a can_a (λ h. apart (sym h))) in
+            let ih : (left : List (Event Message)) × Run P net limit left (next P net (next P net c b) a) r × (length more ≡ suc (length left)) =
+            later (stays c limit b a can_a (λ h. apart (sym h))) in
             (b ∷ ih.0, (stays c limit a b can_b apart, subst (λ x. Run P net limit ih.0 x r) (sym (commute c a b apart)) ih.1), ap suc ih.2)
 
     -- a run that ends at rest bounds each other run from there, which can go on to the same end
-    pub goes_on : (done more : List (Event Message)) (c d r : Configuration State Message) → Run P net limit more c r → AtRest P net limit r → Run P net limit done c d → (left : List (Event Message)) × Run P net limit left d r × (length more ≡ length done + length left)
+    pub goes_on : (done more : List (Event Message)) (c d r : Configuration State Message) → Run P net limit more c r → AtRest P net limit r →
+        Run P net limit done c d → (left : List (Event Message)) × Run P net limit left d r × (length more ≡ length done + length left)
     goes_on [] more c d r run rest same = (more, subst (λ x. Run P net limit more x r) same run, omega arith)
     goes_on (a ∷ done) more c d r run rest (can, did) =
         let first : (left : List (Event Message)) × Run P net limit left (next P net c a) r × (length more ≡ suc (length left)) = sooner more c r a run rest can in

@@ -17,7 +17,9 @@ module _ {State Message : Type 0} (P : Process State Message) (opening : State) 
   closed_out g [] s t did has does = refl
   closed_out g (Reads q m ∷ h) s t did has (wants, does) =
       closed_out (g ++ Reads q m ∷ []) h (P.read s m) t (does_then P opening s (P.read s m) g (Reads q m ∷ []) did (wants, refl)) (subst (λ l. HasEnd P l) (sym (writes_push_read p q m g)) has) does
-  closed_out g (Writes q m ∷ h) s t did has (wants, is, does) = go (cases_eq p q) (closed_out (g ++ Writes q m ∷ []) h (P.wrote s) t (does_then P opening s (P.wrote s) g (Writes q m ∷ []) did (wants, is, refl)))
+  closed_out g (Writes q m ∷ h) s t did has (wants, is, does) =
+      go (cases_eq p q) (closed_out (g ++ Writes q m ∷ []) h (P.wrote s) t
+      (does_then P opening s (P.wrote s) g (Writes q m ∷ []) did (wants, is, refl)))
     where
       go : ((p ≡ q) ⊎ (p ≡ q → ⊥)) → (HasEnd P (writes p (g ++ Writes q m ∷ [])) → Does P (P.wrote s) h t → writes p h ≡ []) → writes p (Writes q m ∷ h) ≡ []
       go (inl pq) later = absurd (lawful.open_out g s p did (wants ∙ ap Write (sym pq)) has)

@@ -1,6 +1,7 @@
 -- Every run ends: the events of a network from a configuration on are finitely many, even where
 -- nothing bounds the edges.
-use Rattle.std.proofs.Common.{◌≡◌, ℕ, zero, suc, ◌+◌, ◌<◌, ◌≤◌, Option, None, List, [], ◌∷◌, ◌++◌, length, ◌⊎◌, refl, sym, ◌∙◌, ap, subst, inl, inr, arith, eqb, cond, append_assoc, length-append, eq-eqb, ne_eqb}
+use Rattle.std.proofs.Common.{◌≡◌, ℕ, zero, suc, ◌+◌, ◌<◌, ◌≤◌, Option, None, List, [], ◌∷◌, ◌++◌, length, ◌⊎◌, refl, sym, ◌∙◌, ap, subst, inl, inr}
+use Rattle.std.proofs.Common.{arith, eqb, cond, append_assoc, length-append, eq-eqb, ne_eqb}
 use Rattle.std.proofs.lemmas.Bool.{cases_eq}
 use Rattle.std.proofs.lemmas.List.{length_push}
 use Rattle.kahn.specs.declared.want.Want.{Want}
@@ -53,7 +54,9 @@ module _ {State Message : Type 0} (P : Process State Message) (net : Network Sta
         none : (m : Message) → c.received e ++ [] ≡ c.sent e → Begins (c.received e ++ m ∷ []) (c.sent e) → ⊥
         none m same (rest, more) = absurd (omega (arith, ap length same, ap length more, length-append (c.received e) [], length-append (c.received e ++ m ∷ []) rest, length_push (c.received e) m))
 
-        go : ((net.reader e ≡ k) ⊎ (net.reader e ≡ k → ⊥)) → (P.want (c.state (net.reader e)) ≡ Read (net.reader_port e)) ⊎ (P.want (c.state (net.reader e)) ≡ Read (net.reader_port e) → ⊥) → (rest : List Message) → c.received e ++ rest ≡ c.sent e → CanRead e ⊎ (CanRead e → ⊥)
+        go : ((net.reader e ≡ k) ⊎ (net.reader e ≡ k → ⊥)) →
+            (P.want (c.state (net.reader e)) ≡ Read (net.reader_port e)) ⊎ (P.want (c.state (net.reader e)) ≡ Read (net.reader_port e) → ⊥) →
+            (rest : List Message) → c.received e ++ rest ≡ c.sent e → CanRead e ⊎ (CanRead e → ⊥)
         go (inr ne) wants rest same = inr (λ h. ne h.0)
         go (inl at) (inr other) rest same = inr (λ h. other h.2.1)
         go (inl at) (inl wants) [] same = inr (λ h. none h.1 same h.2.2)
@@ -62,7 +65,9 @@ module _ {State Message : Type 0} (P : Process State Message) (net : Network Sta
     decide_write : (e : ℕ) → e < net.edges → CanWrite e ⊎ (CanWrite e → ⊥)
     decide_write e inside = go (cases_eq (net.writer e) k) (is_write (P.want (c.state (net.writer e))) (net.writer_port e))
       where
-        go : ((net.writer e ≡ k) ⊎ (net.writer e ≡ k → ⊥)) → (P.want (c.state (net.writer e)) ≡ Write (net.writer_port e)) ⊎ (P.want (c.state (net.writer e)) ≡ Write (net.writer_port e) → ⊥) → CanWrite e ⊎ (CanWrite e → ⊥)
+        go : ((net.writer e ≡ k) ⊎ (net.writer e ≡ k → ⊥)) →
+            (P.want (c.state (net.writer e)) ≡ Write (net.writer_port e)) ⊎ (P.want (c.state (net.writer e)) ≡ Write (net.writer_port e) → ⊥) →
+            CanWrite e ⊎ (CanWrite e → ⊥)
         go (inr ne) wants = inr (λ h. ne h.0)
         go (inl at) (inr other) = inr (λ h. other h.2.1)
         go (inl at) (inl wants) = inl (at, P.written (c.state (net.writer e)), (inside, wants, refl, tt))
@@ -71,7 +76,9 @@ module _ {State Message : Type 0} (P : Process State Message) (net : Network Sta
     pub decide : ((a : Event Message) × (actor net a ≡ k) × Can P net None c a) ⊎ ((a : Event Message) → actor net a ≡ k → Can P net None c a → ⊥)
     decide = go (search_below CanRead net.edges decide_read) (search_below CanWrite net.edges decide_write)
       where
-        go : ((e : ℕ) × (e < net.edges) × CanRead e × ((j : ℕ) → j < e → CanRead j → ⊥)) ⊎ ((e : ℕ) → e < net.edges → CanRead e → ⊥) → ((e : ℕ) × (e < net.edges) × CanWrite e × ((j : ℕ) → j < e → CanWrite j → ⊥)) ⊎ ((e : ℕ) → e < net.edges → CanWrite e → ⊥) → ((a : Event Message) × (actor net a ≡ k) × Can P net None c a) ⊎ ((a : Event Message) → actor net a ≡ k → Can P net None c a → ⊥)
+        go : ((e : ℕ) × (e < net.edges) × CanRead e × ((j : ℕ) → j < e → CanRead j → ⊥)) ⊎ ((e : ℕ) → e < net.edges → CanRead e → ⊥) →
+            ((e : ℕ) × (e < net.edges) × CanWrite e × ((j : ℕ) → j < e → CanWrite j → ⊥)) ⊎ ((e : ℕ) → e < net.edges → CanWrite e → ⊥) →
+            ((a : Event Message) × (actor net a ≡ k) × Can P net None c a) ⊎ ((a : Event Message) → actor net a ≡ k → Can P net None c a → ⊥)
         go (inl (e, inside, (at, m, can), least)) writes = inl (Reads e m, at, can)
         go (inr no_read) (inl (e, inside, (at, m, can), least)) = inl (Writes e m, at, can)
         go (inr no_read) (inr no_write) = inr neither
@@ -91,7 +98,8 @@ module _ {State Message : Type 0} (P : Process State Message) (net : Network Sta
     pending_read : (k : ℕ) (c : Configuration State Message) (e : ℕ) (m : Message) → net.reader e ≡ k → Can P net None c (Reads e m) → pending k c ≡ suc (pending k (next P net c (Reads e m)))
     pending_read k c e m at (inside, wants, some) =
         total_falls (waiting k c) (waiting k (next P net c (Reads e m))) net.edges e inside
-        (rw (eq-eqb (net.reader e) k at, updated_same c.received e (c.received e ++ m ∷ [])) (omega (arith, ap length some.1, length-append (c.received e ++ m ∷ []) some.0, length_push (c.received e) m)))
+        (rw (eq-eqb (net.reader e) k at, updated_same c.received e (c.received e ++ m ∷ []))
+        (omega (arith, ap length some.1, length-append (c.received e ++ m ∷ []) some.0, length_push (c.received e) m)))
         (λ j l ne. rw (updated_other c.received e j (c.received e ++ m ∷ []) ne))
 
     pending_write : (k : ℕ) (c : Configuration State Message) (e : ℕ) (m : Message) → net.writer e ≡ k → Can P net None c (Writes e m) → pending k c ≡ pending k (next P net c (Writes e m))
@@ -140,16 +148,21 @@ module _ {State Message : Type 0} (P : Process State Message) (net : Network Sta
         }
 
     module _ (settles : Settles P) (k : ℕ) where
-      drain_at : (h : ℕ) → ((c : Configuration State Message) → Flows net c → pending k c < h → Drained k c) → (b : ℕ) (c : Configuration State Message) → Flows net c → pending k c ≤ h → P.debt (c.state k) < b → Drained k c
+      drain_at : (h : ℕ) → ((c : Configuration State Message) → Flows net c → pending k c < h → Drained k c) →
+          (b : ℕ) (c : Configuration State Message) → Flows net c → pending k c ≤ h → P.debt (c.state k) < b → Drained k c
       drain_at h later zero c flows waits owes = absurd (omega arith)
       drain_at h later (suc b) c flows waits owes = go (decide c flows k) (λ d. drain_at h later b d)
         where
-          go : ((a : Event Message) × (actor net a ≡ k) × Can P net None c a) ⊎ ((a : Event Message) → actor net a ≡ k → Can P net None c a → ⊥) → ((d : Configuration State Message) → Flows net d → pending k d ≤ h → P.debt (d.state k) < b → Drained k d) → Drained k c
+          go : ((a : Event Message) × (actor net a ≡ k) × Can P net None c a) ⊎ ((a : Event Message) → actor net a ≡ k → Can P net None c a → ⊥) →
+              ((d : Configuration State Message) → Flows net d → pending k d ≤ h → P.debt (d.state k) < b → Drained k d) → Drained k c
           go (inr none) less = record { more = []; end = c; run = refl; flows = flows; done = none; kept = λ a before can. can }
           go (inl (Reads e m, at, can)) less =
               drained_more k c (Reads e m) at can (later (next P net c (Reads e m)) (flows_next P net None c (Reads e m) flows can) (omega (arith, pending_read k c e m at can)))
           go (inl (Writes e m, at, can)) less =
-              drained_more k c (Writes e m) at can (less (next P net c (Writes e m)) (flows_next P net None c (Writes e m) flows can) (omega (arith, pending_write k c e m at can)) (rw (updated_at c.state (net.writer e) k (P.wrote (c.state (net.writer e))) (sym at)) (omega (arith, settles (c.state (net.writer e)) (net.writer_port e) can.1, ap (λ x. P.debt (c.state x)) at))))
+              drained_more k c (Writes e m) at can
+              (less (next P net c (Writes e m)) (flows_next P net None c (Writes e m) flows can) (omega (arith, pending_write k c e m at can))
+              (rw (updated_at c.state (net.writer e) k (P.wrote (c.state (net.writer e))) (sym at))
+              (omega (arith, settles (c.state (net.writer e)) (net.writer_port e) can.1, ap (λ x. P.debt (c.state x)) at))))
 
       drain_below : (h : ℕ) (c : Configuration State Message) → Flows net c → pending k c < h → Drained k c
       drain_below zero c flows waits = absurd (omega arith)
@@ -179,7 +192,10 @@ module _ {State Message : Type 0} (P : Process State Message) (net : Network Sta
           done = λ a before can. go below.end here.end a before can here.kept here.done below.done (cases_eq (actor net a) k);
         }
       where
-        go : (d e : Configuration State Message) (a : Event Message) → actor net a < suc k → Can P net None e a → ((b : Event Message) → actor net b < k → Can P net None e b → Can P net None d b) → ((b : Event Message) → actor net b ≡ k → Can P net None e b → ⊥) → ((b : Event Message) → actor net b < k → Can P net None d b → ⊥) → ((actor net a ≡ k) ⊎ (actor net a ≡ k → ⊥)) → ⊥
+        go : (d e : Configuration State Message) (a : Event Message) → actor net a < suc k → Can P net None e a →
+            ((b : Event Message) → actor net b < k → Can P net None e b → Can P net None d b) →
+            ((b : Event Message) → actor net b ≡ k → Can P net None e b → ⊥) → ((b : Event Message) → actor net b < k → Can P net None d b → ⊥) →
+            ((actor net a ≡ k) ⊎ (actor net a ≡ k → ⊥)) → ⊥
         go d e a before can kept here below (inl at) = here a at can
         go d e a before can kept here below (inr ne) = below a (omega arith) (kept a (omega arith) can)
 
@@ -212,23 +228,28 @@ module _ {State Message : Type 0} (P : Process State Message) (net : Network Sta
     unfolding most_events
     run_most limit events c d flows run =
         let all : (more : List (Event Message)) × (end : Configuration State Message) × Maximal P net None more c end = all_events c flows in
-        let then : (left : List (Event Message)) × Run P net None left d all.1 × (length all.0 ≡ length events + length left) = goes_on P net wired None events all.0 c d all.1 all.2.run all.2.rest (unbounded_run limit events c d run) in
+        let then : (left : List (Event Message)) × Run P net None left d all.1 × (length all.0 ≡ length events + length left) =
+        goes_on P net wired None events all.0 c d all.1 all.2.run all.2.rest (unbounded_run limit events c d run) in
         omega (arith, then.2)
 
     pub left_of : (c : Configuration State Message) → Flows net c → ℕ
     left_of c flows = length (all_events c flows).0
 
     -- each run is at most that long, and leaves just so many
-    pub falls_by : (limit : Option ℕ) (events : List (Event Message)) (c d : Configuration State Message) (flows : Flows net c) (flows_d : Flows net d) → Run P net limit events c d → left_of c flows ≡ length events + left_of d flows_d
+    pub falls_by : (limit : Option ℕ) (events : List (Event Message)) (c d : Configuration State Message) (flows : Flows net c)
+        (flows_d : Flows net d) → Run P net limit events c d → left_of c flows ≡ length events + left_of d flows_d
     unfolding left_of
     falls_by limit events c d flows flows_d run =
         let all_c : (more : List (Event Message)) × (end : Configuration State Message) × Maximal P net None more c end = all_events c flows in
         let all_d : (more : List (Event Message)) × (end : Configuration State Message) × Maximal P net None more d end = all_events d flows_d in
-        let then : (left : List (Event Message)) × Run P net None left d all_c.1 × (length all_c.0 ≡ length events + length left) = goes_on P net wired None events all_c.0 c d all_c.1 all_c.2.run all_c.2.rest (unbounded_run limit events c d run) in
+        let then : (left : List (Event Message)) × Run P net None left d all_c.1 × (length all_c.0 ≡ length events + length left) =
+        goes_on P net wired None events all_c.0 c d all_c.1 all_c.2.run all_c.2.rest (unbounded_run limit events c d run) in
         let same : length then.0 ≡ length all_d.0 = lengths d then.0 all_c.1 then.1 all_c.2.rest all_d.0 all_d.1 all_d.2.run all_d.2.rest in
         omega (arith, then.2, same)
       where
-        lengths : (d : Configuration State Message) (one : List (Event Message)) (e : Configuration State Message) → Run P net None one d e → AtRest P net None e → (two : List (Event Message)) (f : Configuration State Message) → Run P net None two d f → AtRest P net None f → length one ≡ length two
+        lengths : (d : Configuration State Message) (one : List (Event Message)) (e : Configuration State Message) → Run P net None one d e →
+            AtRest P net None e → (two : List (Event Message)) (f : Configuration State Message) → Run P net None two d f → AtRest P net None f →
+            length one ≡ length two
         lengths d one e run_e rest_e two f run_f rest_f =
             let a : (left : List (Event Message)) × Run P net None left e f × (length two ≡ length one + length left) = goes_on P net wired None one two d e f run_f rest_f run_e in
             let b : (left : List (Event Message)) × Run P net None left f e × (length one ≡ length two + length left) = goes_on P net wired None two one d f e run_e rest_e run_f in

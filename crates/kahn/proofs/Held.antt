@@ -35,13 +35,18 @@ same_from f g e here same = λ t i. each i t
         go (inl at) = ap g at ∙ here ∙ ap f (sym at)
         go (inr other) = same i other
 
-module _ {State Message : Type 0} (P : Process State Message) (net : Network State) (wired : IsWired net) (limit : Option ℕ) (state : ℕ → State) (h : ℕ → List Message) (c : Configuration State Message) (fits : IsConfigurationOf state h c) (k : ℕ) where
+module _ {State Message : Type 0} (P : Process State Message) (net : Network State) (wired : IsWired net) (limit : Option ℕ) (state : ℕ → State)
+    (h : ℕ → List Message) (c : Configuration State Message) (fits : IsConfigurationOf state h c) (k : ℕ) where
   -- a turn in which nothing happens
-  pub turn_same : (h' : ℕ → List Message) → h' ≡ h → ((a : Event Message) → actor net a ≡ k → Can P net limit c a → ⊥) → (d : Configuration State Message) × IsConfigurationOf state h' d × Turn P net limit k c d false
+  pub turn_same : (h' : ℕ → List Message) → h' ≡ h → ((a : Event Message) → actor net a ≡ k → Can P net limit c a → ⊥) →
+      (d : Configuration State Message) × IsConfigurationOf state h' d × Turn P net limit k c d false
   turn_same h' same none = (c, (fits.0, λ e. ap (λ f. c.received e ++ f e) same ∙ fits.1 e), (refl, none))
 
   -- a node with no edge for what it wants
-  pub turn_idle : (h' : ℕ → List Message) → h' ≡ h → ((p e : ℕ) → P.want (state k) ≡ Read p → e < net.edges → net.reader e ≡ k → net.reader_port e ≡ p → ⊥) → ((p e : ℕ) → P.want (state k) ≡ Write p → e < net.edges → net.writer e ≡ k → net.writer_port e ≡ p → ⊥) → (d : Configuration State Message) × IsConfigurationOf state h' d × Turn P net limit k c d false
+  pub turn_idle : (h' : ℕ → List Message) → h' ≡ h →
+      ((p e : ℕ) → P.want (state k) ≡ Read p → e < net.edges → net.reader e ≡ k → net.reader_port e ≡ p → ⊥) →
+      ((p e : ℕ) → P.want (state k) ≡ Write p → e < net.edges → net.writer e ≡ k → net.writer_port e ≡ p → ⊥) → (d : Configuration State Message)
+      × IsConfigurationOf state h' d × Turn P net limit k c d false
   turn_idle h' same no_input no_output = turn_same h' same none
     where
       none : (a : Event Message) → actor net a ≡ k → Can P net limit c a → ⊥
@@ -49,17 +54,22 @@ module _ {State Message : Type 0} (P : Process State Message) (net : Network Sta
       none (Writes e m) at (inside, wants, is, room) = no_output (net.writer_port e) e (ap (λ s. P.want (s k)) (sym fits.0) ∙ ap (λ x. P.want (c.state x)) (sym at) ∙ wants) inside at refl
 
   module _ (e : ℕ) (inside : e < net.edges) where
-    pub turn_none : net.reader e ≡ k → P.want (state k) ≡ Read (net.reader_port e) → h e ≡ [] → (h' : ℕ → List Message) → h' ≡ h → (d : Configuration State Message) × IsConfigurationOf state h' d × Turn P net limit k c d false
+    pub turn_none : net.reader e ≡ k → P.want (state k) ≡ Read (net.reader_port e) → h e ≡ [] → (h' : ℕ → List Message) → h' ≡ h →
+        (d : Configuration State Message) × IsConfigurationOf state h' d × Turn P net limit k c d false
     turn_none at wants none h' same =
         turn_same h' same (nothing_held P net wired limit c k e inside at (ap (λ s. P.want (s k)) fits.0 ∙ wants) (sym (append-nil (c.received e)) ∙ ap (λ l. c.received e ++ l) (sym none) ∙ fits.1 e))
 
-    pub turn_full : net.writer e ≡ k → P.want (state k) ≡ Write (net.writer_port e) → (HasRoom limit (length (h e)) → ⊥) → (h' : ℕ → List Message) → h' ≡ h → (d : Configuration State Message) × IsConfigurationOf state h' d × Turn P net limit k c d false
+    pub turn_full : net.writer e ≡ k → P.want (state k) ≡ Write (net.writer_port e) → (HasRoom limit (length (h e)) → ⊥) → (h' : ℕ → List Message) →
+        h' ≡ h → (d : Configuration State Message) × IsConfigurationOf state h' d × Turn P net limit k c d false
     turn_full at wants full h' same =
         turn_same h' same (no_room P net wired limit c k e inside at (ap (λ s. P.want (s k)) fits.0 ∙ wants) (λ room. full (subst (λ n. HasRoom limit n) (held_is P net state h c fits e) room)))
 
-    pub turn_read : net.reader e ≡ k → P.want (state k) ≡ Read (net.reader_port e) → (m : Message) (h' : ℕ → List Message) → h e ≡ m ∷ h' e → ((f : ℕ) → (f ≡ e → ⊥) → h' f ≡ h f) → (state' : ℕ → State) → state' ≡ updated state k (P.read (state k) m) → (d : Configuration State Message) × IsConfigurationOf state' h' d × Turn P net limit k c d true
+    pub turn_read : net.reader e ≡ k → P.want (state k) ≡ Read (net.reader_port e) → (m : Message) (h' : ℕ → List Message) → h e ≡ m ∷ h' e →
+        ((f : ℕ) → (f ≡ e → ⊥) → h' f ≡ h f) → (state' : ℕ → State) → state' ≡ updated state k (P.read (state k) m) → (d : Configuration State Message)
+        × IsConfigurationOf state' h' d × Turn P net limit k c d true
     turn_read at wants m h' taken others state' is =
-        let after : IsConfigurationOf (updated state (net.reader e) (P.read (state (net.reader e)) m)) (updated h e (h' e)) (next P net c (Reads e m)) = fits_read P net state h c fits e m (h' e) (sym taken) in (
+        let after : IsConfigurationOf (updated state (net.reader e) (P.read (state (net.reader e)) m)) (updated h e (h' e)) (next P net c (Reads e m))
+        = fits_read P net state h c fits e m (h' e) (sym taken) in (
           next P net c (Reads e m),
           (after.0 ∙ ap (λ x. updated state x (P.read (state x) m)) at ∙ sym is, λ f. ap (λ x. (next P net c (Reads e m)).received f ++ x f) (updated_from h h' e others) ∙ after.1 f),
           (
@@ -74,9 +84,12 @@ module _ {State Message : Type 0} (P : Process State Message) (net : Network Sta
           ),
         )
 
-    pub turn_write : net.writer e ≡ k → P.want (state k) ≡ Write (net.writer_port e) → HasRoom limit (length (h e)) → (m : Message) → m ≡ P.written (state k) → (h' : ℕ → List Message) → h' e ≡ h e ++ m ∷ [] → ((f : ℕ) → (f ≡ e → ⊥) → h' f ≡ h f) → (state' : ℕ → State) → state' ≡ updated state k (P.wrote (state k)) → (d : Configuration State Message) × IsConfigurationOf state' h' d × Turn P net limit k c d true
+    pub turn_write : net.writer e ≡ k → P.want (state k) ≡ Write (net.writer_port e) → HasRoom limit (length (h e)) → (m : Message) → m
+        ≡ P.written (state k) → (h' : ℕ → List Message) → h' e ≡ h e ++ m ∷ [] → ((f : ℕ) → (f ≡ e → ⊥) → h' f ≡ h f) → (state' : ℕ → State) → state'
+        ≡ updated state k (P.wrote (state k)) → (d : Configuration State Message) × IsConfigurationOf state' h' d × Turn P net limit k c d true
     turn_write at wants room m is_m h' put others state' is =
-        let after : IsConfigurationOf (updated state (net.writer e) (P.wrote (state (net.writer e)))) (updated h e (h e ++ m ∷ [])) (next P net c (Writes e m)) = fits_write P net state h c fits e m in (
+        let after : IsConfigurationOf (updated state (net.writer e) (P.wrote (state (net.writer e)))) (updated h e (h e ++ m ∷ []))
+        (next P net c (Writes e m)) = fits_write P net state h c fits e m in (
           next P net c (Writes e m),
           (after.0 ∙ ap (λ x. updated state x (P.wrote (state x))) at ∙ sym is, λ f. ap (λ x. c.received f ++ x f) (updated_from h h' e others ∙ ap (λ l. updated h e l) put) ∙ after.1 f),
           (
@@ -93,6 +106,8 @@ module _ {State Message : Type 0} (P : Process State Message) (net : Network Sta
         )
 
 -- the measure falls in a pass that made a step
-pub sweep_falls : {State Message : Type 0} (P : Process State Message) (net : Network State) (wired : IsWired net) (settles : Settles P) (limit : Option ℕ) (k : ℕ) (state state' : ℕ → State) (h h' : ℕ → List Message) (c d : Configuration State Message) → IsConfigurationOf state h c → IsConfigurationOf state' h' d → IsSwept P net limit k c d true → to_come P net wired settles state' h' < to_come P net wired settles state h
+pub sweep_falls : {State Message : Type 0} (P : Process State Message) (net : Network State) (wired : IsWired net) (settles : Settles P)
+    (limit : Option ℕ) (k : ℕ) (state state' : ℕ → State) (h h' : ℕ → List Message) (c d : Configuration State Message) → IsConfigurationOf state h c
+    → IsConfigurationOf state' h' d → IsSwept P net limit k c d true → to_come P net wired settles state' h' < to_come P net wired settles state h
 sweep_falls P net wired settles limit k state state' h h' c d fits_c fits_d s =
     omega (arith, to_come_falls P net wired settles limit state state' h h' c d fits_c fits_d s.reaches.0 s.reaches.1, s.busy refl, moved_run P net limit s.reaches.0 c d s.reaches.1)

@@ -1,5 +1,6 @@
 -- The own history of one node is a run of the network.
-use Rattle.std.proofs.Common.{◌≡◌, ℕ, suc, ◌-◌, ◌<◌, ◌≤◌, Bool, true, false, cond, eqb, ltb, Option, Some, None, List, [], ◌∷◌, ◌++◌, length, ◌⊎◌, refl, sym, ◌∙◌, ap, subst, inl, inr, arith, append-nil, append_assoc, length-append, eq-eqb, ne_eqb, lt-ltb}
+use Rattle.std.proofs.Common.{◌≡◌, ℕ, suc, ◌-◌, ◌<◌, ◌≤◌, Bool, true, false, cond, eqb, ltb, Option, Some, None, List, [], ◌∷◌, ◌++◌, length, ◌⊎◌}
+use Rattle.std.proofs.Common.{refl, sym, ◌∙◌, ap, subst, inl, inr, arith, append-nil, append_assoc, length-append, eq-eqb, ne_eqb, lt-ltb}
 use Rattle.std.proofs.lemmas.Bool.{cases_eq, and_from, and_parts, ltb-true, eqb-true}
 use Rattle.kahn.specs.declared.want.Want.TheVariants.{Read, Write}
 use Rattle.kahn.specs.Basics.{updated, Begins}
@@ -40,7 +41,8 @@ updated_none f k x is = λ t j. each j t
 
 module _ {Message : Type 0} where
   -- one message and then the rest, or the rest at once
-  grown : (lists : ℕ → List Message) (e f : ℕ) (m : Message) (p q : ℕ) (rest : List Message) → (f ≡ e → q ≡ p) → (q ≡ p → f ≡ e) → updated lists e (lists e ++ m ∷ []) f ++ rest ≡ lists f ++ cond (eqb q p) (m ∷ rest) rest
+  grown : (lists : ℕ → List Message) (e f : ℕ) (m : Message) (p q : ℕ) (rest : List Message) → (f ≡ e → q ≡ p) → (q ≡ p → f ≡ e) →
+      updated lists e (lists e ++ m ∷ []) f ++ rest ≡ lists f ++ cond (eqb q p) (m ∷ rest) rest
   grown lists e f m p q rest to from = go (cases_eq f e)
     where
       go : ((f ≡ e) ⊎ (f ≡ e → ⊥)) → updated lists e (lists e ++ m ∷ []) f ++ rest ≡ lists f ++ cond (eqb q p) (m ∷ rest) rest
@@ -55,10 +57,13 @@ module _ {Message : Type 0} where
       each e false = refl
 
   -- lists that agree at my own edges once they are extended, and elsewhere as they are
-  pub extended_same : (own : ℕ → Bool) (lists lists' more more' : ℕ → List Message) → ((e : ℕ) → own e ≡ true → lists e ++ more e ≡ lists' e ++ more' e) → ((e : ℕ) → own e ≡ false → lists e ≡ lists' e) → extended own lists more ≡ extended own lists' more'
+  pub extended_same : (own : ℕ → Bool) (lists lists' more more' : ℕ → List Message) →
+      ((e : ℕ) → own e ≡ true → lists e ++ more e ≡ lists' e ++ more' e) → ((e : ℕ) → own e ≡ false → lists e ≡ lists' e) → extended own lists more
+      ≡ extended own lists' more'
   extended_same own lists lists' more more' mine others = λ t e. each e (own e) (mine e) (others e) t
     where
-      each : (e : ℕ) (b : Bool) → (b ≡ true → lists e ++ more e ≡ lists' e ++ more' e) → (b ≡ false → lists e ≡ lists' e) → cond b (lists e ++ more e) (lists e) ≡ cond b (lists' e ++ more' e) (lists' e)
+      each : (e : ℕ) (b : Bool) → (b ≡ true → lists e ++ more e ≡ lists' e ++ more' e) → (b ≡ false → lists e ≡ lists' e) →
+          cond b (lists e ++ more e) (lists e) ≡ cond b (lists' e ++ more' e) (lists' e)
       each e true here away = here refl
       each e false here away = away refl
 
@@ -71,10 +76,14 @@ module _ {State Message : Type 0} (P : Process State Message) (net : Network Sta
   at_out e mine = let both : (ltb e net.edges ≡ true) × (eqb (net.writer e) k ≡ true) = and_parts _ _ mine in (ltb-true e net.edges both.0, eqb-true (net.writer e) k both.1)
 
   away_in : (e f : ℕ) → f < net.edges → net.reader f ≡ k → goes_in net k e ≡ false → e ≡ f → ⊥
-  away_in e f inside at away same = absurd (let a : goes_in net k e ≡ true = and_from _ _ (lt-ltb e net.edges (omega arith)) (eq-eqb (net.reader e) k (ap net.reader same ∙ at)) in let b : true ≡ false = sym a ∙ away in cc)
+  away_in e f inside at away same =
+      absurd (let a : goes_in net k e ≡ true = and_from _ _ (lt-ltb e net.edges (omega arith)) (eq-eqb (net.reader e) k (ap net.reader same ∙ at)) in
+      let b : true ≡ false = sym a ∙ away in cc)
 
   away_out : (e f : ℕ) → f < net.edges → net.writer f ≡ k → comes_out net k e ≡ false → e ≡ f → ⊥
-  away_out e f inside at away same = absurd (let a : comes_out net k e ≡ true = and_from _ _ (lt-ltb e net.edges (omega arith)) (eq-eqb (net.writer e) k (ap net.writer same ∙ at)) in let b : true ≡ false = sym a ∙ away in cc)
+  away_out e f inside at away same =
+      absurd (let a : comes_out net k e ≡ true = and_from _ _ (lt-ltb e net.edges (omega arith)) (eq-eqb (net.writer e) k (ap net.writer same ∙ at)) in
+      let b : true ≡ false = sym a ∙ away in cc)
 
   -- no edge goes to the node and comes from it
   apart : (e f : ℕ) → f < net.edges → net.reader e ≡ k → net.writer f ≡ k → f ≡ e → ⊥
@@ -91,7 +100,8 @@ module _ {State Message : Type 0} (P : Process State Message) (net : Network Sta
   module _ (limit : Option ℕ) (c : Configuration State Message) (e : ℕ) (inside : e < net.edges) (m : Message) (h : List (Event Message)) (t : State) where
     -- a read at the edge, and the rest of the history
     module _ (p : ℕ) (at : net.reader e ≡ k) (port : net.reader_port e ≡ p) where
-      read_grown : (f : ℕ) → f < net.edges → net.reader f ≡ k → updated c.received e (c.received e ++ m ∷ []) f ++ reads (net.reader_port f) h ≡ c.received f ++ reads (net.reader_port f) (Reads p m ∷ h)
+      read_grown : (f : ℕ) → f < net.edges → net.reader f ≡ k → updated c.received e (c.received e ++ m ∷ []) f ++ reads (net.reader_port f) h
+          ≡ c.received f ++ reads (net.reader_port f) (Reads p m ∷ h)
       read_grown f inside_f at_f =
           grown c.received e f m p (net.reader_port f) (reads (net.reader_port f) h) (λ same. ap net.reader_port same ∙ port)
           (λ same. wired.one_in f e inside_f inside (at_f ∙ sym at) (same ∙ sym port))
@@ -113,7 +123,9 @@ module _ {State Message : Type 0} (P : Process State Message) (net : Network Sta
 
       read_can : P.want (c.state k) ≡ Read p → HasSent c (Reads p m ∷ h) → Can P net limit c (Reads e m)
       read_can wants sent =
-          let whole : Begins (c.received e ++ m ∷ reads (net.reader_port e) h) (c.sent e) = subst (λ b. Begins (c.received e ++ cond b (m ∷ reads (net.reader_port e) h) (reads (net.reader_port e) h)) (c.sent e)) (eq-eqb (net.reader_port e) p port) (sent e inside at) in
+          let whole : Begins (c.received e ++ m ∷ reads (net.reader_port e) h) (c.sent e) =
+          subst (λ b. Begins (c.received e ++ cond b (m ∷ reads (net.reader_port e) h) (reads (net.reader_port e) h)) (c.sent e))
+          (eq-eqb (net.reader_port e) p port) (sent e inside at) in
           let more : List Message = reads (net.reader_port e) h in (
             inside,
             ap (λ x. P.want (c.state x)) at ∙ wants ∙ ap Read (sym port),
@@ -155,7 +167,10 @@ module _ {State Message : Type 0} (P : Process State Message) (net : Network Sta
       write_can : P.want (c.state k) ≡ Write q → P.written (c.state k) ≡ m → FindsRoom limit c (Writes q m ∷ h) → Can P net limit c (Writes e m)
       write_can wants is room =
           let (some, fits) = room e inside at in
-          let whole : MayHold limit (length (c.sent e ++ m ∷ writes (net.writer_port e) h) - length (c.received e)) = subst (λ b. MayHold limit (length (c.sent e ++ cond b (m ∷ writes (net.writer_port e) h) (writes (net.writer_port e) h)) - length (c.received e))) (eq-eqb (net.writer_port e) q port) fits in (
+          let whole : MayHold limit (length (c.sent e ++ m ∷ writes (net.writer_port e) h) - length (c.received e)) =
+          subst (λ b. MayHold limit
+          (length (c.sent e ++ cond b (m ∷ writes (net.writer_port e) h) (writes (net.writer_port e) h)) - length (c.received e)))
+          (eq-eqb (net.writer_port e) q port) fits in (
             inside,
             ap (λ x. P.want (c.state x)) at ∙ wants ∙ ap Write (sym port),
             ap (λ x. P.written (c.state x)) at ∙ is,
@@ -166,7 +181,9 @@ module _ {State Message : Type 0} (P : Process State Message) (net : Network Sta
           )
 
   module _ (lawful : AllLawful P net) (limit : Option ℕ) (node : k < net.nodes) where
-    run_of : (h : List (Event Message)) (c : Configuration State Message) (before : List (Event Message)) (t : State) → Does P (net.opening k) before (c.state k) → Does P (c.state k) h t → HasSent c h → FindsRoom limit c h → Run P net limit (on_edges net k h) c (after_history net c k h t)
+    run_of : (h : List (Event Message)) (c : Configuration State Message) (before : List (Event Message)) (t : State) →
+        Does P (net.opening k) before (c.state k) → Does P (c.state k) h t → HasSent c h → FindsRoom limit c h →
+        Run P net limit (on_edges net k h) c (after_history net c k h t)
     run_of [] c before t from same sent room = λ i. record {
       state = updated_none c.state k t same i;
       sent = extended_none (comes_out net k) c.sent i;

@@ -67,7 +67,8 @@ named_before_itself f = inr (refl, inr (refl, omega arith))
 pub named_before_either : (f g : Fault) → IsNamedBefore f g ⊎ IsNamedBefore g f
 named_before_either f g = ranks (cases_lt (rank_of f.kind) (rank_of g.kind)) (cases_lt (rank_of g.kind) (rank_of f.kind))
   where
-    numbers : rank_of f.kind ≡ rank_of g.kind → f.at ≡ g.at → (number_of_fault f.kind < number_of_fault g.kind) ⊎ (number_of_fault g.kind ≤ number_of_fault f.kind) → IsNamedBefore f g ⊎ IsNamedBefore g f
+    numbers : rank_of f.kind ≡ rank_of g.kind → f.at ≡ g.at →
+        (number_of_fault f.kind < number_of_fault g.kind) ⊎ (number_of_fault g.kind ≤ number_of_fault f.kind) → IsNamedBefore f g ⊎ IsNamedBefore g f
     numbers rank at (inl less) = inl (inr (rank, inr (at, omega arith)))
     numbers rank at (inr more) = inr (inr (sym rank, inr (sym at, more)))
 
@@ -129,7 +130,12 @@ pub named_of_two : (f h : Fault) → (r : Fault) × IsNamedOf (f ∷ h ∷ []) r
 named_of_two f h = go (named_before_either f h)
   where
     two : (r : Fault) → Contains (f ∷ h ∷ []) r → IsNamedBefore r f → IsNamedBefore r h → IsNamedOf (f ∷ h ∷ []) r
-    two r stands first second = record { stands = stands; first = All-cons (λ g. IsNamedBefore r g) f (h ∷ []) first (All-cons (λ g. IsNamedBefore r g) h [] second (All-nil (λ g. IsNamedBefore r g))) }
+    two r stands first second =
+        record {
+          stands = stands;
+          first =
+              All-cons (λ g. IsNamedBefore r g) f (h ∷ []) first (All-cons (λ g. IsNamedBefore r g) h [] second (All-nil (λ g. IsNamedBefore r g)));
+        }
 
     go : IsNamedBefore f h ⊎ IsNamedBefore h f → (r : Fault) × IsNamedOf (f ∷ h ∷ []) r
     go (inl before) = (f, two f (Contains-append_left (f ∷ []) (h ∷ []) f (Contains-push [] f)) (named_before_itself f) before)

@@ -51,7 +51,14 @@ module _ (want : ℕ → Want) (n : ℕ) where
 
   pub named_newly : (f : Fault) → want n ≡ Faulted f → NoneBelow want n → NamesBelow want (suc n) f
   named_newly f is none =
-      record { node = n; inside = omega arith; is = is; first = each_below (λ g. IsNamedBefore f g) (λ k g inside is_g. absurd (none k g inside is_g)) (of_this (λ g. IsNamedBefore f g) f is (named_before_itself f)) }
+      record {
+        node = n;
+        inside = omega arith;
+        is = is;
+        first =
+            each_below (λ g. IsNamedBefore f g) (λ k g inside is_g. absurd (none k g inside is_g))
+            (of_this (λ g. IsNamedBefore f g) f is (named_before_itself f));
+      }
 
   pub named_next : (f h r : Fault) → want n ≡ Faulted h → NamesBelow want n f → IsNamedOf (f ∷ h ∷ []) r → NamesBelow want (suc n) r
   named_next f h r is below of_two = go (named_one_of_two f h r of_two)

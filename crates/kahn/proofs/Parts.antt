@@ -22,7 +22,9 @@ module _ {State Message : Type 0} (P : Process State Message) (net : Network Sta
   sound_from c each flows = ∥∥₁_map (all_below (IsReached P net c) net.nodes each) (λ reached. record { reached = reached; flows = flows })
 
   -- a node's part speaks of its own state and of the lists of its own ends alone
-  pub reached_own : (c d : Configuration State Message) (k : ℕ) → IsReached P net c k → d.state k ≡ c.state k → ((e : ℕ) → e < net.edges → net.reader e ≡ k → d.received e ≡ c.received e) → ((e : ℕ) → e < net.edges → net.writer e ≡ k → d.sent e ≡ c.sent e) → IsReached P net d k
+  pub reached_own : (c d : Configuration State Message) (k : ℕ) → IsReached P net c k → d.state k ≡ c.state k →
+      ((e : ℕ) → e < net.edges → net.reader e ≡ k → d.received e ≡ c.received e) → ((e : ℕ) → e < net.edges → net.writer e ≡ k → d.sent e ≡ c.sent e) →
+      IsReached P net d k
   reached_own c d k r state received sent =
       record {
         history = r.history;

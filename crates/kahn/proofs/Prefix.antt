@@ -38,7 +38,8 @@ module _ {State Message : Type 0} (P : Process State Message) (z : State) (no_wr
           cc
       go (inr ne) = ap (λ l. l ++ x) (sym (reads_later r p m h ne)) ∙ same ∙ ap (λ l. l ++ y) (reads_later r q n g (λ e. ne (e ∙ sym pq)))
 
-  follows : (s t : State) (h g : List (Event Message)) → ((a : List (Event Message)) (u : State) (p : ℕ) → Does P s a u → P.want u ≡ Read p → Port p) → Does P s h t → Does P s g z → ((p : ℕ) → Port p → Agree p h g) → (rest : List (Event Message)) × (h ++ rest ≡ g) × Does P t rest z
+  follows : (s t : State) (h g : List (Event Message)) → ((a : List (Event Message)) (u : State) (p : ℕ) → Does P s a u → P.want u ≡ Read p → Port p)
+      → Does P s h t → Does P s g z → ((p : ℕ) → Port p → Agree p h g) → (rest : List (Event Message)) × (h ++ rest ≡ g) × Does P t rest z
   follows s t [] g ports does does_g agree = (g, refl, subst (λ u. Does P u g z) does does_g)
   follows s t (Reads p m ∷ h) [] ports (wants, does) same_z agree =
       let (x, y, same, stuck) = agree p (ports [] s p refl wants) in
@@ -50,7 +51,9 @@ module _ {State Message : Type 0} (P : Process State Message) (z : State) (no_wr
       let pq : p ≡ q = cc in
       let a : m ∷ (reads p h ++ x) ≡ n ∷ (reads p g ++ y) = ap (λ l. l ++ x) (sym (reads_first p p m h refl)) ∙ same ∙ ap (λ l. l ++ y) (reads_first p q n g pq) in
       let mn : m ≡ n = cc in
-      let ih : (rest : List (Event Message)) × (h ++ rest ≡ g) × Does P t rest z = follows (P.read s m) t h g (λ b u r d w. ports (Reads p m ∷ b) u r (wants, d) w) does (subst (λ v. Does P (P.read s v) g z) (sym mn) does_g) (λ r port. agree_next p q m n h g r pq (agree r port)) in
+      let ih : (rest : List (Event Message)) × (h ++ rest ≡ g) × Does P t rest z =
+      follows (P.read s m) t h g (λ b u r d w. ports (Reads p m ∷ b) u r (wants, d) w) does (subst (λ v. Does P (P.read s v) g z) (sym mn) does_g)
+      (λ r port. agree_next p q m n h g r pq (agree r port)) in
       (ih.0, (let e : h ++ ih.0 ≡ g = ih.1 in cc), ih.2)
   follows s t (Reads p m ∷ h) (Writes q n ∷ g) ports (wants, does) (wants_g, is, does_g) agree = absurd (let a : Read p ≡ Write q = sym wants ∙ wants_g in cc)
   follows s t (Writes p m ∷ h) [] ports (wants, is, does) same_z agree = absurd (no_write p (ap P.want (sym same_z) ∙ wants))
@@ -60,7 +63,10 @@ module _ {State Message : Type 0} (P : Process State Message) (z : State) (no_wr
       (ih.0, (let e : h ++ ih.0 ≡ g = ih.1 in cc), ih.2)
 
 -- What one process does on beginnings of what a complete run of it reads.
-pub node_follows : {State Message : Type 0} (P : Process State Message) (opening : State) (inputs outputs : ℕ) → IsLawfulProcess P opening inputs outputs → (g : List (Event Message)) (z : State) → Does P opening g z → P.want z ≡ Ended → (h : List (Event Message)) (s : State) → Does P opening h s → ((p : ℕ) → p < inputs → Begins (reads p h) (reads p g)) → ((p : ℕ) → Begins (writes p h) (writes p g)) × ((f : Fault) → P.want s ≡ Faulted f → ⊥)
+pub node_follows : {State Message : Type 0} (P : Process State Message) (opening : State) (inputs outputs : ℕ) →
+    IsLawfulProcess P opening inputs outputs → (g : List (Event Message)) (z : State) → Does P opening g z → P.want z ≡ Ended →
+    (h : List (Event Message)) (s : State) → Does P opening h s → ((p : ℕ) → p < inputs → Begins (reads p h) (reads p g)) →
+    ((p : ℕ) → Begins (writes p h) (writes p g)) × ((f : Fault) → P.want s ≡ Faulted f → ⊥)
 node_follows {Message = Message} P opening inputs outputs lawful g z whole ended h s does reads_of =
     let (rest, same, after) = follows P z (λ p w. absurd (let x : Ended ≡ Write p = sym ended ∙ w in cc)) (λ p. p < inputs) opening s h g (λ a u p d w. lawful.in_port a u p d w) does whole
     (λ p l. ((reads_of p l).0, [], (reads_of p l).1 ∙ sym (append-nil (reads p g)), λ w. absurd (let x : Ended ≡ Read p = sym ended ∙ w in cc))) in
@@ -71,7 +77,8 @@ node_follows {Message = Message} P opening inputs outputs lawful g z whole ended
     go (Reads p m ∷ more) (wants, does) f is = absurd (let a : Read p ≡ Faulted f = sym wants ∙ is in cc)
     go (Writes p m ∷ more) (wants, is_m, does) f is = absurd (let a : Write p ≡ Faulted f = sym wants ∙ is in cc)
 
-module _ {State Message : Type 0} (P : Process State Message) (net : Network State) (wired : IsWired net) (lawful : AllLawful P net) (r : Configuration State Message) (sound_r : IsSound P net r) (rest_r : AtRest P net None r) where
+module _ {State Message : Type 0} (P : Process State Message) (net : Network State) (wired : IsWired net) (lawful : AllLawful P net)
+    (r : Configuration State Message) (sound_r : IsSound P net r) (rest_r : AtRest P net None r) where
   module _ (c : Configuration State Message) (sound : IsSound P net c) where
     -- what the node has still to do
     abbrev Goes : (k : ℕ) → k < net.nodes → Type 0
@@ -102,11 +109,14 @@ module _ {State Message : Type 0} (P : Process State Message) (net : Network Sta
         drained e p inside_e at port wants (m ∷ more) same =
             absurd (rest_r (Reads e m) (inside_e, ap (λ x. P.want (r.state x)) at ∙ wants ∙ ap Read (sym port), (more, append_assoc (r.received e) (m ∷ []) more ∙ same)))
 
-        agree : (p e : ℕ) → (e < net.edges) × (net.reader e ≡ k) × (net.reader_port e ≡ p) → (x y : List Message) × (reads p (sound.reached k inside).history ++ x ≡ reads p (sound_r.reached k inside).history ++ y) × (P.want (r.state k) ≡ Read p → y ≡ [])
+        agree : (p e : ℕ) → (e < net.edges) × (net.reader e ≡ k) × (net.reader_port e ≡ p) → (x y : List Message)
+            × (reads p (sound.reached k inside).history ++ x ≡ reads p (sound_r.reached k inside).history ++ y) × (P.want (r.state k) ≡ Read p → y ≡ [])
         agree p e (inside_e, at, port) =
             let first : net.writer e < net.reader e = wired.forward e inside_e in
             let inside_w : net.writer e < net.nodes = omega arith in
-            let x : Begins (c.received e) (r.sent e) = begins_trans (c.received e) (c.sent e) (r.sent e) (sound.flows e inside_e) (sent_by e inside_e inside_w (before (net.writer e) (omega arith) inside_w)) in
+            let x : Begins (c.received e) (r.sent e) =
+            begins_trans (c.received e) (c.sent e) (r.sent e) (sound.flows e inside_e)
+            (sent_by e inside_e inside_w (before (net.writer e) (omega arith) inside_w)) in
             let y : Begins (r.received e) (r.sent e) = sound_r.flows e inside_e in (
               x.0,
               y.0,
@@ -158,7 +168,8 @@ module _ {State Message : Type 0} (P : Process State Message) (net : Network Sta
         inside : net.writer e < net.nodes
         inside = inside_writer e inside_e
 
-        go : (more : List (Event Message)) → Does P (c.state (net.writer e)) more (r.state (net.writer e)) → c.sent e ++ writes (net.writer_port e) more ≡ r.sent e → length (c.sent e) < length (r.sent e)
+        go : (more : List (Event Message)) → Does P (c.state (net.writer e)) more (r.state (net.writer e)) → c.sent e
+            ++ writes (net.writer_port e) more ≡ r.sent e → length (c.sent e) < length (r.sent e)
         go [] same sent = absurd (let a : Ended ≡ Write (net.writer_port e) = sym (ended (net.writer e) inside) ∙ ap P.want (sym same) ∙ wants in cc)
         go (Reads p m ∷ more) (wants_p, does) sent = absurd (let a : Read p ≡ Write (net.writer_port e) = sym wants_p ∙ wants in cc)
         go (Writes p m ∷ more) (wants_p, is_m, does) sent =

@@ -14,17 +14,20 @@ module _ {State Message : Type 0} (P : Process State Message) (net : Network Sta
   decide_blocked : (e : ℕ) → e < net.edges → IsBlocked P net capacity c e ⊎ (IsBlocked P net capacity c e → ⊥)
   decide_blocked e inside = go (is_write (P.want (c.state (net.writer e))) (net.writer_port e)) (cases_lt (held c e) capacity)
     where
-      go : (P.want (c.state (net.writer e)) ≡ Write (net.writer_port e)) ⊎ (P.want (c.state (net.writer e)) ≡ Write (net.writer_port e) → ⊥) → (held c e < capacity) ⊎ (capacity ≤ held c e) → IsBlocked P net capacity c e ⊎ (IsBlocked P net capacity c e → ⊥)
+      go : (P.want (c.state (net.writer e)) ≡ Write (net.writer_port e)) ⊎ (P.want (c.state (net.writer e)) ≡ Write (net.writer_port e) → ⊥) →
+          (held c e < capacity) ⊎ (capacity ≤ held c e) → IsBlocked P net capacity c e ⊎ (IsBlocked P net capacity c e → ⊥)
       go (inr other) room = inr (λ h. other h.0)
       go (inl wants) (inl room) = inr (λ h. absurd (omega (arith, h.1)))
       go (inl wants) (inr full) = inl (wants, full)
 
-  module _ (wired : IsWired net) (lawful : AllLawful P net) (sound : IsSound P net c) (rest : AtRest P net (Some capacity) c) (fine : NoneFaulted P net c) (none : (e : ℕ) → e < net.edges → IsBlocked P net capacity c e → ⊥) where
+  module _ (wired : IsWired net) (lawful : AllLawful P net) (sound : IsSound P net c) (rest : AtRest P net (Some capacity) c)
+      (fine : NoneFaulted P net c) (none : (e : ℕ) → e < net.edges → IsBlocked P net capacity c e → ⊥) where
     -- a node whose writers have all ended has ended
     ended_next : (k : ℕ) → k < net.nodes → ((j : ℕ) → j < k → P.want (c.state j) ≡ Ended) → P.want (c.state k) ≡ Ended
     ended_next k inside before = go (P.want (c.state k)) refl
       where
-        no_message : (e p : ℕ) → e < net.edges → net.reader e ≡ k → net.reader_port e ≡ p → P.want (c.state k) ≡ Read p → (rest_of : List Message) → c.received e ++ rest_of ≡ c.sent e → c.received e ≡ c.sent e
+        no_message : (e p : ℕ) → e < net.edges → net.reader e ≡ k → net.reader_port e ≡ p → P.want (c.state k) ≡ Read p → (rest_of : List Message) →
+            c.received e ++ rest_of ≡ c.sent e → c.received e ≡ c.sent e
         no_message e p inside_e at port wants [] same = sym (append-nil (c.received e)) ∙ same
         no_message e p inside_e at port wants (m ∷ more) same =
             absurd (rest (Reads e m) (inside_e, ap (λ x. P.want (c.state x)) at ∙ wants ∙ ap Read (sym port), (more, append_assoc (c.received e) (m ∷ []) more ∙ same)))
@@ -36,7 +39,9 @@ module _ {State Message : Type 0} (P : Process State Message) (net : Network Sta
             let inside_w : net.writer e < net.nodes = omega arith in
             let w : IsReached P net c (net.writer e) = sound.reached (net.writer e) inside_w in
             let r : IsReached P net c k = sound.reached k inside in
-            let out : HasEnd P (writes (net.writer_port e) w.history) = (lawful (net.writer e) inside_w).all_out w.history (c.state (net.writer e)) (net.writer_port e) w.does (before (net.writer e) early) (wired.writer_out e inside_e) in
+            let out : HasEnd P (writes (net.writer_port e) w.history) =
+            (lawful (net.writer e) inside_w).all_out w.history (c.state (net.writer e)) (net.writer_port e) w.does (before (net.writer e) early)
+            (wired.writer_out e inside_e) in
             let same : c.received e ≡ c.sent e = no_message e p inside_e at port wants (sound.flows e inside_e).0 (sound.flows e inside_e).1 in
             let lists : writes (net.writer_port e) w.history ≡ reads p r.history = sym (w.sent e inside_e refl) ∙ sym same ∙ r.received e inside_e at ∙ ap (λ x. reads x r.history) port in
             (lawful k inside).open_in r.history (c.state k) p r.does wants (subst (λ l. HasEnd P l) lists out)
@@ -51,8 +56,12 @@ module _ {State Message : Type 0} (P : Process State Message) (net : Network Sta
             full wants_e (inr full_e) = none e inside_e (wants_e, full_e)
 
         go : (w : Want) → P.want (c.state k) ≡ w → P.want (c.state k) ≡ Ended
-        go (Read p) is = absurd (reader_waits p is (net.in_edge k p) (wired.in_edge k p inside ((lawful k inside).in_port (sound.reached k inside).history (c.state k) p (sound.reached k inside).does is)))
-        go (Write p) is = absurd (writer_waits p is (net.out_edge k p) (wired.out_edge k p inside ((lawful k inside).out_port (sound.reached k inside).history (c.state k) p (sound.reached k inside).does is)))
+        go (Read p) is = absurd
+            (reader_waits p is (net.in_edge k p)
+            (wired.in_edge k p inside ((lawful k inside).in_port (sound.reached k inside).history (c.state k) p (sound.reached k inside).does is)))
+        go (Write p) is = absurd
+            (writer_waits p is (net.out_edge k p)
+            (wired.out_edge k p inside ((lawful k inside).out_port (sound.reached k inside).history (c.state k) p (sound.reached k inside).does is)))
         go Ended is = is
         go (Faulted f) is = absurd (fine k inside f is)
 
@@ -68,6 +77,7 @@ module _ {State Message : Type 0} (P : Process State Message) (net : Network Sta
   pub stalled_or_ended : IsWired net → AllLawful P net → IsSound P net c → AtRest P net (Some capacity) c → NoneFaulted P net c → AllEnded P net c ⊎ ((e : ℕ) × IsLeastBlocked P net capacity c e)
   stalled_or_ended wired lawful sound rest fine = go (search_below (IsBlocked P net capacity c) net.edges decide_blocked)
     where
-      go : ((e : ℕ) × (e < net.edges) × IsBlocked P net capacity c e × ((f : ℕ) → f < e → IsBlocked P net capacity c f → ⊥)) ⊎ ((e : ℕ) → e < net.edges → IsBlocked P net capacity c e → ⊥) → AllEnded P net c ⊎ ((e : ℕ) × IsLeastBlocked P net capacity c e)
+      go : ((e : ℕ) × (e < net.edges) × IsBlocked P net capacity c e × ((f : ℕ) → f < e → IsBlocked P net capacity c f → ⊥)) ⊎
+          ((e : ℕ) → e < net.edges → IsBlocked P net capacity c e → ⊥) → AllEnded P net c ⊎ ((e : ℕ) × IsLeastBlocked P net capacity c e)
       go (inl (e, inside, blocked, least)) = inr (e, (inside, blocked, least))
       go (inr none) = inl (λ k inside. ended_below wired lawful sound rest fine none net.nodes k inside (omega arith))

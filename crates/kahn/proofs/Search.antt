@@ -8,7 +8,8 @@ pub search_below : (P : ℕ → Type 0) (n : ℕ) → ((i : ℕ) → i < n → P
 search_below P zero decide = inr (λ i l p. absurd (omega arith))
 search_below P (suc n) decide = last (search_below P n (λ i l. decide i (omega arith))) (decide n (omega arith))
   where
-    last : ((i : ℕ) × (i < n) × P i × ((j : ℕ) → j < i → P j → ⊥)) ⊎ ((i : ℕ) → i < n → P i → ⊥) → P n ⊎ (P n → ⊥) → ((i : ℕ) × (i < suc n) × P i × ((j : ℕ) → j < i → P j → ⊥)) ⊎ ((i : ℕ) → i < suc n → P i → ⊥)
+    last : ((i : ℕ) × (i < n) × P i × ((j : ℕ) → j < i → P j → ⊥)) ⊎ ((i : ℕ) → i < n → P i → ⊥) → P n ⊎ (P n → ⊥) →
+        ((i : ℕ) × (i < suc n) × P i × ((j : ℕ) → j < i → P j → ⊥)) ⊎ ((i : ℕ) → i < suc n → P i → ⊥)
     last (inl (i, l, p, least)) here = inl (i, omega arith, p, least)
     last (inr none) (inl p) = inl (n, omega arith, p, none)
     last (inr none) (inr not) = inr (λ i l p. either i l p (cases_eq i n))

@@ -34,7 +34,8 @@ module _ {State Message : Type 0} (P : Process State Message) (net : Network Sta
           sent = λ f inside_f writer_f. was.sent f inside_f writer_f ∙ sym (writes_push_read (net.writer_port f) (net.reader_port e) m was.history);
         }
       where
-        in_edge : (f : ℕ) → f < net.edges → net.reader f ≡ k → ((f ≡ e) ⊎ (f ≡ e → ⊥)) → updated c.received e (c.received e ++ m ∷ []) f ≡ reads (net.reader_port f) (was.history ++ Reads (net.reader_port e) m ∷ [])
+        in_edge : (f : ℕ) → f < net.edges → net.reader f ≡ k → ((f ≡ e) ⊎ (f ≡ e → ⊥)) → updated c.received e (c.received e ++ m ∷ []) f
+            ≡ reads (net.reader_port f) (was.history ++ Reads (net.reader_port e) m ∷ [])
         in_edge f inside_f reader_f (inl same) =
             updated_at c.received e f (c.received e ++ m ∷ []) same
             ∙ ap (λ x. c.received x ++ m ∷ []) (sym same)
@@ -52,17 +53,23 @@ module _ {State Message : Type 0} (P : Process State Message) (net : Network Sta
           sent = was.sent;
         }
 
-    reached_writes : (e : ℕ) (m : Message) → Can P net limit c (Writes e m) → (k : ℕ) → IsReached P net c k → ((k ≡ net.writer e) ⊎ (k ≡ net.writer e → ⊥)) → IsReached P net (next P net c (Writes e m)) k
+    reached_writes : (e : ℕ) (m : Message) → Can P net limit c (Writes e m) → (k : ℕ) → IsReached P net c k →
+        ((k ≡ net.writer e) ⊎ (k ≡ net.writer e → ⊥)) → IsReached P net (next P net c (Writes e m)) k
     reached_writes e m (inside, wants, is, room) k was (inl at) =
         record {
           history = was.history ++ Writes (net.writer_port e) m ∷ [];
-          does = does_then P (net.opening k) (c.state k) _ was.history (Writes (net.writer_port e) m ∷ []) was.does
-              (ap (λ x. P.want (c.state x)) at ∙ wants, ap (λ x. P.written (c.state x)) at ∙ is, ap (λ x. P.wrote (c.state x)) at ∙ sym (updated_at c.state (net.writer e) k (P.wrote (c.state (net.writer e))) at));
+          does = does_then P (net.opening k) (c.state k) _ was.history (Writes (net.writer_port e) m ∷ []) was.does (
+            ap (λ x. P.want (c.state x)) at ∙ wants,
+            ap (λ x. P.written (c.state x)) at ∙ is,
+            ap (λ x. P.wrote (c.state x)) at
+                ∙ sym (updated_at c.state (net.writer e) k (P.wrote (c.state (net.writer e))) at),
+          );
           received = λ f inside_f reader_f. was.received f inside_f reader_f ∙ sym (reads_push_write (net.reader_port f) (net.writer_port e) m was.history);
           sent = λ f inside_f writer_f. out_edge f inside_f writer_f (cases_eq f e);
         }
       where
-        out_edge : (f : ℕ) → f < net.edges → net.writer f ≡ k → ((f ≡ e) ⊎ (f ≡ e → ⊥)) → updated c.sent e (c.sent e ++ m ∷ []) f ≡ writes (net.writer_port f) (was.history ++ Writes (net.writer_port e) m ∷ [])
+        out_edge : (f : ℕ) → f < net.edges → net.writer f ≡ k → ((f ≡ e) ⊎ (f ≡ e → ⊥)) → updated c.sent e (c.sent e ++ m ∷ []) f
+            ≡ writes (net.writer_port f) (was.history ++ Writes (net.writer_port e) m ∷ [])
         out_edge f inside_f writer_f (inl same) =
             updated_at c.sent e f (c.sent e ++ m ∷ []) same
             ∙ ap (λ x. c.sent x ++ m ∷ []) (sym same)
@@ -99,7 +106,8 @@ module _ {State Message : Type 0} (P : Process State Message) (net : Network Sta
   sound_run wired limit (a ∷ more) c d sound (can, run) = sound_run wired limit more (next P net c a) d (sound_next wired limit c a sound can) run
 
   -- no edge holds more than the capacity
-  pub fits_next : (capacity : ℕ) (c : Configuration State Message) (a : Event Message) → Can P net (Some capacity) c a → ((e : ℕ) → e < net.edges → held c e ≤ capacity) → (e : ℕ) → e < net.edges → held (next P net c a) e ≤ capacity
+  pub fits_next : (capacity : ℕ) (c : Configuration State Message) (a : Event Message) → Can P net (Some capacity) c a →
+      ((e : ℕ) → e < net.edges → held c e ≤ capacity) → (e : ℕ) → e < net.edges → held (next P net c a) e ≤ capacity
   fits_next capacity c (Reads e m) can fits f inside_f = go (cases_eq f e)
     where
       go : ((f ≡ e) ⊎ (f ≡ e → ⊥)) → length (c.sent f) - length (updated c.received e (c.received e ++ m ∷ []) f) ≤ capacity
@@ -111,6 +119,7 @@ module _ {State Message : Type 0} (P : Process State Message) (net : Network Sta
       go (inl h) = rw (updated_at c.sent e f (c.sent e ++ m ∷ []) h, length_push (c.sent e) m, h) (omega arith)
       go (inr h) = rw (updated_other c.sent e f (c.sent e ++ m ∷ []) h) (fits f inside_f)
 
-  pub fits_run : (capacity : ℕ) (events : List (Event Message)) (c d : Configuration State Message) → Run P net (Some capacity) events c d → ((e : ℕ) → e < net.edges → held c e ≤ capacity) → (e : ℕ) → e < net.edges → held d e ≤ capacity
+  pub fits_run : (capacity : ℕ) (events : List (Event Message)) (c d : Configuration State Message) → Run P net (Some capacity) events c d →
+      ((e : ℕ) → e < net.edges → held c e ≤ capacity) → (e : ℕ) → e < net.edges → held d e ≤ capacity
   fits_run capacity [] c d same fits = λ e inside. omega (arith, fits e inside, ap (λ x. held x e) same)
   fits_run capacity (a ∷ more) c d (can, run) fits = fits_run capacity more (next P net c a) d run (fits_next capacity c a can fits)

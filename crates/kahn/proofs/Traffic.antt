@@ -50,7 +50,11 @@ module _ {State Message : Type 0} (P : Process State Message) (net : Network Sta
     pub moved_most : (r c : Configuration State Message) → IsSound P net r → AtRest P net None r → IsSound P net c → moved net c ≤ moved net r
     moved_most r c sound_r rest_r sound =
         total_less (λ e. length (c.sent e) + length (c.received e)) (λ e. length (r.sent e) + length (r.received e)) net.edges
-        (λ e inside. omega (arith, begins_length (c.sent e) (r.sent e) (sent_begins P net wired lawful r sound_r rest_r c sound e inside), begins_length (c.received e) (r.received e) (received_begins P net wired lawful r sound_r rest_r c sound e inside)))
+        (λ e inside. omega (
+          arith,
+          begins_length (c.sent e) (r.sent e) (sent_begins P net wired lawful r sound_r rest_r c sound e inside),
+          begins_length (c.received e) (r.received e) (received_begins P net wired lawful r sound_r rest_r c sound e inside),
+        ))
 
     -- the traffic of a network whose nodes can all end
     module _ (r : Configuration State Message) (all : IsComplete P net r) where
@@ -73,7 +77,8 @@ module _ {State Message : Type 0} (P : Process State Message) (net : Network Sta
     )
 
     -- where the lists are no longer than the capacity, no run stalls
-    pub complete_ends : (r c : Configuration State Message) (capacity : ℕ) → IsComplete P net r → ((e : ℕ) → e < net.edges → length (r.sent e) ≤ capacity) → IsSound P net c → AtRest P net (Some capacity) c → AllEnded P net c
+    pub complete_ends : (r c : Configuration State Message) (capacity : ℕ) → IsComplete P net r →
+        ((e : ℕ) → e < net.edges → length (r.sent e) ≤ capacity) → IsSound P net c → AtRest P net (Some capacity) c → AllEnded P net c
     complete_ends r c capacity all short sound rest = go (stalled_or_ended P net capacity c wired lawful sound rest (complete_fine r all c sound))
       where
         go : AllEnded P net c ⊎ ((e : ℕ) × IsLeastBlocked P net capacity c e) → AllEnded P net c

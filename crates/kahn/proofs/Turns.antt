@@ -1,5 +1,6 @@
 -- What the code shows of one turn of a node.
-use Rattle.std.proofs.Common.{◌≡◌, ℕ, zero, suc, ◌+◌, ◌-◌, ◌<◌, ◌≤◌, Option, Bool, true, false, List, [], ◌∷◌, ◌++◌, length, get_or, set, ◌⊎◌, refl, sym, ◌∙◌, ap, subst, inl, inr, arith, length-append, get_or-set_other, get_or-set_same}
+use Rattle.std.proofs.Common.{◌≡◌, ℕ, zero, suc, ◌+◌, ◌-◌, ◌<◌, ◌≤◌, Option, Bool, true, false, List, [], ◌∷◌, ◌++◌, length, get_or, set, ◌⊎◌, refl}
+use Rattle.std.proofs.Common.{sym, ◌∙◌, ap, subst, inl, inr, arith, length-append, get_or-set_other, get_or-set_same}
 use Rattle.std.proofs.lemmas.Bool.{cases_eq}
 use Rattle.std.proofs.lemmas.List.{length_push}
 use Rattle.kahn.specs.declared.want.Want.TheVariants.{Read, Write}
@@ -31,7 +32,15 @@ module _ {State Message : Type 0} (P : Process State Message) (net : Network Sta
       let s : P.want (c.state (net.reader f)) ≡ P.want (c.state k) = ap (λ x. P.want (c.state x)) does in
       let port : net.reader_port f ≡ net.reader_port e = cc in
       let same : f ≡ e = wired.one_in f e inside_f inside (does ∙ sym at) port in
-      absurd (omega (arith, ap (λ x. length (c.received x)) same, ap (λ x. length (c.sent x)) same, ap length none, ap length some.1, length-append (c.received f ++ m ∷ []) some.0, length_push (c.received f) m))
+      absurd (omega (
+        arith,
+        ap (λ x. length (c.received x)) same,
+        ap (λ x. length (c.sent x)) same,
+        ap length none,
+        ap length some.1,
+        length-append (c.received f ++ m ∷ []) some.0,
+        length_push (c.received f) m,
+      ))
   nothing_held at wants none (Writes f m) does (inside_f, wants_f, is, room) =
       absurd (let a : Write (net.writer_port f) ≡ Read (net.reader_port e) = sym wants_f ∙ ap (λ x. P.want (c.state x)) does ∙ wants in cc)
 
@@ -45,7 +54,9 @@ module _ {State Message : Type 0} (P : Process State Message) (net : Network Sta
       let same : f ≡ e = wired.one_out f e inside_f inside (does ∙ sym at) port in
       full (subst (λ x. HasRoom limit (held c x)) same room)
 
-  pub did_read : (m : Message) (d : Configuration State Message) → net.reader e ≡ k → P.want (c.state k) ≡ Read (net.reader_port e) → Begins (c.received e ++ m ∷ []) (c.sent e) → d.state ≡ updated c.state k (P.read (c.state k) m) → d.sent ≡ c.sent → d.received ≡ updated c.received e (c.received e ++ m ∷ []) → Turn P net limit k c d true
+  pub did_read : (m : Message) (d : Configuration State Message) → net.reader e ≡ k → P.want (c.state k) ≡ Read (net.reader_port e) →
+      Begins (c.received e ++ m ∷ []) (c.sent e) → d.state ≡ updated c.state k (P.read (c.state k) m) → d.sent ≡ c.sent → d.received
+      ≡ updated c.received e (c.received e ++ m ∷ []) → Turn P net limit k c d true
   did_read m d at wants some state sent received = (
     Reads e m,
     at,
@@ -57,7 +68,9 @@ module _ {State Message : Type 0} (P : Process State Message) (net : Network Sta
     },
   )
 
-  pub did_write : (m : Message) (d : Configuration State Message) → net.writer e ≡ k → P.want (c.state k) ≡ Write (net.writer_port e) → P.written (c.state k) ≡ m → HasRoom limit (held c e) → d.state ≡ updated c.state k (P.wrote (c.state k)) → d.sent ≡ updated c.sent e (c.sent e ++ m ∷ []) → d.received ≡ c.received → Turn P net limit k c d true
+  pub did_write : (m : Message) (d : Configuration State Message) → net.writer e ≡ k → P.want (c.state k) ≡ Write (net.writer_port e) →
+      P.written (c.state k) ≡ m → HasRoom limit (held c e) → d.state ≡ updated c.state k (P.wrote (c.state k)) → d.sent
+      ≡ updated c.sent e (c.sent e ++ m ∷ []) → d.received ≡ c.received → Turn P net limit k c d true
   did_write m d at wants is room state sent received = (
     Writes e m,
     at,
@@ -99,10 +112,15 @@ module _ {State Message : Type 0} (P : Process State Message) (net : Network Sta
 
   pub swept_rest : IsWired net → (k : ℕ) (c d : Configuration State Message) → net.nodes ≤ k → IsSwept P net limit k c d false → AtRest P net limit d
   swept_rest wired k c d all s (Reads e m) can = (s.calm refl).1 (Reads e m) (let a : net.reader e < net.nodes = wired.inside e can.0 in omega arith) can
-  swept_rest wired k c d all s (Writes e m) can = (s.calm refl).1 (Writes e m) (let a : net.writer e < net.reader e = wired.forward e can.0 in let b : net.reader e < net.nodes = wired.inside e can.0 in omega arith) can
+  swept_rest wired k c d all s (Writes e m) can =
+      (s.calm refl).1 (Writes e m)
+      (let a : net.writer e < net.reader e = wired.forward e can.0 in let b : net.reader e < net.nodes = wired.inside e can.0 in omega arith) can
 
   -- what is left of the whole traffic falls in a pass that made a step
-  pub swept_falls : (wired : IsWired net) (settles : Settles P) (k : ℕ) (c d : Configuration State Message) → Reaches P net limit (start net) c → IsSwept P net limit k c d true → most_events P net wired settles (start net) (λ e inside. ([], refl)) - moved net d < most_events P net wired settles (start net) (λ e inside. ([], refl)) - moved net c
+  pub swept_falls : (wired : IsWired net) (settles : Settles P) (k : ℕ) (c d : Configuration State Message) → Reaches P net limit (start net) c →
+      IsSwept P net limit k c d true →
+      most_events P net wired settles (start net) (λ e inside. ([], refl)) - moved net d < most_events P net wired settles (start net)
+      (λ e inside. ([], refl)) - moved net c
   swept_falls wired settles k c d from s =
       let all : Reaches P net limit (start net) d = reaches_then (start net) c d from s.reaches in
       omega (arith, s.busy refl, moved_run P net limit all.0 (start net) d all.1, moved_start net.edges, run_most P net wired settles limit all.0 (start net) d (λ e inside. ([], refl)) all.1)

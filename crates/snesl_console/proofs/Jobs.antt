@@ -1,5 +1,6 @@
 -- Where a job is split.
-use Rattle.std.proofs.Common.{◌≡◌, ◌≢◌, ℕ, ◌+◌, ◌-◌, ◌<◌, ◌≤◌, ◌⊎◌, suc, Bool, true, false, ◌==◌, List, [], ◌∷◌, ◌++◌, Some, None, length, take, drop, get_or, nat_lt, codes, refl, sym, ap, ◌∙◌, subst, arith, inl, inr, ⊎_elim, cond}
+use Rattle.std.proofs.Common.{◌≡◌, ◌≢◌, ℕ, ◌+◌, ◌-◌, ◌<◌, ◌≤◌, ◌⊎◌, suc, Bool, true, false, ◌==◌, List, [], ◌∷◌, ◌++◌, Some, None, length, take, drop}
+use Rattle.std.proofs.Common.{get_or, nat_lt, codes, refl, sym, ap, ◌∙◌, subst, arith, inl, inr, ⊎_elim, cond}
 use Rattle.std.specs.List.{position, position_or_len}
 use Rattle.std.proofs.lemmas.List.{get_or-drop, get_or_past, length-drop, take-append-drop, length-take-le}
 use Rattle.std.proofs.lemmas.List.Quantifiers.{position-Some}

@@ -1,5 +1,6 @@
 -- What is found in parts is found in the whole.
-use Rattle.std.proofs.Common.{◌≡◌, ℕ, Bool, true, false, suc, ◌+◌, ◌<◌, ◌≤◌, ◌⊎◌, inl, inr, List, [], ◌∷◌, map, drop, length, get_or, drop-cons, drop_of_length-le, Option, Some, None, refl, sym, ap, subst, ◌∙◌, add-one}
+use Rattle.std.proofs.Common.{◌≡◌, ℕ, Bool, true, false, suc, ◌+◌, ◌<◌, ◌≤◌, ◌⊎◌, inl, inr, List, [], ◌∷◌, map, drop, length, get_or, drop-cons}
+use Rattle.std.proofs.Common.{drop_of_length-le, Option, Some, None, refl, sym, ap, subst, ◌∙◌, add-one}
 use Rattle.std.specs.Option.{is_some, option_or, option_map}
 use Rattle.snesl_tree.specs.declared.declaration.Declaration.{Declaration}
 use Rattle.snesl_tree.specs.declared.expr.Binder.{Binder}
@@ -10,7 +11,9 @@ use Rattle.snesl_tree.specs.View.{tree_of, trees_of, binders_of, declaration_of}
 use Rattle.snesl_types.specs.Clashes.{Clash}
 use Rattle.snesl_culprits.specs.Offsets.{first_offset}
 use Rattle.snesl_culprits.proofs.Others.{unrolled}
-use Rattle.snesl_culprits.specs.Culprits.{BeginsOne, IsCulprit, IsAmong, IsBound, IsDeclared, IsInside, IsOwnCulprit, of_itself, of_part, of_binder, of_first, of_later, of_name, of_source, of_other, of_one, of_later_one, form_parts, condition_parts, IsOfFunction, IsOfDeclaration}
+use Rattle.snesl_culprits.specs.Culprits.{BeginsOne, IsCulprit, IsAmong, IsBound, IsDeclared, IsInside, IsOwnCulprit, of_itself, of_part, of_binder}
+use Rattle.snesl_culprits.specs.Culprits.{of_first, of_later, of_name, of_source, of_other, of_one, of_later_one, form_parts, condition_parts}
+use Rattle.snesl_culprits.specs.Culprits.{IsOfFunction, IsOfDeclaration}
 
 neither : {A B : Type 0} → ¬ A → ¬ B → ¬ (A ⊎ B)
 neither a b (inl x) = a x

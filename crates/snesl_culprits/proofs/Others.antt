@@ -1,5 +1,6 @@
 -- The first part of another type, past those that fit.
-use Rattle.std.proofs.Common.{◌≡◌, ℕ, zero, suc, ◌+◌, ◌≤◌, ◌<◌, min, true, false, cond, List, [], ◌∷◌, map, drop, length, get_or, length-drop, drop-cons, Option, Some, None, refl, sym, ap, subst, ◌∙◌, add-one, arith}
+use Rattle.std.proofs.Common.{◌≡◌, ℕ, zero, suc, ◌+◌, ◌≤◌, ◌<◌, min, true, false, cond, List, [], ◌∷◌, map, drop, length, get_or, length-drop}
+use Rattle.std.proofs.Common.{drop-cons, Option, Some, None, refl, sym, ap, subst, ◌∙◌, add-one, arith}
 use Rattle.snesl_data.specs.declared.ty.Ty.{Ty as TyTree}
 use Rattle.snesl_data.specs.Types.{ty_of, is_same}
 use Rattle.snesl_tree.specs.declared.expr.Expr.{Expr}

@@ -4,7 +4,9 @@ use Rattle.std.specs.List.{list_any, prefix_len}
 use Rattle.std.specs.Option.{option_or}
 use Rattle.snesl_data.specs.Characters.{is_word}
 use Rattle.snesl_tree.specs.declared.span.Span.{Span}
-use Rattle.snesl_tree.specs.Tree.{Tree, Trees, Binders, Condition, integer, truth, name, binary, prefix, call, apply, group, pair, binding, choice, literal, filter, each, none, both, none_bound, binder, always, only_where, offset, DeclarationTree, declares_input, declares_function}
+use Rattle.snesl_tree.specs.Tree.{Tree, Trees, Binders, Condition, integer, truth, name, binary, prefix, call, apply, group, pair, binding, choice}
+use Rattle.snesl_tree.specs.Tree.{literal, filter, each, none, both, none_bound, binder, always, only_where, offset, DeclarationTree, declares_input}
+use Rattle.snesl_tree.specs.Tree.{declares_function}
 use Rattle.snesl_tree.specs.View.{tree_of, declaration_of}
 use Rattle.snesl_grammar.specs.declared.program.Program.{Program}
 use Rattle.snesl_culprits.specs.Offsets.{first_offset}

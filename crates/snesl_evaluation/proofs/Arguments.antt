@@ -54,7 +54,8 @@ module _ (context : ProgramContext) (scope : Scope) where
 
   columns_next : (done : BoundItems) (binders : List Binder) (i : ℕ) (binder : Binder) (v : Value) (vs : List Value) → i < length binders → binder ≡ get_or binders i binder
       → eval_in context scope (tree_of binder.source) ≡ gives v → items_at binder.name.at v ≡ gives vs
-      → behind done (binders_in context scope (binders_of (drop i binders))) ≡ behind (done ++ (spelling context.text.now binder.name, vs) ∷ []) (binders_in context scope (binders_of (drop (suc i) binders)))
+      → behind done (binders_in context scope (binders_of (drop i binders)))
+      ≡ behind (done ++ (spelling context.text.now binder.name, vs) ∷ []) (binders_in context scope (binders_of (drop (suc i) binders)))
   columns_next done [] i binder v vs l is e f = absurd (omega arith)
   columns_next done (x ∷ binders) zero binder v vs l is e f =
       ap (λ y. behind done (with_binders y binders (eval_in context scope (tree_of y.source)))) (sym is)
@@ -65,7 +66,8 @@ module _ (context : ProgramContext) (scope : Scope) where
 
   pub columns_given : (done : BoundItems) (binders : List Binder) (i : ℕ) (binder : Binder) (v : Value) (vs : List Value) → i < length binders → binder ≡ get_or binders i binder
       → eval_in context scope (tree_of binder.source) ≡ gives v → items_at binder.name.at v ≡ gives vs
-      → behind done (binders_in context scope (binders_of (drop i binders))) ≡ behind (done ++ (spelling context.text.now binder.name, vs) ∷ []) (binders_in context scope (binders_of (drop (i + 1) binders)))
+      → behind done (binders_in context scope (binders_of (drop i binders)))
+      ≡ behind (done ++ (spelling context.text.now binder.name, vs) ∷ []) (binders_in context scope (binders_of (drop (i + 1) binders)))
   columns_given done binders i binder v vs l is e f =
       let same : suc i ≡ i + 1 = omega arith in
       columns_next done binders i binder v vs l is e f
@@ -80,7 +82,10 @@ module _ (context : ProgramContext) (scope : Scope) where
       ∙ in_two (eval_in context scope (tree_of binder.source)) e
     where
       in_two : (answer : Answer Value) → go answer (items_at binder.name.at) ≡ faults kind at → behind done (with_binders binder binders answer) ≡ faults kind at
-      in_two (gives v) e' = ap (λ given. behind done (go given (λ ws. go (binders_in context scope (binders_of binders)) (λ columns. gives ((spelling context.text.now binder.name, ws) ∷ columns))))) e'
+      in_two (gives v) e' =
+          ap (λ given. behind done
+          (go given (λ ws. go (binders_in context scope (binders_of binders))
+          (λ columns. gives ((spelling context.text.now binder.name, ws) ∷ columns))))) e'
       in_two (faults k place) e' = cc
   columns_faults done (x ∷ binders) (suc i) binder kind at l is e = columns_faults done binders i binder kind at (omega arith) is e
 

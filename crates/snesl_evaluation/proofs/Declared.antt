@@ -37,7 +37,8 @@ calls_pass dialect text name all earlier (FunctionDeclaration function) e other 
     ap (λ calls. calls at name values) (calls_of-last dialect text all earlier (FunctionDeclaration function) e)
     ∙ ap (λ b. if b then entered dialect text at function earlier values else calls_of dialect text (map declaration_of earlier) at name values) other
 
-pub calls_reach : (dialect : Dialect) (text name : List ℕ) (all earlier : List Declaration) (function : Function) → all ≡ earlier ++ FunctionDeclaration function ∷ [] → bytes_eq name (spelling text function.name) ≡ true
+pub calls_reach : (dialect : Dialect) (text name : List ℕ) (all earlier : List Declaration) (function : Function) → all ≡ earlier
+    ++ FunctionDeclaration function ∷ [] → bytes_eq name (spelling text function.name) ≡ true
     → (at : ℕ) (values : List Value) → calls_of dialect text (map declaration_of all) at name values ≡ entered dialect text at function earlier values
 calls_reach dialect text name all earlier function e here at values =
     ap (λ calls. calls at name values) (calls_of-last dialect text all earlier (FunctionDeclaration function) e)

@@ -35,7 +35,8 @@ join_each at f g h (row ∷ rows) =
         ap (λ answer. go answer (λ zs. gives (ys ++ zs))) e
         ∙ sym (ap (λ answer. go answer (λ xs. go (go_join (items_at at) vs) (λ zs. gives (xs ++ zs)))) (seq_items at ys))
 
-concat_each : (dialect : Dialect) (at : ℕ) (answer : Answer (List Value)) → seq_answer (go answer (go_join (items_at at))) ≡ go (go (seq_answer answer) (λ v. gives (v ∷ []))) (applied dialect at Concat)
+concat_each : (dialect : Dialect) (at : ℕ) (answer : Answer (List Value)) → seq_answer (go answer (go_join (items_at at)))
+    ≡ go (go (seq_answer answer) (λ v. gives (v ∷ []))) (applied dialect at Concat)
 concat_each dialect at (faults kind place) = refl
 concat_each dialect at (gives vs) = sym (ap (λ answer. go answer (λ ws. seq_answer (go_join (items_at at) ws))) (seq_items at vs))
 
@@ -51,7 +52,8 @@ condition_meaning at item condition binders dialect text calls environment = by_
     same : (row : Environment) → g row ≡ seq_answer (f row)
     same row = filter_seen (eval dialect condition text calls (row ++ environment)) (truth_at at) (λ b. kept b (eval dialect item text calls (row ++ environment)))
 
-    by_rows : (rows : Answer (List Environment)) → go rows (λ rows. seq_answer (go_join f rows)) ≡ go (go (go rows (λ rows. seq_answer (go_all g rows))) (λ v. gives (v ∷ []))) (applied dialect at Concat)
+    by_rows : (rows : Answer (List Environment)) → go rows (λ rows. seq_answer (go_join f rows))
+        ≡ go (go (go rows (λ rows. seq_answer (go_all g rows))) (λ v. gives (v ∷ []))) (applied dialect at Concat)
     by_rows (faults kind place) = refl
     by_rows (gives rows) = ap seq_answer (join_each at f g same rows) ∙ concat_each dialect at (go_all g rows)
 
@@ -115,10 +117,13 @@ pub choice_meaning : ChoiceMeaning
 choice_meaning at t condition positive negative apart other dialect text calls environment = by_value (eval dialect condition text calls environment)
   where
     by_value : (answer : Answer Value) → go answer (λ v. go (truth_at at v) (λ b. if b then eval dialect positive text calls environment else eval dialect negative text calls environment))
-        ≡ go answer (λ v. through dialect at (value_named t.at (spelling text t) ((spelling text t, v) ∷ environment)) (eval dialect positive text calls ((spelling text t, v) ∷ environment)) (eval dialect negative text calls ((spelling text t, v) ∷ environment)))
+        ≡ go answer (λ v. through dialect at (value_named t.at (spelling text t) ((spelling text t, v) ∷ environment))
+        (eval dialect positive text calls ((spelling text t, v) ∷ environment))
+        (eval dialect negative text calls ((spelling text t, v) ∷ environment)))
     by_value (faults kind place) = refl
     by_value (gives v) =
         chosen dialect at v (eval dialect positive text calls environment) (eval dialect negative text calls environment)
         ∙ ap (λ x. through dialect at (gives v) x (eval dialect negative text calls environment)) (sym (apart dialect text calls environment v))
         ∙ ap (λ x. through dialect at (gives v) (eval dialect positive text calls ((spelling text t, v) ∷ environment)) x) (sym (other dialect text calls environment v))
-        ∙ ap (λ x. through dialect at x (eval dialect positive text calls ((spelling text t, v) ∷ environment)) (eval dialect negative text calls ((spelling text t, v) ∷ environment))) (sym (named_here t.at (spelling text t) v environment))
+        ∙ ap (λ x. through dialect at x (eval dialect positive text calls ((spelling text t, v) ∷ environment))
+        (eval dialect negative text calls ((spelling text t, v) ∷ environment))) (sym (named_here t.at (spelling text t) v environment))

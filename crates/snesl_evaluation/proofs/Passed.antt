@@ -44,7 +44,8 @@ parameters_differ at text (p ∷ ps) (v ∷ vs) e =
     ap (λ answer. go answer (λ (environment : Environment). gives ((spelling text p.name, value_of v) ∷ environment))) (parameters_differ at text ps vs (λ same. e (omega arith)))
 
 -- the sequence of an item where its condition holds
-pub filter_seen : {A B : Type 0} (first : Answer A) (test : A → Answer B) (item : B → Answer (List Value)) → go first (λ v. go (test v) (λ b. seq_answer (item b))) ≡ seq_answer (go first (λ v. go (test v) item))
+pub filter_seen : {A B : Type 0} (first : Answer A) (test : A → Answer B) (item : B → Answer (List Value)) →
+    go first (λ v. go (test v) (λ b. seq_answer (item b))) ≡ seq_answer (go first (λ v. go (test v) item))
 filter_seen (faults kind at) test item = refl
 filter_seen {B = B} (gives v) test item = by_test (test v)
   where

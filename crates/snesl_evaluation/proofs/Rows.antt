@@ -1,5 +1,6 @@
 -- Rows, their names, and their number.
-use Rattle.std.proofs.Common.{◌≡◌, ℕ, List, [], ◌∷◌, ◌++◌, Bool, true, false, length, map, Option, Some, None, slice_get, if◌then◌else◌, ◌==◌, ◌&&◌, ◌<◌, zero, suc, drop, replicate, option_map, refl, sym, ap, ◌∙◌, arith}
+use Rattle.std.proofs.Common.{◌≡◌, ℕ, List, [], ◌∷◌, ◌++◌, Bool, true, false, length, map, Option, Some, None, slice_get, if◌then◌else◌, ◌==◌, ◌&&◌}
+use Rattle.std.proofs.Common.{◌<◌, zero, suc, drop, replicate, option_map, refl, sym, ap, ◌∙◌, arith}
 use Rattle.std.specs.List.{cons_option, list_all}
 use Rattle.std.proofs.lemmas.Bool.{eqb-true}
 use Rattle.std.specs.Str.{bytes_eq}

@@ -37,7 +37,8 @@ row_given f n columns i done v level l e =
     ∙ ap (λ answer. after done (go answer (λ w. go rest (λ ws. gives (w ∷ ws))))) e
     ∙ one_more done v rest
 
-pub row_faults : (f : Environment → Answer Value) (n : ℕ) (columns : BoundItems) (i : ℕ) (done : List Value) (kind : FaultKind) (at : ℕ) → is_level n columns ≡ true → i < n → f (names_at i columns) ≡ faults kind at
+pub row_faults : (f : Environment → Answer Value) (n : ℕ) (columns : BoundItems) (i : ℕ) (done : List Value) (kind : FaultKind) (at : ℕ) →
+    is_level n columns ≡ true → i < n → f (names_at i columns) ≡ faults kind at
     → after done (go_all f (drop i (rows_of n columns))) ≡ faults kind at
 row_faults f n columns i done kind at level l e =
     let rest = go_all f (drop (i + 1) (rows_of n columns)) in
@@ -55,7 +56,8 @@ kept_given f n columns i done vs level l e =
     ∙ ap (λ answer. after done (go answer (λ w. go rest (λ ws. gives (w ++ ws))))) e
     ∙ some_more done vs rest
 
-pub kept_faults : (f : Environment → Answer (List Value)) (n : ℕ) (columns : BoundItems) (i : ℕ) (done : List Value) (kind : FaultKind) (at : ℕ) → is_level n columns ≡ true → i < n → f (names_at i columns) ≡ faults kind at
+pub kept_faults : (f : Environment → Answer (List Value)) (n : ℕ) (columns : BoundItems) (i : ℕ) (done : List Value) (kind : FaultKind) (at : ℕ) →
+    is_level n columns ≡ true → i < n → f (names_at i columns) ≡ faults kind at
     → after done (go_join f (drop i (rows_of n columns))) ≡ faults kind at
 kept_faults f n columns i done kind at level l e =
     let rest = go_join f (drop (i + 1) (rows_of n columns)) in

@@ -18,7 +18,8 @@ MeanTheSame one other = (dialect : Dialect) (text : List ℕ) (calls : Calls) (e
 
 -- an expression whose answer no value of this name changes
 abbrev pub IsUnused : Span → Tree → Type 0
-IsUnused place tree = (dialect : Dialect) (text : List ℕ) (calls : Calls) (environment : Environment) (v : Value) → eval dialect tree text calls ((spelling text place, v) ∷ environment) ≡ eval dialect tree text calls environment
+IsUnused place tree = (dialect : Dialect) (text : List ℕ) (calls : Calls) (environment : Environment) (v : Value) →
+    eval dialect tree text calls ((spelling text place, v) ∷ environment) ≡ eval dialect tree text calls environment
 
 -- `{e : .. | b}` means `concat({ {e | b} : .. })`
 abbrev pub ConditionMeaning : Type 0
@@ -37,4 +38,6 @@ LiteralMeaning = (at : ℕ) (items : Trees) (last : Tree)
 -- `if b then e else f` means `let t = b in the({e | t} ++ {f | not t})`, where e and f do not use t
 abbrev pub ChoiceMeaning : Type 0
 ChoiceMeaning = (at : ℕ) (t : Span) (condition positive negative : Tree) → IsUnused t positive → IsUnused t negative
-    → MeanTheSame (choice at condition positive negative) (binding at t condition (call at The (both (binary at Append (filter at positive (name t)) (filter at negative (prefix at Not (name t)))) none)))
+    → MeanTheSame (choice at condition positive negative)
+    (binding at t condition
+    (call at The (both (binary at Append (filter at positive (name t)) (filter at negative (prefix at Not (name t)))) none)))

@@ -6,7 +6,13 @@ use Rattle.snesl_lexer.specs.declared.token.Token.{Token}
 use Rattle.snesl_tree.specs.declared.span.Span.{Span}
 use Rattle.snesl_tree.specs.Tree.{Tree, Trees, Binders, name, none, both, none_bound, binder, depth, depth_of_all, depth_of_binders}
 use Rattle.snesl_grammar.specs.Operators.{sign}
-use Rattle.snesl_grammar.specs.Expressions.{token, name_token, added, bound_also, Whole, name_rule, binary_rule, prefix_rule, call_rule, apply_rule, group_rule, pair_rule, let_rule, if_rule, literal_rule, filter_rule, each_rule, each_where_rule, WholeArguments, one_rule, more_rule, WholeBinders, one_binder, more_binders, Front, nothing, whole, binary_left, binary_right, prefix_operand, call_word, call_arguments, apply_arguments, group_inner, pair_second, let_word, let_name, let_value, let_body, if_condition, if_positive, if_negative, brace_items, filter_condition, each_binders, each_condition, FrontArguments, first_front, next_front, FrontBinders, first_binder, next_binder, FrontBinder, no_binder, binder_name, binder_source}
+use Rattle.snesl_grammar.specs.Expressions.{token, name_token, added, bound_also, Whole, name_rule, binary_rule, prefix_rule, call_rule, apply_rule}
+use Rattle.snesl_grammar.specs.Expressions.{group_rule, pair_rule, let_rule, if_rule, literal_rule, filter_rule, each_rule, each_where_rule}
+use Rattle.snesl_grammar.specs.Expressions.{WholeArguments, one_rule, more_rule, WholeBinders, one_binder, more_binders, Front, nothing, whole}
+use Rattle.snesl_grammar.specs.Expressions.{binary_left, binary_right, prefix_operand, call_word, call_arguments, apply_arguments, group_inner}
+use Rattle.snesl_grammar.specs.Expressions.{pair_second, let_word, let_name, let_value, let_body, if_condition, if_positive, if_negative, brace_items}
+use Rattle.snesl_grammar.specs.Expressions.{filter_condition, each_binders, each_condition, FrontArguments, first_front, next_front, FrontBinders}
+use Rattle.snesl_grammar.specs.Expressions.{first_binder, next_binder, FrontBinder, no_binder, binder_name, binder_source}
 use Rattle.snesl_expressions.proofs.Depths.{depth_pos, depth_added, depth_bound_also}
 
 -- a name, to complete forms with

@@ -6,11 +6,19 @@ use Rattle.snesl_lexer.specs.declared.token.TokenKind.TheVariants.{In, Let, If, 
 use Rattle.snesl_lexer.specs.declared.token.Token.{Token}
 use Rattle.snesl_tree.specs.Tree.{Tree, binary, prefix, call, apply, group, pair, binding, choice, literal, filter, each, none, both, none_bound, always, only_where, depth}
 use Rattle.snesl_grammar.specs.Operators.{level, prefix_level, sign, prefix_sign}
-use Rattle.snesl_grammar.specs.Expressions.{token, name_token, added, bound_also, binder_count, greatest_binder_count, Whole, binary_rule, prefix_rule, call_rule, apply_rule, group_rule, pair_rule, let_rule, if_rule, literal_rule, filter_rule, each_rule, each_where_rule}
-use Rattle.snesl_expressions.specs.Machine.{Frame, in_binary, in_prefix, in_call, in_apply, in_second, in_let_body, in_positive, in_negative, in_braces, in_filter, in_each_condition, State, operand, after, binder_name, Folded, reduce, floor, comma_move, paren_move, brace_move, colon_move, bar_move, semicolon_move, in_move, then_move, else_move, closing_move}
+use Rattle.snesl_grammar.specs.Expressions.{token, name_token, added, bound_also, binder_count, greatest_binder_count, Whole, binary_rule}
+use Rattle.snesl_grammar.specs.Expressions.{prefix_rule, call_rule, apply_rule, group_rule, pair_rule, let_rule, if_rule, literal_rule, filter_rule}
+use Rattle.snesl_grammar.specs.Expressions.{each_rule, each_where_rule}
+use Rattle.snesl_expressions.specs.Machine.{Frame, in_binary, in_prefix, in_call, in_apply, in_second, in_let_body, in_positive, in_negative}
+use Rattle.snesl_expressions.specs.Machine.{in_braces, in_filter, in_each_condition, State, operand, after, binder_name, Folded, reduce, floor}
+use Rattle.snesl_expressions.specs.Machine.{comma_move, paren_move, brace_move, colon_move, bar_move, semicolon_move, in_move, then_move, else_move}
+use Rattle.snesl_expressions.specs.Machine.{closing_move}
 use Rattle.snesl_expressions.specs.Readers.{TokenMove, at_any_depth}
 use Rattle.snesl_expressions.proofs.Depths.{depth_pos, depth_added, depth_bound_also, count_bound_also}
-use Rattle.snesl_expressions.proofs.Spelled.{some_given, no_bound, some_bound, Spells, spells_empty, spells_binary, spells_prefix, spells_call, spells_apply, spells_group, spells_second, spells_value, spells_let_body, spells_condition, spells_positive, spells_negative, spells_braces, spells_filter, spells_source, spells_each_condition, Stands, stands_operand, stands_after, stands_binder_name, given_whole, given_nothing, bound_whole}
+use Rattle.snesl_expressions.proofs.Spelled.{some_given, no_bound, some_bound, Spells, spells_empty, spells_binary, spells_prefix, spells_call}
+use Rattle.snesl_expressions.proofs.Spelled.{spells_apply, spells_group, spells_second, spells_value, spells_let_body, spells_condition}
+use Rattle.snesl_expressions.proofs.Spelled.{spells_positive, spells_negative, spells_braces, spells_filter, spells_source, spells_each_condition}
+use Rattle.snesl_expressions.proofs.Spelled.{Stands, stands_operand, stands_after, stands_binder_name, given_whole, given_nothing, bound_whole}
 
 -- a move keeps what stands, where the depth allows it
 abbrev pub Good : ℕ → List Token → Token → Option (TokenMove State) → Type 0

@@ -1,5 +1,6 @@
 -- What a token after an operand does, with the open forms in a vector.
-use Rattle.std.proofs.Common.{◌≡◌, ℕ, zero, suc, ◌+◌, ◌≤◌, ◌<◌, Bool, true, false, List, [], ◌∷◌, ◌++◌, length, cond, Some, None, Ok, Err, All, IsTrue, ◌↔◌, refl, sym, ap, ◌∙◌, arith, le-leb, inl, inr, eqb}
+use Rattle.std.proofs.Common.{◌≡◌, ℕ, zero, suc, ◌+◌, ◌≤◌, ◌<◌, Bool, true, false, List, [], ◌∷◌, ◌++◌, length, cond, Some, None, Ok, Err, All}
+use Rattle.std.proofs.Common.{IsTrue, ◌↔◌, refl, sym, ap, ◌∙◌, arith, le-leb, inl, inr, eqb}
 use Rattle.std.specs.Option.{is_some}
 use Rattle.std.proofs.lemmas.Bool.{lt-leb, lt-ltb, le-ltb, cases_Bool, eqb-false}
 use Rattle.std.proofs.lemmas.List.Elements.{All-nil, All-cons}
@@ -18,7 +19,8 @@ use Rattle.snesl_grammar.specs.Limits.{greatest_depth}
 use Rattle.snesl_grammar.specs.Operators.{level}
 use Rattle.snesl_grammar.specs.Expressions.{bound_also, greatest_binder_count}
 use Rattle.snesl_expressions.specs.Readers.{within, at_any_depth, beyond_depth}
-use Rattle.snesl_expressions.specs.Machine.{Frame, in_binary, in_braces, in_source, operand, binder_name, Folded, binds_at, closed_with, reduce, floor, alone, infix_move, colon_move, bar_move, semicolon_move}
+use Rattle.snesl_expressions.specs.Machine.{Frame, in_binary, in_braces, in_source, operand, binder_name, Folded, binds_at, closed_with, reduce}
+use Rattle.snesl_expressions.specs.Machine.{floor, alone, infix_move, colon_move, bar_move, semicolon_move}
 use Rattle.snesl_expressions.specs.Parsing.{frame_of, piled, frames_of}
 use Rattle.snesl_expressions.proofs.Rows.{binder_count-binders_of}
 use Rattle.snesl_expressions.proofs.Piles.{frames_of-push, length-frames_of, reduce_closes, reduce_keeps}

@@ -2,7 +2,8 @@
 use Rattle.std.proofs.Common.{◌≡◌, suc, max, ◌≤◌, List, ap, arith}
 use Rattle.snesl_lexer.specs.declared.token.Token.{Token}
 use Rattle.snesl_tree.specs.declared.span.Span.{Span}
-use Rattle.snesl_tree.specs.Tree.{Tree, Trees, Binders, integer, truth, name, binary, prefix, call, apply, group, pair, binding, choice, literal, filter, each, none, both, none_bound, binder, depth, depth_of_all, depth_of_binders}
+use Rattle.snesl_tree.specs.Tree.{Tree, Trees, Binders, integer, truth, name, binary, prefix, call, apply, group, pair, binding, choice, literal}
+use Rattle.snesl_tree.specs.Tree.{filter, each, none, both, none_bound, binder, depth, depth_of_all, depth_of_binders}
 use Rattle.snesl_grammar.specs.Expressions.{added, bound_also, binder_count, WholeArguments, one_rule, more_rule}
 
 pub depth_pos : (tree : Tree) → 1 ≤ depth tree

@@ -7,7 +7,9 @@ use Rattle.snesl_tree.specs.Tree.{Tree}
 use Rattle.snesl_expressions.specs.declared.forms.Form.{Form}
 use Rattle.snesl_grammar.specs.Limits.{greatest_depth}
 use Rattle.snesl_expressions.specs.Readers.{within, beyond_depth}
-use Rattle.snesl_expressions.specs.Machine.{Frame, in_binary, in_prefix, in_call, in_apply, in_group, in_second, in_value, in_let_body, in_condition, in_positive, in_negative, in_braces, in_filter, in_source, in_each_condition, State, binds_at, closed_with, reduce, open_move, floor}
+use Rattle.snesl_expressions.specs.Machine.{Frame, in_binary, in_prefix, in_call, in_apply, in_group, in_second, in_value, in_let_body, in_condition}
+use Rattle.snesl_expressions.specs.Machine.{in_positive, in_negative, in_braces, in_filter, in_source, in_each_condition, State, binds_at}
+use Rattle.snesl_expressions.specs.Machine.{closed_with, reduce, open_move, floor}
 use Rattle.snesl_expressions.specs.Parsing.{frame_of, piled, frames_of}
 
 piled-push : (fs : List Form) (f : Form) (below : List Frame) → piled (fs ++ f ∷ []) below ≡ frame_of f ∷ piled fs below

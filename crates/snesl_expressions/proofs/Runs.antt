@@ -12,9 +12,16 @@ use Rattle.snesl_tree.specs.declared.operator.Builtin.TheVariants as builtins
 use Rattle.snesl_tree.specs.declared.span.Span.{Span}
 use Rattle.snesl_tree.specs.Tree.{Tree, Trees, Binders, truth, binary, prefix, call, apply, binding, choice, literal, each, none, none_bound, always, depth, depth_of_all, depth_of_binders}
 use Rattle.snesl_grammar.specs.Operators.{level, left_level, prefix_level, sign, prefix_sign, truth_word, word}
-use Rattle.snesl_grammar.specs.Expressions.{token, name_token, added, bound_also, binder_count, greatest_binder_count, Whole, integer_rule, truth_rule, name_rule, binary_rule, prefix_rule, call_rule, apply_rule, group_rule, pair_rule, let_rule, if_rule, literal_rule, filter_rule, each_rule, each_where_rule, WholeArguments, one_rule, more_rule, WholeBinders, one_binder, more_binders}
+use Rattle.snesl_grammar.specs.Expressions.{token, name_token, added, bound_also, binder_count, greatest_binder_count, Whole, integer_rule}
+use Rattle.snesl_grammar.specs.Expressions.{truth_rule, name_rule, binary_rule, prefix_rule, call_rule, apply_rule, group_rule, pair_rule, let_rule}
+use Rattle.snesl_grammar.specs.Expressions.{if_rule, literal_rule, filter_rule, each_rule, each_where_rule, WholeArguments, one_rule, more_rule}
+use Rattle.snesl_grammar.specs.Expressions.{WholeBinders, one_binder, more_binders}
 use Rattle.snesl_expressions.specs.Readers.{TokenMove, at_any_depth, after_tokens}
-use Rattle.snesl_expressions.specs.Machine.{Frame, in_binary, in_prefix, in_call, in_apply, in_group, in_second, in_value, in_let_body, in_condition, in_positive, in_negative, in_braces, in_filter, in_source, in_each_condition, State, operand, after, opening, let_name, binder_name, reduce, floor, open_move, at_level, infix_move, comma_move, paren_move, brace_move, colon_move, bar_move, semicolon_move, in_move, then_move, else_move, closing_move, joining, token_move, alone, expressions}
+use Rattle.snesl_expressions.specs.Machine.{Frame, in_binary, in_prefix, in_call, in_apply, in_group, in_second, in_value, in_let_body, in_condition}
+use Rattle.snesl_expressions.specs.Machine.{in_positive, in_negative, in_braces, in_filter, in_source, in_each_condition, State, operand, after}
+use Rattle.snesl_expressions.specs.Machine.{opening, let_name, binder_name, reduce, floor, open_move, at_level, infix_move, comma_move, paren_move}
+use Rattle.snesl_expressions.specs.Machine.{brace_move, colon_move, bar_move, semicolon_move, in_move, then_move, else_move, closing_move, joining}
+use Rattle.snesl_expressions.specs.Machine.{token_move, alone, expressions}
 use Rattle.snesl_expressions.proofs.Reading.{goes_on, steps_on, fits_step}
 use Rattle.snesl_expressions.proofs.Piles.{reduce_closes, reduce_keeps}
 use Rattle.snesl_expressions.proofs.Depths.{depth_pos, depth_added, arguments_pos, depth_bound_also, count_bound_also}

@@ -8,8 +8,12 @@ use Rattle.snesl_tree.specs.declared.operator.Builtin.{Builtin}
 use Rattle.snesl_tree.specs.declared.span.Span.{Span}
 use Rattle.snesl_tree.specs.Tree.{Tree, Trees, Binders, none, none_bound, depth, depth_of_all, depth_of_binders}
 use Rattle.snesl_grammar.specs.Operators.{level, left_level, prefix_level, sign, prefix_sign, word}
-use Rattle.snesl_grammar.specs.Expressions.{token, name_token, added, bound_also, binder_count, greatest_binder_count, Whole, WholeArguments, one_rule, more_rule, WholeBinders, one_binder, more_binders, Front, FrontArguments, first_front, next_front, FrontBinder, FrontBinders, first_binder, next_binder}
-use Rattle.snesl_expressions.specs.Machine.{Frame, in_binary, in_prefix, in_call, in_apply, in_group, in_second, in_value, in_let_body, in_condition, in_positive, in_negative, in_braces, in_filter, in_source, in_each_condition, State, operand, after, opening, let_name, let_equals, binder_name, binder_in, floor}
+use Rattle.snesl_grammar.specs.Expressions.{token, name_token, added, bound_also, binder_count, greatest_binder_count, Whole, WholeArguments}
+use Rattle.snesl_grammar.specs.Expressions.{one_rule, more_rule, WholeBinders, one_binder, more_binders, Front, FrontArguments, first_front}
+use Rattle.snesl_grammar.specs.Expressions.{next_front, FrontBinder, FrontBinders, first_binder, next_binder}
+use Rattle.snesl_expressions.specs.Machine.{Frame, in_binary, in_prefix, in_call, in_apply, in_group, in_second, in_value, in_let_body, in_condition}
+use Rattle.snesl_expressions.specs.Machine.{in_positive, in_negative, in_braces, in_filter, in_source, in_each_condition, State, operand, after}
+use Rattle.snesl_expressions.specs.Machine.{opening, let_name, let_equals, binder_name, binder_in, floor}
 use Rattle.snesl_expressions.proofs.Depths.{arguments_pos}
 
 -- the tokens of arguments that are given, with the comma after them

@@ -14,14 +14,25 @@ use Rattle.snesl_tree.specs.declared.operator.Builtin.TheVariants as builtins
 use Rattle.snesl_tree.specs.declared.span.Span.{Span}
 use Rattle.snesl_tree.specs.Tree.{Tree, Binders, name, none, depth, depth_of_binders}
 use Rattle.snesl_grammar.specs.Operators.{level, left_level, prefix_level, sign, prefix_sign, word}
-use Rattle.snesl_grammar.specs.Expressions.{token, name_token, Whole, integer_rule, truth_rule, name_rule, Front, nothing, whole, binary_right, prefix_operand, call_word, call_arguments, apply_arguments, group_inner, pair_second, let_word, let_value, let_body, if_condition, if_positive, if_negative, brace_items, filter_condition, each_binders, each_condition, no_binder, binder_source}
+use Rattle.snesl_grammar.specs.Expressions.{token, name_token, Whole, integer_rule, truth_rule, name_rule, Front, nothing, whole, binary_right}
+use Rattle.snesl_grammar.specs.Expressions.{prefix_operand, call_word, call_arguments, apply_arguments, group_inner, pair_second, let_word, let_value}
+use Rattle.snesl_grammar.specs.Expressions.{let_body, if_condition, if_positive, if_negative, brace_items, filter_condition, each_binders}
+use Rattle.snesl_grammar.specs.Expressions.{each_condition, no_binder, binder_source}
 use Rattle.snesl_grammar.specs.Expressions.{let_name as let_name_front, binder_name as binder_name_front}
-use Rattle.snesl_expressions.specs.Machine.{Frame, in_binary, in_prefix, in_call, in_apply, in_value, in_condition, in_source, State, operand, after, opening, let_name, let_equals, binder_name, binder_in, Folded, reduce, floor, at_level, open_move, apply_move, comma_move, paren_move, brace_move, colon_move, bar_move, semicolon_move, in_move, then_move, else_move, joining, operand_move, after_move, token_move, alone, finished_of, expressions}
+use Rattle.snesl_expressions.specs.Machine.{Frame, in_binary, in_prefix, in_call, in_apply, in_value, in_condition, in_source, State, operand, after}
+use Rattle.snesl_expressions.specs.Machine.{opening, let_name, let_equals, binder_name, binder_in, Folded, reduce, floor, at_level, open_move}
+use Rattle.snesl_expressions.specs.Machine.{apply_move, comma_move, paren_move, brace_move, colon_move, bar_move, semicolon_move, in_move, then_move}
+use Rattle.snesl_expressions.specs.Machine.{else_move, joining, operand_move, after_move, token_move, alone, finished_of, expressions}
 use Rattle.snesl_expressions.specs.Readers.{TokenMove, within, step, after_tokens}
 use Rattle.snesl_expressions.proofs.Reading.{bind_ok, within_ok}
 use Rattle.snesl_expressions.proofs.Depths.{depth_pos}
-use Rattle.snesl_expressions.proofs.Spelled.{no_given, Bound, Spells, spells_empty, spells_binary, spells_prefix, spells_call, spells_apply, spells_group, spells_second, spells_value, spells_let_body, spells_condition, spells_positive, spells_negative, spells_braces, spells_filter, spells_source, spells_each_condition, Stands, stands_operand, stands_after, stands_opening, stands_let_name, stands_let_equals, stands_binder_name, stands_binder_in, given_front, bound_front}
-use Rattle.snesl_expressions.proofs.Closed.{Good, along, picked, Reduced, reduce_stands, comma_keeps, paren_keeps, brace_keeps, colon_keeps, bar_keeps, semicolon_keeps, in_keeps, then_keeps, else_keeps, closing_good}
+use Rattle.snesl_expressions.proofs.Spelled.{no_given, Bound, Spells, spells_empty, spells_binary, spells_prefix, spells_call, spells_apply}
+use Rattle.snesl_expressions.proofs.Spelled.{spells_group, spells_second, spells_value, spells_let_body, spells_condition, spells_positive}
+use Rattle.snesl_expressions.proofs.Spelled.{spells_negative, spells_braces, spells_filter, spells_source, spells_each_condition, Stands}
+use Rattle.snesl_expressions.proofs.Spelled.{stands_operand, stands_after, stands_opening, stands_let_name, stands_let_equals, stands_binder_name}
+use Rattle.snesl_expressions.proofs.Spelled.{stands_binder_in, given_front, bound_front}
+use Rattle.snesl_expressions.proofs.Closed.{Good, along, picked, Reduced, reduce_stands, comma_keeps, paren_keeps, brace_keeps, colon_keeps}
+use Rattle.snesl_expressions.proofs.Closed.{bar_keeps, semicolon_keeps, in_keeps, then_keeps, else_keeps, closing_good}
 
 -- a move of a form that may stand bare here
 level_good : (deep : ℕ) (ts : List Token) (t : Token) (tightness : ℕ) (frames : List Frame) (found : Option (TokenMove State))

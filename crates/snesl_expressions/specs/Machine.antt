@@ -9,7 +9,8 @@ use Rattle.snesl_tree.specs.declared.operator.Prefix.TheVariants.{Negate, Not}
 use Rattle.snesl_tree.specs.declared.operator.Builtin.{Builtin}
 use Rattle.snesl_tree.specs.declared.operator.Builtin.TheVariants as builtins
 use Rattle.snesl_tree.specs.declared.span.Span.{Span}
-use Rattle.snesl_tree.specs.Tree.{Tree, Trees, Binders, integer, truth, name, binary, prefix, call, apply, group, pair, binding, choice, literal, filter, each, none, none_bound, always, only_where, depth}
+use Rattle.snesl_tree.specs.Tree.{Tree, Trees, Binders, integer, truth, name, binary, prefix, call, apply, group, pair, binding, choice, literal}
+use Rattle.snesl_tree.specs.Tree.{filter, each, none, none_bound, always, only_where, depth}
 use Rattle.snesl_grammar.specs.Operators.{level, left_level, prefix_level}
 use Rattle.snesl_grammar.specs.Expressions.{added, bound_also, binder_count, greatest_binder_count}
 use Rattle.snesl_expressions.specs.Readers.{TokenMove, at_any_depth, Reader}

@@ -20,7 +20,10 @@ use Rattle.snesl_expressions.specs.declared.machine.StepError.{StepError}
 use Rattle.snesl_expressions.specs.declared.machine.StepError.TheVariants as errors
 use Rattle.snesl_expressions.specs.Readers.{TokenMove, Stop, unexpected, beyond_depth, within, step}
 use Rattle.snesl_expressions.specs.Parts.{tree_in, trees_in, bound_in}
-use Rattle.snesl_expressions.specs.Machine.{Frame, in_binary, in_prefix, in_call, in_apply, in_group, in_second, in_value, in_let_body, in_condition, in_positive, in_negative, in_braces, in_filter, in_source, in_each_condition, State, operand, after, opening, let_name, let_equals, binder_name, binder_in, Folded, comma_move, paren_move, brace_move, colon_move, bar_move, semicolon_move, in_move, then_move, else_move, expressions}
+use Rattle.snesl_expressions.specs.Machine.{Frame, in_binary, in_prefix, in_call, in_apply, in_group, in_second, in_value, in_let_body, in_condition}
+use Rattle.snesl_expressions.specs.Machine.{in_positive, in_negative, in_braces, in_filter, in_source, in_each_condition, State, operand, after}
+use Rattle.snesl_expressions.specs.Machine.{opening, let_name, let_equals, binder_name, binder_in, Folded, comma_move, paren_move, brace_move}
+use Rattle.snesl_expressions.specs.Machine.{colon_move, bar_move, semicolon_move, in_move, then_move, else_move, expressions}
 
 -- the frame that a form is
 abbrev pub frame_of : Form → Frame

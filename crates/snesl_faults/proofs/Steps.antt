@@ -41,6 +41,7 @@ module _ (context : ProgramContext) (scope : Scope) where
   sequences_all done (x ∷ binders) (suc i) l = sequences_all done binders i (omega arith)
 
 -- what is given where the values are there
-pub values_where_ok : (r : Result (Vec Datum Global) Halt) (answer : Answer (List Value)) → Answers (λ values. map value_of values.items) r answer → IfOk r (λ values. answer ≡ gives (map value_of values.items))
+pub values_where_ok : (r : Result (Vec Datum Global) Halt) (answer : Answer (List Value)) → Answers (λ values. map value_of values.items) r answer →
+    IfOk r (λ values. answer ≡ gives (map value_of values.items))
 values_where_ok (Ok values) answer e = e
 values_where_ok (Err halt) answer e = tt

@@ -90,22 +90,29 @@ module _ (old : Steps) (program : Program) (inputs : List InputDeclaration) (nex
     abbrev control_made : Steps → ℕ → Type 0
     control_made new control = HasMade old new (control_sourced begin (next_in old)) control
 
-    at_first : (new : Steps) (r : Result WiresData Refusal) → Adds wires_of old new (and_then (control_sourced begin (next_in old)) (λ control k. after_control begin control k)) r → Adds wires_of old new plan r
+    at_first : (new : Steps) (r : Result WiresData Refusal) →
+        Adds wires_of old new (and_then (control_sourced begin (next_in old)) (λ control k. after_control begin control k)) r →
+        Adds wires_of old new plan r
     at_first new r h =
         subst (λ a. Adds wires_of old new (and_then (control_sourced a zero) (λ control k. after_control a control k)) r) begin_is
         (subst (λ n. Adds wires_of old new (and_then (control_sourced begin n) (λ control k. after_control begin control k)) r) next_is h)
 
-    pub control_refused : (new : Steps) (e : Refusal) (r : Result WiresData Refusal) → IsErr r × IsErrAnd r (λ g. g ≡ e) → Adds (λ (n : ℕ). n) old new (control_sourced begin (next_in old)) (Err e) → Adds wires_of old new plan r
-    control_refused new e r exit adds = at_first new r (exits_first (λ (n : ℕ). n) wires_of old new new (control_sourced begin (next_in old)) (λ control k. after_control begin control k) e r exit adds)
+    pub control_refused : (new : Steps) (e : Refusal) (r : Result WiresData Refusal) → IsErr r × IsErrAnd r (λ g. g ≡ e) →
+        Adds (λ (n : ℕ). n) old new (control_sourced begin (next_in old)) (Err e) → Adds wires_of old new plan r
+    control_refused new e r exit adds =
+        at_first new r (exits_first (λ (n : ℕ). n) wires_of old new new (control_sourced begin (next_in old))
+        (λ control k. after_control begin control k) e r exit adds)
 
-    pub inputs_refused : {C : Type 0} (view : C → Bound) (first new : Steps) (control : ℕ) (declarations : List InputDeclaration) → declarations ≡ inputs → (e : Refusal) (r : Result WiresData Refusal) → IsErr r × IsErrAnd r (λ g. g ≡ e)
+    pub inputs_refused : {C : Type 0} (view : C → Bound) (first new : Steps) (control : ℕ) (declarations : List InputDeclaration) → declarations
+        ≡ inputs → (e : Refusal) (r : Result WiresData Refusal) → IsErr r × IsErrAnd r (λ g. g ≡ e)
         → control_made first control → Adds view first new (inputs_sourced begin unset_cells declarations (next_in first)) (Err e) → Adds wires_of old new plan r
     inputs_refused view first new control declarations same e r exit made adds =
         at_first new r (made_then wires_of old first new (control_sourced begin (next_in old)) (λ control k. after_control begin control k) control r made
         (exits_first view wires_of first new new (inputs_sourced begin unset_cells inputs (next_in first)) (λ bound k. after_inputs begin control bound k) e r exit
         (subst (λ l. Adds view first new (inputs_sourced begin unset_cells l (next_in first)) (Err e)) same adds)))
 
-    pub program_added : (first second new : Steps) (control : ℕ) (declarations : List InputDeclaration) (bound bound' : Bound) (context : ProgramContext) (r : Result WiresData Refusal) → declarations ≡ inputs → bound' ≡ bound
+    pub program_added : (first second new : Steps) (control : ℕ) (declarations : List InputDeclaration) (bound bound' : Bound)
+        (context : ProgramContext) (r : Result WiresData Refusal) → declarations ≡ inputs → bound' ≡ bound
         → dialect_of_steps old ≡ program.dialect → context.text.now ≡ program.text.items → context.functions.now ≡ program.declarations.items
         → control_made first control → HasMade first second (inputs_sourced begin unset_cells declarations (next_in first)) bound
         → Adds wires_of second new (printed second begin context (tree_of program.expr) bound' control) r → Adds wires_of old new plan r

@@ -78,6 +78,7 @@ pub print_stays : (ty : Ty) (offset : ℕ) (states : List StreamNodeState) (k : 
 print_stays ty offset states k items may last =
     let s : StreamNodeState = (a_source, source_opening items) in
     let other : last.0 ≢ k = λ same.
-    let ports : 1 ≡ 0 = may.outputs ∙ get_or-map node_behaviour.outputs states k node_behaviour.sample 0 may.node ∙ ap (λ j. node_behaviour.outputs (state_at node_behaviour states j)) (sym same) ∙ ap node_behaviour.outputs last.2 in
+    let ports : 1 ≡ 0 = may.outputs ∙ get_or-map node_behaviour.outputs states k node_behaviour.sample 0 may.node
+    ∙ ap (λ j. node_behaviour.outputs (state_at node_behaviour states j)) (sym same) ∙ ap node_behaviour.outputs last.2 in
     absurd (omega (arith, ports)) in
     (last.0, last.1 ∙ sym (length-set states k s), get_or-set_other states k last.0 s node_behaviour.sample other ∙ last.2)

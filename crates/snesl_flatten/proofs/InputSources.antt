@@ -58,7 +58,8 @@ fresh_at sources n source fresh there =
     ∙ slice_get-map (λ (s : TextSource). source_opening (items_in s)) sources n ∙ ap (option_map (λ (s : TextSource). source_opening (items_in s))) there)
 
 -- what is written at an edge of the type of a value, and of which kind it is
-module _ (holds : TextHoldsEdges) (kinds : KindsOfEdges) (text : List ℕ) (place : ℕ) (t : Ty) (placed : (dialect : Dialect) × IsSpelledAt dialect text t place) (edge : ℕ) (lt : edge < width t) (source : TextSource)
+module _ (holds : TextHoldsEdges) (kinds : KindsOfEdges) (text : List ℕ) (place : ℕ) (t : Ty)
+    (placed : (dialect : Dialect) × IsSpelledAt dialect text t place) (edge : ℕ) (lt : edge < width t) (source : TextSource)
     (is : items_in source ≡ items_from text (way_to t edge) (leaf_at t edge) place) where
   pub cells_of_edge : cells_in source ≡ flat t 0 (spelled_at text place ∷ []) edge
   cells_of_edge =
@@ -83,11 +84,13 @@ value_placed text all i p there = ap (option_map (λ e. e.1)) (slice_get-map (en
 -- a declared type has no more edges than all of them
 pub width_within : (ds : List InputDeclaration) (i : ℕ) (d : InputDeclaration) → slice_get ds i ≡ Some d → width d.1 ≤ length (all_kinds ds)
 width_within [] i d there = absurd (cc)
-width_within (x ∷ ds) zero d there = let same : x ≡ d = cc in subst (λ (y : InputDeclaration). width y.1 ≤ length (all_kinds (x ∷ ds))) same (omega (arith, length-append (kinds_of x.1) (all_kinds ds)))
+width_within (x ∷ ds) zero d there = let same : x ≡ d = cc in
+    subst (λ (y : InputDeclaration). width y.1 ≤ length (all_kinds (x ∷ ds))) same (omega (arith, length-append (kinds_of x.1) (all_kinds ds)))
 width_within (x ∷ ds) (suc i) d there = omega (arith, width_within ds i d there, length-append (kinds_of x.1) (all_kinds ds))
 
 -- the place of a declared input, and the value there
-module _ (dialect : Dialect) (text : List ℕ) (ds : List InputDeclaration) (all : List InputPlace) (placed : AreSpelledAt dialect text ds all) (i : ℕ) (d : InputDeclaration) (there : slice_get ds i ≡ Some d) where
+module _ (dialect : Dialect) (text : List ℕ) (ds : List InputDeclaration) (all : List InputPlace) (placed : AreSpelledAt dialect text ds all) (i : ℕ)
+    (d : InputDeclaration) (there : slice_get ds i ≡ Some d) where
   abbrev one : (p : InputPlace) × (slice_get all i ≡ Some p) × IsSpelledAt dialect text d.1 p.place
   one = placed_at dialect text ds all i d placed there
 

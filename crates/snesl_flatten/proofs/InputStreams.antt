@@ -54,7 +54,8 @@ module _ (dialect : Dialect) (ds : List InputDeclaration) (es : Environment) (fi
         ap₂ (λ a b. a ++ b) so_far (ap (λ v. columns_of_values d.1 (v ∷ [])) (sym value_is))
         ∙ sym (columns_more ds es i d g.0 there g.1)
 
-pub kinds_added : (ds : List InputDeclaration) (i : ℕ) (d : InputDeclaration) → slice_get ds i ≡ Some d → (kinds : List Kind) → kinds ≡ all_kinds (take i ds) → kinds ++ kinds_of d.1 ≡ all_kinds (take (suc i) ds)
+pub kinds_added : (ds : List InputDeclaration) (i : ℕ) (d : InputDeclaration) → slice_get ds i ≡ Some d → (kinds : List Kind) → kinds
+    ≡ all_kinds (take i ds) → kinds ++ kinds_of d.1 ≡ all_kinds (take (suc i) ds)
 kinds_added ds i d there kinds so_far = ap (λ l. l ++ kinds_of d.1) so_far ∙ sym (kinds_more ds i d there)
 
 -- there are as many values as declarations

@@ -45,7 +45,8 @@ columns_more (x ∷ ds) (y ∷ es) zero d e there value =
     let one : y ≡ e = cc in
     append-nil (columns_of_values x.1 (y.1 ∷ [])) ∙ (λ i. columns_of_values (same i).1 ((one i).1 ∷ []))
 columns_more (x ∷ ds) (y ∷ es) (suc i) d e there value =
-    ap (λ l. columns_of_values x.1 (y.1 ∷ []) ++ l) (columns_more ds es i d e there value) ∙ sym (append_assoc (columns_of_values x.1 (y.1 ∷ [])) (columns_of (take i ds) (take i es)) (columns_of_values d.1 (e.1 ∷ [])))
+    ap (λ l. columns_of_values x.1 (y.1 ∷ []) ++ l) (columns_more ds es i d e there value)
+    ∙ sym (append_assoc (columns_of_values x.1 (y.1 ∷ [])) (columns_of (take i ds) (take i es)) (columns_of_values d.1 (e.1 ∷ [])))
 
 pub kinds_more : (ds : List InputDeclaration) (i : ℕ) (d : InputDeclaration) → slice_get ds i ≡ Some d → all_kinds (take (suc i) ds) ≡ all_kinds (take i ds) ++ kinds_of d.1
 kinds_more [] i d there = absurd (cc)

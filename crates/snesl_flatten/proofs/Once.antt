@@ -14,9 +14,14 @@ use Rattle.flow_scalar.specs.Streams.{Items}
 use Rattle.flow_scalar.specs.SourceBehaviour.{source_opening}
 use Rattle.flow_networks.specs.declared.edge.Edge.{Edge}
 use Rattle.flow_networks.specs.Networks.{AreOpened}
-use Rattle.flow_plans.specs.Plans.{Operation, source, const, unary, binary, iota, units_of, scan_add, reduce, length_of, dist, pack, pack_groups, flag_of_bool, same_flags, concat_flags, part_flags, the_check, append_flags, interleave, interleave_groups, print, tab, seq_of, index, fork, sink}
+use Rattle.flow_plans.specs.Plans.{Operation, source, const, unary, binary, iota, units_of, scan_add, reduce, length_of, dist, pack, pack_groups}
+use Rattle.flow_plans.specs.Plans.{flag_of_bool, same_flags, concat_flags, part_flags, the_check, append_flags, interleave, interleave_groups, print}
+use Rattle.flow_plans.specs.Plans.{tab, seq_of, index, fork, sink}
 use Rattle.flow_assembly.specs.Openings.{IsOpening, IsUsable}
-use Rattle.flow_nodes.specs.StreamNodes.{NodeKind, member, node_behaviour, a_source, a_const, a_unary, a_binary, a_fork, a_sink, an_iota, a_units_of, a_scan_add, a_reduce, a_length, a_flag_of_bool, a_the_check, a_same_flags, a_concat_flags, a_part_flags, an_append_flags, a_dist, a_pack, a_pack_groups, an_interleave, an_interleave_groups, a_print, a_tab, a_seq_of_vector, an_index}
+use Rattle.flow_nodes.specs.StreamNodes.{NodeKind, member, node_behaviour, a_source, a_const, a_unary, a_binary, a_fork, a_sink, an_iota, a_units_of}
+use Rattle.flow_nodes.specs.StreamNodes.{a_scan_add, a_reduce, a_length, a_flag_of_bool, a_the_check, a_same_flags, a_concat_flags, a_part_flags}
+use Rattle.flow_nodes.specs.StreamNodes.{an_append_flags, a_dist, a_pack, a_pack_groups, an_interleave, an_interleave_groups, a_print, a_tab}
+use Rattle.flow_nodes.specs.StreamNodes.{a_seq_of_vector, an_index}
 
 -- a type that maps into a set and back is a set
 retract_set : {A B : Type 0} (to : A → B) (from : B → A) → ((x : A) → from (to x) ≡ x) → IsSet B → IsSet A

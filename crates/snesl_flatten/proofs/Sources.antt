@@ -39,7 +39,8 @@ unfolding and_then
 inputs_steps at cells [] next = refl
 inputs_steps at cells (d ∷ ds) next =
     let k = next + width d.1 in
-    ap (λ l. source_steps at cells next (kinds_of d.1) ++ l) (append-nil (inputs_sourced at cells ds k).steps ∙ inputs_steps at cells ds k) ∙ sym (source_append at cells next (kinds_of d.1) (all_kinds ds))
+    ap (λ l. source_steps at cells next (kinds_of d.1) ++ l) (append-nil (inputs_sourced at cells ds k).steps ∙ inputs_steps at cells ds k)
+    ∙ sym (source_append at cells next (kinds_of d.1) (all_kinds ds))
 
 -- what they write changes no number
 inputs_given : (at : ℕ) (cells other : ℕ → List Cell) (ds : List InputDeclaration) (next : ℕ) →
@@ -49,7 +50,8 @@ inputs_given at cells other [] next = (refl, refl)
 inputs_given at cells other (d ∷ ds) next = let g = inputs_given at cells other ds (next + width d.1) in (ap (λ b. (d.0, wires_from d.1 next) ∷ b) g.0, g.1)
 
 -- where each of some sources is
-sources_get : (at : ℕ) (cells : ℕ → List Cell) (n : ℕ) (kinds : List Kind) (i : ℕ) (kind : Kind) (m : ℕ) → slice_get kinds i ≡ Some kind → m ≡ n + i → slice_get (source_steps at cells n kinds) i ≡ Some (source_step at kind (cells m))
+sources_get : (at : ℕ) (cells : ℕ → List Cell) (n : ℕ) (kinds : List Kind) (i : ℕ) (kind : Kind) (m : ℕ) → slice_get kinds i ≡ Some kind → m ≡ n + i →
+    slice_get (source_steps at cells n kinds) i ≡ Some (source_step at kind (cells m))
 sources_get at cells n [] i kind m e is = absurd (cc)
 sources_get at cells n (k ∷ ks) zero kind m e is =
     let same : k ≡ kind = cc in
@@ -144,7 +146,9 @@ module _ (text : List ℕ) (program : ProgramTree) (inputs : List InputDeclarati
         (sources_get begin (source_columns columns) 1 (all_kinds inputs) (length columns) kind (suc (length columns)) there (omega arith))
 
     -- and the steps where it is set
-    pub next_set : (c : List Cell) → with_source (suc (length columns)) (source_step begin kind (source_columns columns (suc (length columns)))) kind c (program_steps text program inputs (source_columns columns)) ≡ program_steps text program inputs (source_columns (columns ++ c ∷ []))
+    pub next_set : (c : List Cell) →
+        with_source (suc (length columns)) (source_step begin kind (source_columns columns (suc (length columns)))) kind c
+        (program_steps text program inputs (source_columns columns)) ≡ program_steps text program inputs (source_columns (columns ++ c ∷ []))
     next_set c =
         let n = length columns in
         let other = source_columns (columns ++ c ∷ []) in

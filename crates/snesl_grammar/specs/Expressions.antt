@@ -9,7 +9,8 @@ use Rattle.snesl_tree.specs.declared.operator.Operator.{Operator}
 use Rattle.snesl_tree.specs.declared.operator.Prefix.{Prefix}
 use Rattle.snesl_tree.specs.declared.operator.Builtin.{Builtin}
 use Rattle.snesl_tree.specs.declared.span.Span.{Span}
-use Rattle.snesl_tree.specs.Tree.{Tree, Trees, Binders, integer, truth, name, binary, prefix, call, apply, group, pair, binding, choice, literal, filter, each, none, both, none_bound, binder, always, only_where, depth, depth_of_all, depth_of_binders}
+use Rattle.snesl_tree.specs.Tree.{Tree, Trees, Binders, integer, truth, name, binary, prefix, call, apply, group, pair, binding, choice, literal}
+use Rattle.snesl_tree.specs.Tree.{filter, each, none, both, none_bound, binder, always, only_where, depth, depth_of_all, depth_of_binders}
 use Rattle.snesl_grammar.specs.Operators.{level, left_level, prefix_level, sign, prefix_sign, truth_word, word}
 
 -- the token of a kind at an offset

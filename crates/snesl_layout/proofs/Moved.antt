@@ -4,10 +4,18 @@ use Rattle.std.proofs.lemmas.List.{map-append}
 use Rattle.snesl_lexer.specs.declared.token.Token.{Token}
 use Rattle.snesl_data.specs.declared.dialect.Dialect.{Dialect}
 use Rattle.snesl_tree.specs.declared.span.Span.{Span}
-use Rattle.snesl_tree.specs.Tree.{Tree, Trees, Binders, Condition, integer, truth, name, binary, prefix, call, apply, group, pair, binding, choice, literal, filter, each, none, both, none_bound, binder, always, only_where, depth, depth_of_all, depth_of_binders, depth_of_condition, TypeTree, int_type, bool_type, pair_type, vector_type, sequence_type, type_depth, TypedName, DeclarationTree, declares_input, declares_function, ProgramTree}
-use Rattle.snesl_grammar.specs.Expressions.{added, bound_also, binder_count, greatest_binder_count, Whole, integer_rule, truth_rule, name_rule, binary_rule, prefix_rule, call_rule, apply_rule, group_rule, pair_rule, let_rule, if_rule, literal_rule, filter_rule, each_rule, each_where_rule, WholeArguments, one_rule, more_rule, WholeBinders, one_binder, more_binders}
+use Rattle.snesl_tree.specs.Tree.{Tree, Trees, Binders, Condition, integer, truth, name, binary, prefix, call, apply, group, pair, binding, choice}
+use Rattle.snesl_tree.specs.Tree.{literal, filter, each, none, both, none_bound, binder, always, only_where, depth, depth_of_all, depth_of_binders}
+use Rattle.snesl_tree.specs.Tree.{depth_of_condition, TypeTree, int_type, bool_type, pair_type, vector_type, sequence_type, type_depth, TypedName}
+use Rattle.snesl_tree.specs.Tree.{DeclarationTree, declares_input, declares_function, ProgramTree}
+use Rattle.snesl_grammar.specs.Expressions.{added, bound_also, binder_count, greatest_binder_count, Whole, integer_rule, truth_rule, name_rule}
+use Rattle.snesl_grammar.specs.Expressions.{binary_rule, prefix_rule, call_rule, apply_rule, group_rule, pair_rule, let_rule, if_rule, literal_rule}
+use Rattle.snesl_grammar.specs.Expressions.{filter_rule, each_rule, each_where_rule, WholeArguments, one_rule, more_rule, WholeBinders, one_binder}
+use Rattle.snesl_grammar.specs.Expressions.{more_binders}
 use Rattle.snesl_grammar.specs.Types.{WholeType, int_rule, bool_rule, pair_type_rule, vector_rule, sequence_rule}
-use Rattle.snesl_grammar.specs.Programs.{parameters_depth, declaration_depth, declarations_depth, program_depth, WholeParameters, one_parameter, more_parameters, WholeDeclaration, input_rule, function_rule, WholeDeclarations, no_declarations, more_declarations, WholeDialect, no_dialect, dialect_rule, WholeProgram, program_rule}
+use Rattle.snesl_grammar.specs.Programs.{parameters_depth, declaration_depth, declarations_depth, program_depth, WholeParameters, one_parameter}
+use Rattle.snesl_grammar.specs.Programs.{more_parameters, WholeDeclaration, input_rule, function_rule, WholeDeclarations, no_declarations}
+use Rattle.snesl_grammar.specs.Programs.{more_declarations, WholeDialect, no_dialect, dialect_rule, WholeProgram, program_rule}
 
 module _ (move : ℕ → ℕ) where
   -- the token at the offset that its own is moved to, and the place

@@ -5,9 +5,16 @@ use Rattle.snesl_lexer.specs.declared.token.TokenKind.TheVariants.{Name}
 use Rattle.snesl_lexer.specs.declared.token.Token.{Token}
 use Rattle.snesl_tree.specs.declared.span.Span.{Span}
 use Rattle.snesl_tree.specs.Tree.{Tree, Trees, Binders, TypeTree, int_type, bool_type, pair_type, vector_type, sequence_type, none, both, none_bound, binder, TypedName, DeclarationTree, ProgramTree}
-use Rattle.snesl_grammar.specs.Expressions.{token, added, bound_also, Whole, integer_rule, truth_rule, name_rule, binary_rule, prefix_rule, call_rule, apply_rule, group_rule, pair_rule, let_rule, if_rule, literal_rule, filter_rule, each_rule, each_where_rule, WholeArguments, one_rule, more_rule, WholeBinders, one_binder, more_binders}
-use Rattle.snesl_grammar.specs.Programs.{WholeParameters, one_parameter, more_parameters, WholeDeclaration, input_rule, function_rule, WholeDeclarations, no_declarations, more_declarations, WholeProgram, program_rule}
-use Rattle.snesl_layout.specs.Same.{IsSameName, IsSame, same_integer, same_truth, same_name, same_binary, same_prefix, same_call, same_apply, same_group, same_pair, same_binding, same_choice, same_literal, same_filter, same_each, AreSame, same_none, same_both, HaveSameBinders, same_none_bound, same_binder, same_always, same_where, IsSameType, same_int, same_bool, same_pair_type, same_vector, same_sequence, IsSameTyped, HaveSameParameters, same_parameter, IsSameDeclaration, same_input, same_function, HaveSameDeclarations, same_declaration, IsSameProgram}
+use Rattle.snesl_grammar.specs.Expressions.{token, added, bound_also, Whole, integer_rule, truth_rule, name_rule, binary_rule, prefix_rule, call_rule}
+use Rattle.snesl_grammar.specs.Expressions.{apply_rule, group_rule, pair_rule, let_rule, if_rule, literal_rule, filter_rule, each_rule}
+use Rattle.snesl_grammar.specs.Expressions.{each_where_rule, WholeArguments, one_rule, more_rule, WholeBinders, one_binder, more_binders}
+use Rattle.snesl_grammar.specs.Programs.{WholeParameters, one_parameter, more_parameters, WholeDeclaration, input_rule, function_rule}
+use Rattle.snesl_grammar.specs.Programs.{WholeDeclarations, no_declarations, more_declarations, WholeProgram, program_rule}
+use Rattle.snesl_layout.specs.Same.{IsSameName, IsSame, same_integer, same_truth, same_name, same_binary, same_prefix, same_call, same_apply}
+use Rattle.snesl_layout.specs.Same.{same_group, same_pair, same_binding, same_choice, same_literal, same_filter, same_each, AreSame, same_none}
+use Rattle.snesl_layout.specs.Same.{same_both, HaveSameBinders, same_none_bound, same_binder, same_always, same_where, IsSameType, same_int}
+use Rattle.snesl_layout.specs.Same.{same_bool, same_pair_type, same_vector, same_sequence, IsSameTyped, HaveSameParameters, same_parameter}
+use Rattle.snesl_layout.specs.Same.{IsSameDeclaration, same_input, same_function, HaveSameDeclarations, same_declaration, IsSameProgram}
 use Rattle.snesl_layout.specs.Same.{no_parameters as same_parameters, no_declarations as same_declarations}
 use Rattle.std.proofs.lemmas.List.{map-append}
 use Rattle.snesl_layout.proofs.Moved.{place_moved, moved, all_moved, binders_moved, added_moved, bound_moved, type_moved, typed_moved, declaration_moved, program_moved}

@@ -1,5 +1,6 @@
 -- What stands first in bytes, and what follows it.
-use Rattle.std.proofs.Common.{◌≡◌, ℕ, suc, pos, ◌+◌, ◌-◌, ◌*◌, ◌/◌, ◌≤◌, ◌<◌, Bool, true, false, cond, eqb, List, [], ◌∷◌, length, take, drop, get_or, IsTrue, Option, Some, None, not, refl, sym, ap, subst, ◌∙◌, arith, drop-drop, drop-cons, one-add}
+use Rattle.std.proofs.Common.{◌≡◌, ℕ, suc, pos, ◌+◌, ◌-◌, ◌*◌, ◌/◌, ◌≤◌, ◌<◌, Bool, true, false, cond, eqb, List, [], ◌∷◌, length, take, drop, get_or}
+use Rattle.std.proofs.Common.{IsTrue, Option, Some, None, not, refl, sym, ap, subst, ◌∙◌, arith, drop-drop, drop-cons, one-add}
 use Rattle.std.proofs.lemmas.Bool.{lt-leb, cases_lt, not-true, eqb-false}
 use Rattle.std.proofs.Common.{length-drop, inl, inr, take_all}
 use Rattle.std.specs.List.{AllByRecursion, prefix_len}

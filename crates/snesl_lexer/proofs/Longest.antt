@@ -1,5 +1,6 @@
 -- What stands first is the longest lexeme.
-use Rattle.std.proofs.Common.{◌≡◌, ℕ, zero, suc, pos, ◌+◌, ◌≤◌, ◌<◌, Bool, true, false, not, cond, ◌&&◌, eqb, leb, List, [], ◌∷◌, length, take, get_or, take_all, Option, Some, None, refl, sym, ap, subst, ◌∙◌, ◌⊎◌, inl, inr, arith, one-add}
+use Rattle.std.proofs.Common.{◌≡◌, ℕ, zero, suc, pos, ◌+◌, ◌≤◌, ◌<◌, Bool, true, false, not, cond, ◌&&◌, eqb, leb, List, [], ◌∷◌, length, take}
+use Rattle.std.proofs.Common.{get_or, take_all, Option, Some, None, refl, sym, ap, subst, ◌∙◌, ◌⊎◌, inl, inr, arith, one-add}
 use Rattle.std.specs.List.{list_all, prefix_len, take_while}
 use Rattle.std.specs.Char.{is_ascii_digit, is_ascii_alphabetic}
 use Rattle.std.proofs.lemmas.Bool.{and_parts, and_from, not-true, eqb-true, or_left, cond-true, cond-false, le-leb, lt-leb, cases_order, leb-true, leb-false, both_ways, cases_lt}
@@ -20,7 +21,8 @@ use Rattle.snesl_lexer.specs.Signs.{one_byte_signs, two_byte_signs, longer_sign,
 use Rattle.snesl_data.specs.Blanks.{is_blank}
 use Rattle.snesl_data.specs.Characters.{is_word, value_from}
 use Rattle.snesl_lexer.specs.Lexical.{number, head_or, first}
-use Rattle.snesl_lexer.specs.Lexemes.{IsWord, IsDigits, LexemeMeaning, token, too_great, Lexeme, a_word, an_integer, an_excess, a_sign, a_long_sign, IsLongest, BeginsWithNone, StandsFirst, FirstIsLongest}
+use Rattle.snesl_lexer.specs.Lexemes.{IsWord, IsDigits, LexemeMeaning, token, too_great, Lexeme, a_word, an_integer, an_excess, a_sign, a_long_sign}
+use Rattle.snesl_lexer.specs.Lexemes.{IsLongest, BeginsWithNone, StandsFirst, FirstIsLongest}
 use Rattle.snesl_lexer.proofs.Tables.{kind_in_passes}
 
 -- a byte that is no blank, no letter and no digit

@@ -1,5 +1,6 @@
 -- Names that are near to one that is not bound.
-use Rattle.std.specs.Prelude.{◌≡◌, ◌≢◌, ◌<◌, ◌≤◌, ◌⊎◌, ℕ, ◌+◌, ◌-◌, ◌/◌, ◌++◌, ◌==◌, ◌&&◌, ◌||◌, Bool, IsTrue, List, [], ◌∷◌, codes, drop, get_or, if◌then◌else◌, length, max, min, nat_eq, not, slice_index}
+use Rattle.std.specs.Prelude.{◌≡◌, ◌≢◌, ◌<◌, ◌≤◌, ◌⊎◌, ℕ, ◌+◌, ◌-◌, ◌/◌, ◌++◌, ◌==◌, ◌&&◌, ◌||◌, Bool, IsTrue, List, [], ◌∷◌, codes, drop, get_or}
+use Rattle.std.specs.Prelude.{if◌then◌else◌, length, max, min, nat_eq, not, slice_index}
 use Rattle.std.specs.Char.{is_ascii_alphabetic}
 use Rattle.snesl_data.specs.Characters.{is_word}
 use Rattle.snesl_look.specs.Functions.{front_word}

@@ -25,8 +25,11 @@ use Rattle.snesl_tree.specs.declared.operator.Prefix.TheVariants.{Negate, Not}
 use Rattle.snesl_tree.specs.declared.span.Span.{Span}
 use Rattle.snesl_tree.specs.Tree.{Tree, Trees, Binders, none, both, none_bound, binder, DeclarationTree, ProgramTree}
 use Rattle.snesl_grammar.specs.Operators.{sign, prefix_sign, truth_word, word}
-use Rattle.snesl_grammar.specs.Expressions.{token, added, bound_also, Whole, integer_rule, truth_rule, name_rule, binary_rule, prefix_rule, call_rule, apply_rule, group_rule, pair_rule, let_rule, if_rule, literal_rule, filter_rule, each_rule, each_where_rule, WholeArguments, one_rule, more_rule, WholeBinders, one_binder, more_binders}
-use Rattle.snesl_grammar.specs.Programs.{WholeDeclaration, input_rule, function_rule, WholeDeclarations, no_declarations, more_declarations, WholeDialect, no_dialect, dialect_rule, WholeProgram, program_rule}
+use Rattle.snesl_grammar.specs.Expressions.{token, added, bound_also, Whole, integer_rule, truth_rule, name_rule, binary_rule, prefix_rule, call_rule}
+use Rattle.snesl_grammar.specs.Expressions.{apply_rule, group_rule, pair_rule, let_rule, if_rule, literal_rule, filter_rule, each_rule}
+use Rattle.snesl_grammar.specs.Expressions.{each_where_rule, WholeArguments, one_rule, more_rule, WholeBinders, one_binder, more_binders}
+use Rattle.snesl_grammar.specs.Programs.{WholeDeclaration, input_rule, function_rule, WholeDeclarations, no_declarations, more_declarations}
+use Rattle.snesl_grammar.specs.Programs.{WholeDialect, no_dialect, dialect_rule, WholeProgram, program_rule}
 use Rattle.snesl_syntax.specs.Parse.{Parses, read, AnswersTokens, accepted}
 use Rattle.snesl_types.specs.Ranges.{IsInRange, AreInRange, BindersInRange, DeclarationInRange, DeclarationsInRange, ProgramInRange}
 

@@ -36,7 +36,8 @@ one_network answers inputs plans text input states others edges more one other =
     let tree = same_program answers text one.program other.program one.parses other.parses in
     let declared = same_declared text one.program other.program one.declared other.declared one.ty other.ty tree one.types other.types in
     let environment = same_environment inputs input one.program other.program one.declared other.declared one.environment other.environment tree declared one.inputs other.inputs in
-    let opens : OpensAs (program_steps text other.program other.declared.inputs (cells_of other.declared.inputs other.environment)) others more = record { network = other.network; opens = other.opens } in
+    let opens : OpensAs (program_steps text other.program other.declared.inputs (cells_of other.declared.inputs other.environment)) others more =
+    record { network = other.network; opens = other.opens } in
     plans (program_steps text one.program one.declared.inputs (cells_of one.declared.inputs one.environment)) states others edges more (record { network = one.network; opens = one.opens })
     (subst (λ (p : ProgramTree). OpensAs (program_steps text p one.declared.inputs (cells_of one.declared.inputs one.environment)) others more) (sym tree)
     (subst (λ (d : Declared). OpensAs (program_steps text other.program d.inputs (cells_of d.inputs one.environment)) others more) (sym declared)

@@ -62,7 +62,8 @@ greater_integer dialect true m n hm hn = hn
 greater_integer dialect false m n hm hn = hm
 
 -- what the elements so far and one more reduce to lies in the range where they do
-pub more_range : (dialect : Dialect) → (r : Reduction) (so_far : Option Scalar) (x : Scalar) → IfSome so_far (ScalarInRange dialect) → ScalarInRange dialect x → IfOk (reduced_more dialect r so_far x) (λ more. IfSome more (ScalarInRange dialect))
+pub more_range : (dialect : Dialect) → (r : Reduction) (so_far : Option Scalar) (x : Scalar) → IfSome so_far (ScalarInRange dialect) →
+    ScalarInRange dialect x → IfOk (reduced_more dialect r so_far x) (λ more. IfSome more (ScalarInRange dialect))
 more_range dialect Sum (Some y) x hy hx = some_is (ScalarInRange dialect) (binary_value dialect Add y x) (binary_range dialect Add y x hy hx)
 more_range dialect Max None (Int n) hy hx = hx
 more_range dialect Max (Some (Int m)) (Int n) hy hx = greater_integer dialect (int_lt m n) m n hy hx
@@ -78,19 +79,24 @@ all_is : (P : Scalar → Type 0) (so_far : Option Scalar) → IfSome so_far P �
 all_is P (Some x) h = h
 all_is P None h = tt
 
-from_type : (dialect : Dialect) → (r : Reduction) (so_far : Option Scalar) (xs : List Scalar) → IfSome so_far (λ y. type_of y ≡ reduction_type r) → IfOk (reduction_from dialect r so_far xs) (λ y. type_of y ≡ reduction_type r)
+from_type : (dialect : Dialect) → (r : Reduction) (so_far : Option Scalar) (xs : List Scalar) → IfSome so_far (λ y. type_of y ≡ reduction_type r) →
+    IfOk (reduction_from dialect r so_far xs) (λ y. type_of y ≡ reduction_type r)
 from_type dialect r so_far [] h = all_is (λ y. type_of y ≡ reduction_type r) so_far h
 from_type dialect r so_far (x ∷ xs) h =
-    goes_on (λ more. IfSome more (λ y. type_of y ≡ reduction_type r)) (λ y. type_of y ≡ reduction_type r) (reduced_more dialect r so_far x) (λ more. reduction_from dialect r more xs) (more_type dialect r so_far x) (λ more e. from_type dialect r more xs e)
+    goes_on (λ more. IfSome more (λ y. type_of y ≡ reduction_type r)) (λ y. type_of y ≡ reduction_type r) (reduced_more dialect r so_far x)
+    (λ more. reduction_from dialect r more xs) (more_type dialect r so_far x) (λ more e. from_type dialect r more xs e)
 
 -- the value of a reduction is of its type
 pub reduced_type : (dialect : Dialect) → (r : Reduction) (xs : List Scalar) → IfOk (reduction_of dialect r xs) (λ y. type_of y ≡ reduction_type r)
 reduced_type dialect r xs = from_type dialect r (reduced_nothing r) xs (nothing_type r)
 
-from_range : (dialect : Dialect) → (r : Reduction) (so_far : Option Scalar) (xs : List Scalar) → IfSome so_far (ScalarInRange dialect) → All (ScalarInRange dialect) xs → IfOk (reduction_from dialect r so_far xs) (ScalarInRange dialect)
+from_range : (dialect : Dialect) → (r : Reduction) (so_far : Option Scalar) (xs : List Scalar) → IfSome so_far (ScalarInRange dialect) →
+    All (ScalarInRange dialect) xs → IfOk (reduction_from dialect r so_far xs) (ScalarInRange dialect)
 from_range dialect r so_far [] h hs = all_is (ScalarInRange dialect) so_far h
 from_range dialect r so_far (x ∷ xs) h hs =
-    goes_on (λ more. IfSome more (ScalarInRange dialect)) (ScalarInRange dialect) (reduced_more dialect r so_far x) (λ more. reduction_from dialect r more xs) (more_range dialect r so_far x h (All-head (ScalarInRange dialect) x xs hs)) (λ more e. from_range dialect r more xs e (All-tail (ScalarInRange dialect) x xs hs))
+    goes_on (λ more. IfSome more (ScalarInRange dialect)) (ScalarInRange dialect) (reduced_more dialect r so_far x)
+    (λ more. reduction_from dialect r more xs) (more_range dialect r so_far x h (All-head (ScalarInRange dialect) x xs hs))
+    (λ more e. from_range dialect r more xs e (All-tail (ScalarInRange dialect) x xs hs))
 
 -- the value of a reduction lies in the range where the elements do
 pub reduced_range : (dialect : Dialect) → (r : Reduction) (xs : List Scalar) → All (ScalarInRange dialect) xs → IfOk (reduction_of dialect r xs) (ScalarInRange dialect)
@@ -101,5 +107,7 @@ pub scanned_range : (dialect : Dialect) → (so_far : ℤ) (xs : List ℤ) → I
 scanned_range dialect so_far [] h = All-nil (IsInteger dialect)
 scanned_range dialect so_far (x ∷ []) h = All-cons (IsInteger dialect) so_far [] h (All-nil (IsInteger dialect))
 scanned_range dialect so_far (x ∷ y ∷ xs) h =
-    goes_on (IsInteger dialect) (All (IsInteger dialect)) (ranged dialect (so_far +ℤ x)) (λ sum. and_then (scan_from dialect sum (y ∷ xs)) (λ sums. Ok (so_far ∷ sums))) (ranged_integer dialect (so_far +ℤ x)) (λ sum e.
-    goes_on (All (IsInteger dialect)) (All (IsInteger dialect)) (scan_from dialect sum (y ∷ xs)) (λ sums. Ok (so_far ∷ sums)) (scanned_range dialect sum (y ∷ xs) e) (λ sums es. All-cons (IsInteger dialect) so_far sums h es))
+    goes_on (IsInteger dialect) (All (IsInteger dialect)) (ranged dialect (so_far +ℤ x))
+    (λ sum. and_then (scan_from dialect sum (y ∷ xs)) (λ sums. Ok (so_far ∷ sums))) (ranged_integer dialect (so_far +ℤ x)) (λ sum e.
+    goes_on (All (IsInteger dialect)) (All (IsInteger dialect)) (scan_from dialect sum (y ∷ xs)) (λ sums. Ok (so_far ∷ sums))
+    (scanned_range dialect sum (y ∷ xs) e) (λ sums es. All-cons (IsInteger dialect) so_far sums h es))

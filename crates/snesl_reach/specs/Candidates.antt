@@ -2,7 +2,9 @@
 use Rattle.std.specs.Prelude.{ℕ, ◌==◌, ◌++◌, if◌then◌else◌, List, [], ◌∷◌, Option, Some, None, map, option_map}
 use Rattle.std.specs.Option.{option_or}
 use Rattle.snesl_tree.specs.declared.span.Span.{Span}
-use Rattle.snesl_tree.specs.Tree.{Tree, Trees, Binders, Condition, integer, truth, name, binary, prefix, call, apply, group, pair, binding, choice, literal, filter, each, none, both, none_bound, binder, always, only_where, TypedName, DeclarationTree, declares_input, declares_function, ProgramTree}
+use Rattle.snesl_tree.specs.Tree.{Tree, Trees, Binders, Condition, integer, truth, name, binary, prefix, call, apply, group, pair, binding, choice}
+use Rattle.snesl_tree.specs.Tree.{literal, filter, each, none, both, none_bound, binder, always, only_where, TypedName, DeclarationTree}
+use Rattle.snesl_tree.specs.Tree.{declares_input, declares_function, ProgramTree}
 
 -- the names that may stand there: of values, innermost first, or of functions
 pub data CandidateNames : Type 0 where

@@ -10,7 +10,8 @@ use Rattle.snesl_tree.specs.declared.span.Span.{Span}
 use Rattle.snesl_tree.specs.View.{binders_of, declaration_of, tree_of, typed_of}
 use Rattle.snesl_reach.specs.declared.names.Candidates.{Candidates}
 use Rattle.snesl_reach.specs.declared.names.Candidates.TheVariants.{Values, Functions}
-use Rattle.snesl_reach.specs.Candidates.{CandidateNames, values, functions, around, bound_by, candidates_in, candidates_in_bodies, candidates_in_declaration, candidates_in_sources, enclosed, functions_among, inputs_among, places_of}
+use Rattle.snesl_reach.specs.Candidates.{CandidateNames, values, functions, around, bound_by, candidates_in, candidates_in_bodies}
+use Rattle.snesl_reach.specs.Candidates.{candidates_in_declaration, candidates_in_sources, enclosed, functions_among, inputs_among, places_of}
 
 abbrev pub names_of : Candidates → CandidateNames
 names_of (Values names) = values names.items

@@ -45,7 +45,8 @@ nothing_after others = same_making (and_then others (λ others k. done ([] ++ ot
 abbrev before_all : {A : Type 0} → List Step → Making A → Making A
 before_all steps making = record { steps = steps ++ making.steps; given = making.given; next = making.next }
 
-first_given : {A B C : Type 0} (first : Making A) (f : A → B) (rest : B → ℕ → Making C) → and_then (and_then first (λ x k. done (f x) k)) rest ≡ before_all first.steps (rest (f first.given) first.next)
+first_given : {A B C : Type 0} (first : Making A) (f : A → B) (rest : B → ℕ → Making C) → and_then (and_then first (λ x k. done (f x) k)) rest
+    ≡ before_all first.steps (rest (f first.given) first.next)
 unfolding and_then
 first_given first f rest =
     let later = rest (f first.given) first.next in
@@ -101,8 +102,13 @@ module _ (move : Wires → ℕ → Making Wires) (names : Names) where
   each_is_all [] before next = sym (done_first [] next (λ others k. done (before ++ others) k) ∙ ap (λ l. done l next) (append-nil before))
   each_is_all (entry ∷ bound) before next = by_test (λ now k. each_is_all bound now k) (is_among entry.0 (but_for before names))
     where
-      by_test : ((now : Bound) (k : ℕ) → each_moved move names bound now k ≡ behind now (all_moved move (but_for now names) bound k)) → (b : Bool) → and_then (cond b (and_then (move entry.1 next) (λ u k. done (before ++ (entry.0, u) ∷ []) k)) (done before next)) (λ now k. each_moved move names bound now k)
-          ≡ behind before (cond b (and_then (move entry.1 next) (λ u k. and_then (all_moved move (without entry.0 (but_for before names)) bound k) (λ others k. done ((entry.0, u) ∷ others) k))) (all_moved move (but_for before names) bound next))
+      by_test : ((now : Bound) (k : ℕ) → each_moved move names bound now k ≡ behind now (all_moved move (but_for now names) bound k)) → (b : Bool) →
+          and_then (cond b (and_then (move entry.1 next) (λ u k. done (before ++ (entry.0, u) ∷ []) k)) (done before next))
+          (λ now k. each_moved move names bound now k)
+          ≡ behind before (cond b
+          (and_then (move entry.1 next)
+          (λ u k. and_then (all_moved move (without entry.0 (but_for before names)) bound k) (λ others k. done ((entry.0, u) ∷ others) k)))
+          (all_moved move (but_for before names) bound next))
       by_test others_are true = moved_first entry bound before next others_are
       by_test others_are false = done_first before next (λ now k. each_moved move names bound now k) ∙ others_are before next
 

@@ -27,7 +27,8 @@ module _ (move : Wires → ℕ → Making Wires) (pairs : (a b : Wires) (k : ℕ
   whole : and_then (move a (next_in old)) rest ≡ move w (next_in old)
   whole = sym (ap (λ x. move x (next_in old)) parts ∙ pairs a b (next_in old))
 
-  pub first_refused : (middle new : Steps) (e : Refusal) (r : Result WiresData Refusal) → Exits r e → Adds wires_of old middle (move a (next_in old)) (Err e) → Adds wires_of old new (move w (next_in old)) r
+  pub first_refused : (middle new : Steps) (e : Refusal) (r : Result WiresData Refusal) → Exits r e →
+      Adds wires_of old middle (move a (next_in old)) (Err e) → Adds wires_of old new (move w (next_in old)) r
   first_refused middle new e r exit adds =
       subst (λ making. Adds wires_of old new making r) whole (exits_first wires_of wires_of old middle new (move a (next_in old)) rest e r exit adds)
 

@@ -7,7 +7,11 @@ use Rattle.snesl_tree.specs.Tree.{Tree, name, depth, TypeTree, int_type, type_de
 use Rattle.snesl_grammar.specs.Expressions.{token, name_token, name_rule}
 use Rattle.snesl_expressions.specs.Readers.{Reader}
 use Rattle.snesl_grammar.specs.Types.{WholeType, int_rule}
-use Rattle.snesl_grammar.specs.Programs.{typed, parameters_depth, declaration_depth, declarations_depth, WholeParameters, one_parameter, more_parameters, WholeDeclaration, input_rule, function_rule, more_declarations, FrontParameter, no_parameter, parameter_name, parameter_type, FrontParameters, first_parameter, next_parameter, FrontDeclaration, input_word, input_name, input_type, function_word, function_name, function_parameters, function_closed, function_result, function_body}
+use Rattle.snesl_grammar.specs.Programs.{typed, parameters_depth, declaration_depth, declarations_depth, WholeParameters, one_parameter}
+use Rattle.snesl_grammar.specs.Programs.{more_parameters, WholeDeclaration, input_rule, function_rule, more_declarations, FrontParameter}
+use Rattle.snesl_grammar.specs.Programs.{no_parameter, parameter_name, parameter_type, FrontParameters, first_parameter, next_parameter}
+use Rattle.snesl_grammar.specs.Programs.{FrontDeclaration, input_word, input_name, input_type, function_word, function_name, function_parameters}
+use Rattle.snesl_grammar.specs.Programs.{function_closed, function_result, function_body}
 use Rattle.snesl_syntax.specs.Programs.{Rest, programs}
 use Rattle.snesl_syntax.proofs.TypesRead.{type_depth_pos, types_are_read}
 use Rattle.snesl_syntax.proofs.Rests.{rest_depth, WholeRest, rest_rule, FrontRest, rest_in_declaration, rest_in_expression, IsReaderOfRests}

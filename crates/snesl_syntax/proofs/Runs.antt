@@ -9,8 +9,13 @@ use Rattle.snesl_expressions.specs.Readers.{at_any_depth, Reader, step, after_to
 use Rattle.snesl_expressions.proofs.Reading.{bind_ok, within_ok, fits_step, goes_on, steps_on, ends_with}
 use Rattle.snesl_grammar.specs.Types.{WholeType}
 use Rattle.snesl_syntax.specs.Types.{TypeState, types}
-use Rattle.snesl_grammar.specs.Programs.{typed, parameters_depth, declaration_depth, declarations_depth, WholeParameters, one_parameter, more_parameters, WholeDeclaration, input_rule, function_rule, WholeDeclarations, no_declarations, more_declarations}
-use Rattle.snesl_syntax.specs.Programs.{Rest, TypeOf, of_input, of_parameter, of_result, Header, ProgramState, between, awaits_input, awaits_input_colon, awaits_function, awaits_open, awaits_parameter, awaits_parameter_colon, awaits_result, in_type, in_body, in_final, lifted, or_else, when_whole, body_end, type_end, fixed_move, with_expression, finished_program, programs}
+use Rattle.snesl_grammar.specs.Programs.{typed, parameters_depth, declaration_depth, declarations_depth, WholeParameters, one_parameter}
+use Rattle.snesl_grammar.specs.Programs.{more_parameters, WholeDeclaration, input_rule, function_rule, WholeDeclarations, no_declarations}
+use Rattle.snesl_grammar.specs.Programs.{more_declarations}
+use Rattle.snesl_syntax.specs.Programs.{Rest, TypeOf, of_input, of_parameter, of_result, Header, ProgramState, between, awaits_input}
+use Rattle.snesl_syntax.specs.Programs.{awaits_input_colon, awaits_function, awaits_open, awaits_parameter, awaits_parameter_colon, awaits_result}
+use Rattle.snesl_syntax.specs.Programs.{in_type, in_body, in_final, lifted, or_else, when_whole, body_end, type_end, fixed_move, with_expression}
+use Rattle.snesl_syntax.specs.Programs.{finished_program, programs}
 use Rattle.snesl_expressions.specs.Readers.{IsReaderOf}
 use Rattle.snesl_syntax.proofs.Moves.{free_step, go_carried}
 use Rattle.snesl_syntax.proofs.TypesRead.{types_are_read}

@@ -11,8 +11,15 @@ use Rattle.snesl_expressions.specs.Readers.{TokenMove, Reader, after_tokens}
 use Rattle.snesl_expressions.proofs.Reading.{ends_with, fits_step}
 use Rattle.snesl_grammar.specs.Types.{WholeType, FrontType}
 use Rattle.snesl_syntax.specs.Types.{TypeState, types}
-use Rattle.snesl_grammar.specs.Programs.{typed, parameters_depth, declaration_depth, declarations_depth, WholeParameters, one_parameter, more_parameters, WholeDeclaration, input_rule, function_rule, WholeDeclarations, no_declarations, more_declarations, FrontParameter, no_parameter, parameter_name, parameter_type, FrontParameters, first_parameter, next_parameter, FrontDeclaration, input_word, input_name, input_type, function_word, function_name, function_parameters, function_closed, function_result, function_body}
-use Rattle.snesl_syntax.specs.Programs.{Rest, TypeOf, of_input, of_parameter, of_result, Header, ProgramState, between, awaits_input, awaits_input_colon, awaits_function, awaits_open, awaits_parameter, awaits_parameter_colon, awaits_result, in_type, in_body, in_final, lifted, when_whole, span, body_end, type_end, fixed_move, with_expression, programs}
+use Rattle.snesl_grammar.specs.Programs.{typed, parameters_depth, declaration_depth, declarations_depth, WholeParameters, one_parameter}
+use Rattle.snesl_grammar.specs.Programs.{more_parameters, WholeDeclaration, input_rule, function_rule, WholeDeclarations, no_declarations}
+use Rattle.snesl_grammar.specs.Programs.{more_declarations, FrontParameter, no_parameter, parameter_name, parameter_type, FrontParameters}
+use Rattle.snesl_grammar.specs.Programs.{first_parameter, next_parameter, FrontDeclaration, input_word, input_name, input_type, function_word}
+use Rattle.snesl_grammar.specs.Programs.{function_name, function_parameters, function_closed, function_result, function_body}
+use Rattle.snesl_syntax.specs.Programs.{Rest, TypeOf, of_input, of_parameter, of_result, Header, ProgramState, between, awaits_input}
+use Rattle.snesl_syntax.specs.Programs.{awaits_input_colon, awaits_function, awaits_open, awaits_parameter, awaits_parameter_colon, awaits_result}
+use Rattle.snesl_syntax.specs.Programs.{in_type, in_body, in_final, lifted, when_whole, span, body_end, type_end, fixed_move, with_expression}
+use Rattle.snesl_syntax.specs.Programs.{programs}
 use Rattle.snesl_syntax.proofs.Moves.{Good, good_or, good_carried, good_when, go_stands}
 use Rattle.snesl_syntax.proofs.TypesRead.{types_are_read}
 use Rattle.snesl_syntax.proofs.Rests.{rest_depth, WholeRest, rest_rule, FrontRest, rest_in_declaration, rest_in_expression}
@@ -220,7 +227,9 @@ module _ {State : Type 0} (expressions : Reader State Tree) (right : ReadsExpres
   -- the end of a body
   body_end_keeps : {d : ℕ} {header : Header} {ts : List Token} → OpensBody d header ts → (us : List Token) (body : Tree)
       → Whole 0 us body → depth body ≤ d → (k : TokenKind) (at : ℕ) → Keeps d (ts ++ us) (token k at) (body_end header k body)
-  body_end_keeps {d = d} (opens_body begun function opened closed colon equals {done = done} {parameters = parameters} {result = result} {ts = ts} {us = vs} {vs = ws} h wp roomy wr room) us body w fits Semicolon at = λ want.
+  body_end_keeps {d = d}
+      (opens_body begun function opened closed colon equals {done = done} {parameters = parameters} {result = result} {ts = ts} {us = vs} {vs = ws} h wp
+      roomy wr room) us body w fits Semicolon at = λ want.
       along d (between (done ++ declares_function function parameters result body ∷ [])) (simp append_assoc)
       (stands_between (declared_more h (function_rule begun function opened closed colon equals at wp wr w) (omega arith)))
   body_end_keeps o us body w fits _ at = tt

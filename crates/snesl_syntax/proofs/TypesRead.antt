@@ -8,7 +8,8 @@ use Rattle.snesl_tree.specs.Tree.{TypeTree, int_type, bool_type, pair_type, vect
 use Rattle.snesl_grammar.specs.Expressions.{token}
 use Rattle.snesl_expressions.specs.Readers.{TokenMove, after_tokens}
 use Rattle.snesl_expressions.proofs.Reading.{goes_on, steps_on, ends_with, fits_step}
-use Rattle.snesl_grammar.specs.Types.{WholeType, int_rule, bool_rule, pair_type_rule, vector_rule, sequence_rule, FrontType, no_type, whole_type, pair_type_first, pair_type_second, vector_item, sequence_item}
+use Rattle.snesl_grammar.specs.Types.{WholeType, int_rule, bool_rule, pair_type_rule, vector_rule, sequence_rule, FrontType, no_type, whole_type}
+use Rattle.snesl_grammar.specs.Types.{pair_type_first, pair_type_second, vector_item, sequence_item}
 use Rattle.snesl_syntax.specs.Types.{MayFollowType, TypeFrame, in_first, in_second, in_vector, in_sequence, TypeState, type_begins, type_ended, type_move, finished_type, types}
 use Rattle.snesl_expressions.specs.Readers.{IsReaderOf}
 use Rattle.snesl_syntax.proofs.Moves.{free_step, Good, go_stands}

@@ -14,7 +14,8 @@ use Rattle.snesl_grammar.specs.Limits.{greatest_length, greatest_depth}
 use Rattle.snesl_grammar.specs.Programs.{FrontProgram, program_depth}
 use Rattle.snesl_grammar.specs.Spelled.{IsSpelled}
 use Rattle.snesl_syntax.specs.Answer.{parse_rest}
-use Rattle.snesl_syntax.specs.Parse.{AnswersBy, AnswersTokens, accepted, wrong, too_deep, ended, Parses, too_long, bad_byte, read, HaveOneAnswer, BeginsProgram, FrontsBeginPrograms, IsOfText, IsRight, Returns}
+use Rattle.snesl_syntax.specs.Parse.{AnswersBy, AnswersTokens, accepted, wrong, too_deep, ended, Parses, too_long, bad_byte, read, HaveOneAnswer}
+use Rattle.snesl_syntax.specs.Parse.{BeginsProgram, FrontsBeginPrograms, IsOfText, IsRight, Returns}
 use Rattle.snesl_syntax.specs.DialectMachine.{reader, FindsWhole, FindsOneOf}
 use Rattle.snesl_expressions.proofs.Depths.{depth_pos}
 use Rattle.snesl_syntax.proofs.Exact.{so_far, answers, one_answer}

@@ -7,7 +7,8 @@ use Rattle.snesl_lexer.specs.declared.token.TokenKind.TheVariants.{Integer, Semi
 use Rattle.snesl_lexer.specs.declared.token.Token.{Token}
 use Rattle.snesl_tree.specs.Tree.{name, ProgramTree}
 use Rattle.snesl_grammar.specs.Expressions.{token, name_rule, nothing}
-use Rattle.snesl_grammar.specs.Programs.{program_depth, no_declarations, WholeDialect, no_dialect, dialect_rule, WholeProgram, program_rule, FrontProgram, dialect_word, dialect_number, in_declaration, in_expression}
+use Rattle.snesl_grammar.specs.Programs.{program_depth, no_declarations, WholeDialect, no_dialect, dialect_rule, WholeProgram, program_rule}
+use Rattle.snesl_grammar.specs.Programs.{FrontProgram, dialect_word, dialect_number, in_declaration, in_expression}
 use Rattle.snesl_expressions.specs.Readers.{TokenMove, Reader, step, after_tokens}
 use Rattle.snesl_expressions.proofs.Reading.{bind_ok, within_ok, fits_step, steps_on, ends_with}
 use Rattle.snesl_syntax.specs.Programs.{Rest, lifted, or_else}

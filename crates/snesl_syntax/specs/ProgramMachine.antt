@@ -19,7 +19,9 @@ use Rattle.snesl_syntax.specs.declared.programs.ProgramPoint.{ProgramPoint}
 use Rattle.snesl_syntax.specs.declared.programs.ProgramPoint.TheVariants as points
 use Rattle.snesl_syntax.specs.declared.programs.ProgramMachine.{ProgramMachine}
 use Rattle.snesl_syntax.specs.declared.programs.Parsed.{Parsed}
-use Rattle.snesl_syntax.specs.Programs.{Rest, TypeOf, of_input, of_parameter, of_result, ProgramState, between, awaits_input, awaits_input_colon, awaits_function, awaits_open, awaits_parameter, awaits_parameter_colon, awaits_result, in_type, in_body, in_final, type_end, programs}
+use Rattle.snesl_syntax.specs.Programs.{Rest, TypeOf, of_input, of_parameter, of_result, ProgramState, between, awaits_input, awaits_input_colon}
+use Rattle.snesl_syntax.specs.Programs.{awaits_function, awaits_open, awaits_parameter, awaits_parameter_colon, awaits_result, in_type, in_body}
+use Rattle.snesl_syntax.specs.Programs.{in_final, type_end, programs}
 use Rattle.snesl_syntax.specs.Programs.{Header as OpenFunction}
 use Rattle.snesl_syntax.specs.TypeMachine.{type_state, IsStep}
 

@@ -86,9 +86,13 @@ appended_makes at streams u v t xs c d =
     let on = streams ++ groups.0 in
     let h = (flags_stepped at append_flags (f ∷ g ∷ []) (length streams)).given in
     let lefter : Carries on (item_wires u) t (concatenation (lefts xs)) =
-    carried_on streams groups.0 (item_wires u) t (concatenation (lefts xs)) (subst (λ gs. Carries streams (item_wires u) t (concatenation gs)) (elements_made (lefts xs)) (items_carry streams u t (left_sequences xs) c)) in
+    carried_on streams groups.0 (item_wires u) t (concatenation (lefts xs))
+    (subst (λ gs. Carries streams (item_wires u) t (concatenation gs)) (elements_made (lefts xs)) (items_carry streams u t (left_sequences xs) c))
+    in
     let righter : Carries on (item_wires v) t (concatenation (rights xs)) =
-    carried_on streams groups.0 (item_wires v) t (concatenation (rights xs)) (subst (λ gs. Carries streams (item_wires v) t (concatenation gs)) (elements_made (rights xs)) (items_carry streams v t (right_sequences xs) d)) in
+    carried_on streams groups.0 (item_wires v) t (concatenation (rights xs))
+    (subst (λ gs. Carries streams (item_wires v) t (concatenation gs)) (elements_made (rights xs)) (items_carry streams v t (right_sequences xs) d))
+    in
     let mix : Makes on t (mixed at f g (item_wires u) (item_wires v) (length on)) (alternated xs) =
     sides_make at f g on (item_wires u) (item_wires v) t xs (both_on streams groups.0 f g ns ms both) lefter righter in
     let back : gs ≡ map elements_of (all_sequences xs) = sym (elements_made gs) in

@@ -32,9 +32,11 @@ head_goes streams s ts first rest (Some vs) after goes later = by_case (after vs
     by_case (Some rows) does = then_does first rest streams (λ l w. Carries l w s vs) (λ l us. AllCarry l us ts rows) goes does
 
 -- arguments, and then arguments
-tail_goes : (streams : Columns) (ss ts : List Ty) (first : Making (List Wires)) (rest : List Wires → ℕ → Making (List Wires)) (o : Option (List (List Value))) (after : List (List Value) → Option (List (List Value)))
+tail_goes : (streams : Columns) (ss ts : List Ty) (first : Making (List Wires)) (rest : List Wires → ℕ → Making (List Wires))
+    (o : Option (List (List Value))) (after : List (List Value) → Option (List (List Value)))
     → GoAll streams ss first o
-    → ((more : Columns) (us : List Wires) (rows : List (List Value)) → o ≡ Some rows → AllCarry (streams ++ more) us ss rows → GoAll (streams ++ more) ts (rest us (length (streams ++ more))) (after rows))
+    → ((more : Columns) (us : List Wires) (rows : List (List Value)) → o ≡ Some rows → AllCarry (streams ++ more) us ss rows →
+    GoAll (streams ++ more) ts (rest us (length (streams ++ more))) (after rows))
     → GoAll streams ts (and_then first rest) (bind o after)
 tail_goes streams ss ts first rest None after goes later = first_stops first rest streams goes
 tail_goes streams ss ts first rest (Some rows) after goes later = by_case (after rows) (later goes.0 first.given rows refl goes.3)
@@ -44,9 +46,11 @@ tail_goes streams ss ts first rest (Some rows) after goes later = by_case (after
     by_case (Some others) does = then_does first rest streams (λ l us. AllCarry l us ss rows) (λ l us. AllCarry l us ts others) goes does
 
 -- arguments, and then an expression
-pub arguments_go : (streams : Columns) (ss : List Ty) (t : Ty) (first : Making (List Wires)) (rest : List Wires → ℕ → Making Wires) (o : Option (List (List Value))) (after : List (List Value) → Option (List Value))
+pub arguments_go : (streams : Columns) (ss : List Ty) (t : Ty) (first : Making (List Wires)) (rest : List Wires → ℕ → Making Wires)
+    (o : Option (List (List Value))) (after : List (List Value) → Option (List Value))
     → GoAll streams ss first o
-    → ((more : Columns) (us : List Wires) (rows : List (List Value)) → o ≡ Some rows → AllCarry (streams ++ more) us ss rows → GoesTo (streams ++ more) t (rest us (length (streams ++ more))) (after rows))
+    → ((more : Columns) (us : List Wires) (rows : List (List Value)) → o ≡ Some rows → AllCarry (streams ++ more) us ss rows →
+    GoesTo (streams ++ more) t (rest us (length (streams ++ more))) (after rows))
     → GoesTo streams t (and_then first rest) (bind o after)
 arguments_go streams ss t first rest None after goes later = first_stops first rest streams goes
 arguments_go streams ss t first rest (Some rows) after goes later = by_case (after rows) (later goes.0 first.given rows refl goes.3)
@@ -68,7 +72,9 @@ more_mean context t ts names others first rest one all h g streams bound control
     (λ more u vs is cu.
     let there = streams ++ more in
     tail_goes there ts (t ∷ ts) (rest bound control (length there)) (λ us k. done (u ∷ us) k) (each all environments) (λ rows. Some (map (λ p. p.0 ∷ p.1) (zip vs rows)))
-    (g there bound control environments (borne_on streams more bound others context environments (borne_right streams bound names others context environments bears)) (controls_on streams more control (length environments) controls))
+    (g there bound control environments
+    (borne_on streams more bound others context environments (borne_right streams bound names others context environments bears))
+    (controls_on streams more control (length environments) controls))
     (λ later us rows is' cus.
     let last = there ++ later in
     let long : length vs ≡ length rows = each_length one environments vs is ∙ sym (each_length all environments rows is') in

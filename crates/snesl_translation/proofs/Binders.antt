@@ -39,7 +39,8 @@ use Rattle.snesl_translation.proofs.Grouping.{grouped_from}
 use Rattle.snesl_translation.proofs.Rows.{all_fit, fits_with, empty_fit, with_column_length}
 
 -- what is carried stays so
-pub sources_on : (streams more : Columns) (sources : Sources) (items : List InputDeclaration) (all : List BoundItems) → SourcesCarry streams sources items all → SourcesCarry (streams ++ more) sources items all
+pub sources_on : (streams more : Columns) (sources : Sources) (items : List InputDeclaration) (all : List BoundItems) →
+    SourcesCarry streams sources items all → SourcesCarry (streams ++ more) sources items all
 sources_on streams more [] [] all h = h
 sources_on streams more [] (item ∷ items) all h = absurd h
 sources_on streams more (source ∷ sources) [] all h = absurd h
@@ -49,7 +50,8 @@ sources_on streams more (source ∷ sources) (item ∷ items) all (groups, other
 -- makings one after the other
 
 -- an expression, and then sources
-head_goes : (streams : Columns) (s : Ty) (items : List InputDeclaration) (first : Making Wires) (rest : Wires → ℕ → Making Sources) (o : Option (List Value)) (after : List Value → Option (List BoundItems))
+head_goes : (streams : Columns) (s : Ty) (items : List InputDeclaration) (first : Making Wires) (rest : Wires → ℕ → Making Sources)
+    (o : Option (List Value)) (after : List Value → Option (List BoundItems))
     → GoesTo streams s first o
     → ((more : Columns) (w : Wires) (vs : List Value) → o ≡ Some vs → Carries (streams ++ more) w s vs → SourcesGo (streams ++ more) items (rest w (length (streams ++ more))) (after vs))
     → SourcesGo streams items (and_then first rest) (bind o after)
@@ -61,9 +63,11 @@ head_goes streams s items first rest (Some vs) after goes later = by_case (after
     by_case (Some all) does = then_does first rest streams (λ l w. Carries l w s vs) (λ l us. SourcesCarry l us items all) goes does
 
 -- sources, and then sources
-tail_goes : (streams : Columns) (items more_items : List InputDeclaration) (first : Making Sources) (rest : Sources → ℕ → Making Sources) (o : Option (List BoundItems)) (after : List BoundItems → Option (List BoundItems))
+tail_goes : (streams : Columns) (items more_items : List InputDeclaration) (first : Making Sources) (rest : Sources → ℕ → Making Sources)
+    (o : Option (List BoundItems)) (after : List BoundItems → Option (List BoundItems))
     → SourcesGo streams items first o
-    → ((more : Columns) (us : Sources) (all : List BoundItems) → o ≡ Some all → SourcesCarry (streams ++ more) us items all → SourcesGo (streams ++ more) more_items (rest us (length (streams ++ more))) (after all))
+    → ((more : Columns) (us : Sources) (all : List BoundItems) → o ≡ Some all → SourcesCarry (streams ++ more) us items all →
+    SourcesGo (streams ++ more) more_items (rest us (length (streams ++ more))) (after all))
     → SourcesGo streams more_items (and_then first rest) (bind o after)
 tail_goes streams items more_items first rest None after goes later = first_stops first rest streams goes
 tail_goes streams items more_items first rest (Some all) after goes later = by_case (after all) (later goes.0 first.given all refl goes.3)
@@ -73,9 +77,11 @@ tail_goes streams items more_items first rest (Some all) after goes later = by_c
     by_case (Some others) does = then_does first rest streams (λ l us. SourcesCarry l us items all) (λ l us. SourcesCarry l us more_items others) goes does
 
 -- sources, and then an expression
-pub sources_go : (streams : Columns) (items : List InputDeclaration) (t : Ty) (first : Making Sources) (rest : Sources → ℕ → Making Wires) (o : Option (List BoundItems)) (after : List BoundItems → Option (List Value))
+pub sources_go : (streams : Columns) (items : List InputDeclaration) (t : Ty) (first : Making Sources) (rest : Sources → ℕ → Making Wires)
+    (o : Option (List BoundItems)) (after : List BoundItems → Option (List Value))
     → SourcesGo streams items first o
-    → ((more : Columns) (us : Sources) (all : List BoundItems) → o ≡ Some all → SourcesCarry (streams ++ more) us items all → GoesTo (streams ++ more) t (rest us (length (streams ++ more))) (after all))
+    → ((more : Columns) (us : Sources) (all : List BoundItems) → o ≡ Some all → SourcesCarry (streams ++ more) us items all →
+    GoesTo (streams ++ more) t (rest us (length (streams ++ more))) (after all))
     → GoesTo streams t (and_then first rest) (bind o after)
 sources_go streams items t first rest None after goes later = first_stops first rest streams goes
 sources_go streams items t first rest (Some all) after goes later = by_case (after all) (later goes.0 first.given all refl goes.3)
@@ -145,8 +151,11 @@ module _ (at : ℕ) (name : List ℕ) (one : Environment → Option Value) (all 
       let groups = by.groups in
       let read : each (λ v. given_by (items_at at v)) vs ≡ Some groups = ap (each (λ v. given_by (items_at at v))) by.view ∙ groups_read at groups in
       subst (SourcesGo there every (behind u (length there))) (sym (ap (λ o. bind o (with_others environments)) read))
-      (tail_goes there items every (rest bound control (length there)) (λ sources k. done ((name, u) ∷ sources) k) (each all environments) (λ columns. each (λ p. Some ((name, p.0) ∷ p.1)) (zip groups columns))
-      (g there bound control environments (borne_on streams more bound others context environments (borne_right streams bound names others context environments bears)) (controls_on streams more control (length environments) controls))
+      (tail_goes there items every (rest bound control (length there)) (λ sources k. done ((name, u) ∷ sources) k) (each all environments)
+      (λ columns. each (λ p. Some ((name, p.0) ∷ p.1)) (zip groups columns))
+      (g there bound control environments
+      (borne_on streams more bound others context environments (borne_right streams bound names others context environments bears))
+      (controls_on streams more control (length environments) controls))
       (λ later sources columns is' cs.
       let last = there ++ later in
       let long : length groups ≡ length columns =
@@ -188,7 +197,8 @@ same_flags_test ns ms = by_case (same_lists ◌==◌ ms ns) refl
     by_case true e = ap (λ l. same_flags_made (flags l ∷ flags ms ∷ [])) (sym (same_numbers_back ms ns e)) ∙ same_flags_makes ms
     by_case false e = other_flags ns ms (same_flags_made (flags ns ∷ flags ms ∷ [])) e refl
 
-tested_then : (streams : Columns) (behind : List Step) (b c : Bool) → run behind streams ≡ only_if c streams → bind (only_if b []) (λ written. run behind (streams ++ written)) ≡ only_if (b && c) streams
+tested_then : (streams : Columns) (behind : List Step) (b c : Bool) → run behind streams ≡ only_if c streams →
+    bind (only_if b []) (λ written. run behind (streams ++ written)) ≡ only_if (b && c) streams
 tested_then streams behind true c e = ap (run behind) (append-nil streams) ∙ e
 tested_then streams behind false c e = refl
 

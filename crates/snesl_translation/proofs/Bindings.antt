@@ -153,6 +153,8 @@ binding_means context name s t names others value body one other h g streams bou
     let inner = with_name name environments vs in
     let borne = borne_with there bound name u s others context environments vs long cu
     (borne_on streams more bound (without name others) context environments (borne_right streams bound names (without name others) context environments bears)) in
-    let counted : Controls there control (length inner) = subst (Controls there control) (sym (with_name_length name environments vs long)) (controls_on streams more control (length environments) controls) in
+    let counted : Controls there control (length inner) =
+    subst (Controls there control) (sym (with_name_length name environments vs long))
+    (controls_on streams more control (length environments) controls) in
     subst (GoesTo there t (body ((name, u) ∷ bound) control (length there))) (each_map other (λ p. (name, p.1) ∷ p.0) (zip environments vs))
     (g there ((name, u) ∷ bound) control inner borne counted)))

@@ -135,7 +135,9 @@ module _ (move : Wires → ℕ → Making Wires) (After : Columns → List ℕ �
 
     entry_moved : (streams : Columns) → ForNames names (entry ∷ bound) (Moves streams) → is_among entry.0 names ≡ true
         → ((later : Columns) → ForNames (without entry.0 names) bound (Moves later) → AllMoved (without entry.0 names) bound later)
-        → Does streams (and_then (move entry.1 (length streams)) (λ u k. and_then (all_moved move (without entry.0 names) bound k) (λ others k. done ((entry.0, u) ∷ others) k))) (Moved names (entry ∷ bound))
+        → Does streams (and_then (move entry.1 (length streams))
+        (λ u k. and_then (all_moved move (without entry.0 names) bound k) (λ others k. done ((entry.0, u) ∷ others) k)))
+        (Moved names (entry ∷ bound))
     entry_moved streams h among ih =
         let self = bytes_self entry.0 in
         let moves = subst (Moves streams entry.0) (wires_here entry.0 entry bound self) (h entry.0 among (bound_here entry.0 entry bound self)) in

@@ -26,7 +26,8 @@ module _ (dialect : Dialect) (at : ℕ) (streams : Columns) where
   typed : (function : Builtin) (u : Wires) (s t : Ty) (vs : List Value) → Some s ≡ Some t → CallGoes function u s vs → CallGoes function u t vs
   typed function u s t vs e h = goes_typed streams s t (call_streams dialect at function (u ∷ []) (length streams)) (go_all (λ v. applied dialect at function (v ∷ [])) vs) e h
 
-  tab_typed : (u : Wires) (item t : Ty) (vs : List Value) (concrete : Bool) → is_concrete item ≡ concrete → (if concrete then Some (vec item) else None) ≡ Some t → Carries streams u (seq item) vs → CallGoes Tab u t vs
+  tab_typed : (u : Wires) (item t : Ty) (vs : List Value) (concrete : Bool) → is_concrete item ≡ concrete →
+      (if concrete then Some (vec item) else None) ≡ Some t → Carries streams u (seq item) vs → CallGoes Tab u t vs
   tab_typed u item t vs true is e c = typed Tab u (vec item) t vs e (tab_goes dialect at streams u item vs is c)
   tab_typed u item t vs false is e c = absurd (cc)
 
@@ -52,7 +53,8 @@ module _ (dialect : Dialect) (at : ℕ) (streams : Columns) where
   part_typed : (function : Builtin) (u v : Wires) (s r t : Ty) (ps : List (Value × Value)) → function ≡ Part → result_of function (s ∷ r ∷ []) ≡ Some t → Carries streams u s (map (λ p. p.0) ps)
       → Carries streams v r (map (λ p. p.1) ps) → Goes streams t (call_streams dialect at function (u ∷ v ∷ []) (length streams)) (go_all (λ p. applied dialect at function (p.0 ∷ p.1 ∷ [])) ps)
   part_typed Part u v (seq item) (seq bool) t ps is e cu cv =
-      goes_typed streams (seq (seq item)) t (call_streams dialect at Part (u ∷ v ∷ []) (length streams)) (go_all (λ p. applied dialect at Part (p.0 ∷ p.1 ∷ [])) ps) e (part_goes dialect at streams u v item ps cu cv)
+      goes_typed streams (seq (seq item)) t (call_streams dialect at Part (u ∷ v ∷ []) (length streams))
+      (go_all (λ p. applied dialect at Part (p.0 ∷ p.1 ∷ [])) ps) e (part_goes dialect at streams u v item ps cu cv)
   part_typed Part u v _ _ t ps is e cu cv = absurd (cc)
   part_typed _ u v s r t ps is e cu cv = absurd (cc)
 

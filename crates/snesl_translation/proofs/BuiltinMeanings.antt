@@ -50,13 +50,15 @@ module _ (dialect : Dialect) (at : ℕ) (streams : Columns) where
   append_typed a b t false same is u v ps cu cv = absurd (cc)
 
   -- each operator between its operands
-  pub operator_goes : (operator : Operator) (s r t : Ty) → operator_result operator s r ≡ Some t → (u v : Wires) (ps : List (Value × Value)) → Carries streams u s (map (λ p. p.0) ps) → Carries streams v r (map (λ p. p.1) ps)
+  pub operator_goes : (operator : Operator) (s r t : Ty) → operator_result operator s r ≡ Some t → (u v : Wires) (ps : List (Value × Value)) →
+      Carries streams u s (map (λ p. p.0) ps) → Carries streams v r (map (λ p. p.1) ps)
       → Goes streams t (binary_streams dialect at operator u v (length streams)) (go_all (λ p. binary_answer dialect at operator p.0 p.1) ps)
   operator_goes Append (seq a) (seq b) t is u v ps cu cv = append_typed a b t (is_same a b) refl is u v ps cu cv
   operator_goes Append _ _ t is u v ps cu cv = absurd (cc)
   operator_goes operator s r t is u v ps cu cv = binary_goes dialect at streams operator u v s r t ps is (λ no. absurd (cc)) cu cv
 
-  pub operator_goes_to : (operator : Operator) (s r t : Ty) → operator_result operator s r ≡ Some t → (u v : Wires) (ps : List (Value × Value)) → Carries streams u s (map (λ p. p.0) ps) → Carries streams v r (map (λ p. p.1) ps)
+  pub operator_goes_to : (operator : Operator) (s r t : Ty) → operator_result operator s r ≡ Some t → (u v : Wires) (ps : List (Value × Value)) →
+      Carries streams u s (map (λ p. p.0) ps) → Carries streams v r (map (λ p. p.1) ps)
       → GoesTo streams t (binary_streams dialect at operator u v (length streams)) (each (λ p. given_by (binary_answer dialect at operator p.0 p.1)) ps)
   operator_goes_to operator s r t is u v ps cu cv =
       subst (GoesTo streams t (binary_streams dialect at operator u v (length streams))) (given_all (λ p. binary_answer dialect at operator p.0 p.1) ps) (operator_goes operator s r t is u v ps cu cv)
@@ -83,7 +85,8 @@ module _ (dialect : Dialect) (at : ℕ) (streams : Columns) where
   builtin_goes_to function (s ∷ r ∷ q ∷ more) t is us rows h = absurd (none_of_more_arguments function s r q t more is)
 
 -- the same value at each instance means the same
-pub means_same : (context : Context) (t : Ty) (names : Names) (translated : Bound → ℕ → ℕ → Making Wires) (one other : Environment → Option Value) → ((environment : Environment) → one environment ≡ other environment)
+pub means_same : (context : Context) (t : Ty) (names : Names) (translated : Bound → ℕ → ℕ → Making Wires) (one other : Environment → Option Value) →
+    ((environment : Environment) → one environment ≡ other environment)
     → IsTranslation translated one names context t → IsTranslation translated other names context t
 means_same context t names translated one other same h streams bound control environments bears controls =
     subst (GoesTo streams t (translated bound control (length streams))) (each_same one other same environments) (h streams bound control environments bears controls)
@@ -108,14 +111,17 @@ module _ (dialect : Dialect) (text : List ℕ) (calls : Calls) (bodies : Bodies)
       (λ environment. given_by (eval dialect operand text calls environment)) (λ v. given_by (prefix_answer dialect at operator v)) h
       (λ streams u vs c. prefix_goes_to dialect at streams operator s t is u vs c))
 
-  pub binary_means : (at : ℕ) (operator : Operator) (left right : Tree) (r s t : Ty) → operator_result operator r s ≡ Some t → TreeMeans left r → TreeMeans right s → TreeMeans (binary at operator left right) t
+  pub binary_means : (at : ℕ) (operator : Operator) (left right : Tree) (r s t : Ty) → operator_result operator r s ≡ Some t → TreeMeans left r →
+      TreeMeans right s → TreeMeans (binary at operator left right) t
   binary_means at operator left right r s t is h g =
       means_same context t (free text left ++ free text right) (tr dialect text bodies (binary at operator left right))
-      (λ environment. bind (given_by (eval dialect left text calls environment)) (λ v. bind (given_by (eval dialect right text calls environment)) (λ w. given_by (binary_answer dialect at operator v w))))
+      (λ environment. bind (given_by (eval dialect left text calls environment))
+      (λ v. bind (given_by (eval dialect right text calls environment)) (λ w. given_by (binary_answer dialect at operator v w))))
       (λ environment. given_by (eval dialect (binary at operator left right) text calls environment))
       (λ environment. sym (two_given (eval dialect left text calls environment) (eval dialect right text calls environment) (binary_answer dialect at operator)))
       (both_mean context r s t (free text left) (free text right) (tr dialect text bodies left) (tr dialect text bodies right) (λ u v k. binary_streams dialect at operator u v k)
-      (λ environment. given_by (eval dialect left text calls environment)) (λ environment. given_by (eval dialect right text calls environment)) (λ v w. given_by (binary_answer dialect at operator v w)) h g
+      (λ environment. given_by (eval dialect left text calls environment)) (λ environment. given_by (eval dialect right text calls environment))
+      (λ v w. given_by (binary_answer dialect at operator v w)) h g
       (λ streams u v ps cu cv. operator_goes_to dialect at streams operator r s t is u v ps cu cv))
     where
       after : (w : Answer Value) (f : Value → Value → Answer Value) (v : Value) → given_by (go w (f v)) ≡ bind (given_by w) (λ w. given_by (f v w))

@@ -14,7 +14,8 @@ use Rattle.snesl_evaluation.specs.Answer.{gives}
 use Rattle.snesl_evaluation.specs.Eval.{Calls, eval, parameters_with, function_answer, with_declaration, calls_after}
 use Rattle.snesl_types.specs.Contexts.{names_context, Signature, Signatures, function_named}
 use Rattle.snesl_types.specs.Typing.{Types}
-use Rattle.snesl_types.specs.Programs.{Declared, with_inputs, with_function, typed_name, signature_of, NamesType, no_names, more_names, FunctionTypes, function_type, DeclarationsType, no_declarations, input_declared, function_declared}
+use Rattle.snesl_types.specs.Programs.{Declared, with_inputs, with_function, typed_name, signature_of, NamesType, no_names, more_names, FunctionTypes}
+use Rattle.snesl_types.specs.Programs.{function_type, DeclarationsType, no_declarations, input_declared, function_declared}
 use Rattle.flow_base.specs.Columns.{Columns}
 use Rattle.flow_rows.specs.Lists.{bind, each}
 use Rattle.snesl_translation.specs.Wires.{Wires}
@@ -29,7 +30,8 @@ use Rattle.snesl_translation.proofs.Operands.{each_after}
 use Rattle.snesl_translation.proofs.Bindings.{with_name, borne_with}
 
 -- the names of parameters with their types, after others
-parameter_declarations : {text : List ℕ} {earlier all : List InputDeclaration} {written : List TypedName} → NamesType text earlier written all → (given : List InputDeclaration) × (all ≡ earlier ++ given)
+parameter_declarations : {text : List ℕ} {earlier all : List InputDeclaration} {written : List TypedName} → NamesType text earlier written all →
+    (given : List InputDeclaration) × (all ≡ earlier ++ given)
 parameter_declarations no_names = ([], sym (append-nil _))
 parameter_declarations {text = text} {earlier = earlier} (more_names {first = first} {t = t} new is h) =
     let p = parameter_declarations h in (typed_name text first t ∷ p.0, p.1 ∙ append_assoc earlier (typed_name text first t ∷ []) p.0)
@@ -37,7 +39,8 @@ parameter_declarations {text = text} {earlier = earlier} (more_names {first = fi
 -- the environments of calls
 
 -- a row with one more value in front, and what its parameters stand for
-named_rows : (name : List ℕ) (f : List Value → Option Environment) (vs : List Value) (rows : List (List Value)) (environments : List Environment) → length vs ≡ length rows → each f rows ≡ Some environments
+named_rows : (name : List ℕ) (f : List Value → Option Environment) (vs : List Value) (rows : List (List Value)) (environments : List Environment) →
+    length vs ≡ length rows → each f rows ≡ Some environments
     → each (λ (p : Value × List Value). bind (f p.1) (λ environment. Some ((name, p.0) ∷ environment))) (zip vs rows) ≡ Some (with_name name environments vs)
 named_rows name f [] [] environments e is = let same : [] ≡ environments = cc in ap (λ l. Some (with_name name l [])) same
 named_rows name f [] (row ∷ rows) environments e is = absurd (omega (arith))
@@ -45,9 +48,13 @@ named_rows name f (v ∷ vs) [] environments e is = absurd (omega (arith))
 named_rows name f (v ∷ vs) (row ∷ rows) environments e is = by_case (f row) (each f rows) (λ others h. named_rows name f vs rows others (omega (arith)) h) is
   where
     by_case : (o : Option Environment) (p : Option (List Environment))
-        → ((others : List Environment) → p ≡ Some others → each (λ (p : Value × List Value). bind (f p.1) (λ environment. Some ((name, p.0) ∷ environment))) (zip vs rows) ≡ Some (with_name name others vs))
+        → ((others : List Environment) → p ≡ Some others →
+        each (λ (p : Value × List Value). bind (f p.1) (λ environment. Some ((name, p.0) ∷ environment))) (zip vs rows)
+        ≡ Some (with_name name others vs))
         → bind o (λ y. option_map (λ ys. y ∷ ys) p) ≡ Some environments
-        → bind (bind o (λ environment. Some ((name, v) ∷ environment))) (λ y. option_map (λ ys. y ∷ ys) (each (λ (p : Value × List Value). bind (f p.1) (λ environment. Some ((name, p.0) ∷ environment))) (zip vs rows)))
+        → bind (bind o (λ environment. Some ((name, v) ∷ environment)))
+        (λ y. option_map (λ ys. y ∷ ys)
+        (each (λ (p : Value × List Value). bind (f p.1) (λ environment. Some ((name, p.0) ∷ environment))) (zip vs rows)))
         ≡ Some (with_name name environments (v ∷ vs))
     by_case None p rest e = absurd (cc)
     by_case (Some environment) None rest e = absurd (cc)
@@ -74,7 +81,8 @@ parameters_mean at text streams earlier all written no_names = (
   λ us rows carry. by_wires us rows carry,
 )
   where
-    by_wires : (us : List Wires) (rows : List (List Value)) → AllCarry streams us [] rows → (environments : List Environment) × (each (λ row. given_by (parameters_with at text [] row)) rows ≡ Some environments)
+    by_wires : (us : List Wires) (rows : List (List Value)) → AllCarry streams us [] rows → (environments : List Environment)
+        × (each (λ row. given_by (parameters_with at text [] row)) rows ≡ Some environments)
         × (length environments ≡ length rows) × ((names : Names) → Bears streams [] names [] environments)
     by_wires [] rows carry = let h = empty_environments at text rows carry in (h.0, h.1, h.2, λ names bytes t among is. absurd (cc))
     by_wires (u ∷ us) rows carry = absurd carry
@@ -97,11 +105,13 @@ parameters_mean at text streams earlier all written (more_names {first = first} 
         let name = spelling text first.place in
         let inner = with_name name h.0 vs in
         let count : length vs ≡ length h.0 = long ∙ sym h.2 in
-        let one : (p : Value × List Value) → given_by (parameters_with at text (first ∷ others) (p.0 ∷ p.1)) ≡ bind (given_by (parameters_with at text others p.1)) (λ environment. Some ((name, p.0) ∷ environment)) =
+        let one : (p : Value × List Value) → given_by (parameters_with at text (first ∷ others) (p.0 ∷ p.1))
+        ≡ bind (given_by (parameters_with at text others p.1)) (λ environment. Some ((name, p.0) ∷ environment)) =
         λ p. given_go (parameters_with at text others p.1) (λ environment. gives ((name, p.0) ∷ environment)) in
         let made : each (λ row. given_by (parameters_with at text (first ∷ others) row)) (map (λ p. p.0 ∷ p.1) (zip vs others_rows)) ≡ Some inner =
         each_map (λ row. given_by (parameters_with at text (first ∷ others) row)) (λ (p : Value × List Value). p.0 ∷ p.1) (zip vs others_rows)
-        ∙ each_same (λ (p : Value × List Value). given_by (parameters_with at text (first ∷ others) (p.0 ∷ p.1))) (λ p. bind (given_by (parameters_with at text others p.1)) (λ environment. Some ((name, p.0) ∷ environment))) one (zip vs others_rows)
+        ∙ each_same (λ (p : Value × List Value). given_by (parameters_with at text (first ∷ others) (p.0 ∷ p.1)))
+        (λ p. bind (given_by (parameters_with at text others p.1)) (λ environment. Some ((name, p.0) ∷ environment))) one (zip vs others_rows)
         ∙ named_rows name (λ row. given_by (parameters_with at text others row)) vs others_rows h.0 long h.1 in (
           inner,
           ap (each (λ row. given_by (parameters_with at text (first ∷ others) row))) is ∙ made,
@@ -117,13 +127,15 @@ last_named : (bytes : List ℕ) (functions : Signatures) (signature : Signature)
 last_named bytes [] signature none is = ap (λ b. if b then Some signature else None) is
 last_named bytes (first ∷ functions) signature none is = by_case (bytes_eq bytes first.bytes) none (λ h. last_named bytes functions signature h is)
   where
-    by_case : (b : Bool) → (if b then Some first else function_named bytes functions) ≡ None → (function_named bytes functions ≡ None → function_named bytes (functions ++ (signature ∷ [])) ≡ Some signature)
+    by_case : (b : Bool) → (if b then Some first else function_named bytes functions) ≡ None →
+        (function_named bytes functions ≡ None → function_named bytes (functions ++ (signature ∷ [])) ≡ Some signature)
         → (if b then Some first else function_named bytes (functions ++ (signature ∷ []))) ≡ Some signature
     by_case true none rest = absurd (cc)
     by_case false none rest = rest none
 
 -- of another name it is not
-earlier_named : (bytes : List ℕ) (functions : Signatures) (signature : Signature) → bytes_eq bytes signature.bytes ≡ false → function_named bytes (functions ++ (signature ∷ [])) ≡ function_named bytes functions
+earlier_named : (bytes : List ℕ) (functions : Signatures) (signature : Signature) → bytes_eq bytes signature.bytes ≡ false →
+    function_named bytes (functions ++ (signature ∷ [])) ≡ function_named bytes functions
 earlier_named bytes [] signature other = ap (λ b. if b then Some signature else None) other
 earlier_named bytes (first ∷ functions) signature other = ap (λ o. if bytes_eq bytes first.bytes then Some first else o) (earlier_named bytes functions signature other)
 
@@ -131,15 +143,18 @@ module _ (expressions : TypedExpressionsMean) (dialect : Dialect) (text : List �
   -- the body of a function means what its calls do
   body_means : (functions : Signatures) (calls : Calls) (bodies : Bodies) (parameters : List InputDeclaration) (written : List TypedName) (body : Tree) (t : Ty) → CallsMean functions calls bodies
       → NamesType text [] written parameters → Types dialect text functions (names_context parameters) body t
-      → (streams : Columns) (at : ℕ) (us : List Wires) (control : ℕ) (rows : List (List Value)) → AllCarry streams us (map (λ declaration. declaration.1) parameters) rows → Controls streams control (length rows)
-      → GoesTo streams t (tr dialect text bodies body (parameters_bound text written us) control (length streams)) (each (λ row. given_by (function_answer dialect at text calls written body row)) rows)
+      → (streams : Columns) (at : ℕ) (us : List Wires) (control : ℕ) (rows : List (List Value)) →
+      AllCarry streams us (map (λ declaration. declaration.1) parameters) rows → Controls streams control (length rows)
+      → GoesTo streams t (tr dialect text bodies body (parameters_bound text written us) control (length streams))
+      (each (λ row. given_by (function_answer dialect at text calls written body row)) rows)
   body_means functions calls bodies parameters written body t mean names typed streams at us control rows carry controls =
       let given = parameters_mean at text streams [] parameters written names in
       let h = given.2 us rows (subst (λ l. AllCarry streams us (map (λ declaration. declaration.1) l) rows) given.1 carry) in
       let bears : Bears streams (parameters_bound text written us) (free text body) (names_context parameters) h.0 =
       subst (λ l. Bears streams (parameters_bound text written us) (free text body) (names_context l) h.0) (sym given.1) (h.3 (free text body)) in
       let value : Environment → Option Value = λ environment. given_by (eval dialect body text calls environment) in
-      let goes = expressions dialect text functions calls bodies (names_context parameters) body t mean typed streams (parameters_bound text written us) control h.0 bears (subst (Controls streams control) (sym h.2) controls) in
+      let goes = expressions dialect text functions calls bodies (names_context parameters) body t mean typed streams
+      (parameters_bound text written us) control h.0 bears (subst (Controls streams control) (sym h.2) controls) in
       let same : each (λ row. given_by (function_answer dialect at text calls written body row)) rows ≡ each value h.0 =
       each_same (λ row. given_by (function_answer dialect at text calls written body row)) (λ row. bind (given_by (parameters_with at text written row)) value)
       (λ row. given_go (parameters_with at text written row) (λ environment. eval dialect body text calls environment)) rows
@@ -148,10 +163,13 @@ module _ (expressions : TypedExpressionsMean) (dialect : Dialect) (text : List �
       subst (GoesTo streams t (tr dialect text bodies body (parameters_bound text written us) control (length streams))) (sym same) goes
 
   -- and so with one function more
-  one_more : (functions : Signatures) (calls : Calls) (bodies : Bodies) (place : Span) (written : List TypedName) (result : TypeTree) (body : Tree) (signature : Signature) → CallsMean functions calls bodies
+  one_more : (functions : Signatures) (calls : Calls) (bodies : Bodies) (place : Span) (written : List TypedName) (result : TypeTree) (body : Tree)
+      (signature : Signature) → CallsMean functions calls bodies
       → FunctionTypes dialect text functions place written result body signature
-      → CallsMean (functions ++ (signature ∷ [])) (with_declaration dialect text calls (declares_function place written result body)) (with_body dialect text bodies (declares_function place written result body))
-  one_more functions calls bodies place written result body signature mean (function_type {parameters = parameters} {t = t} new names typed_result typed) streams at bytes called us control rows is carry controls =
+      → CallsMean (functions ++ (signature ∷ [])) (with_declaration dialect text calls (declares_function place written result body))
+      (with_body dialect text bodies (declares_function place written result body))
+  one_more functions calls bodies place written result body signature mean
+      (function_type {parameters = parameters} {t = t} new names typed_result typed) streams at bytes called us control rows is carry controls =
       by_case (bytes_eq bytes (spelling text place)) refl
     where
       by_case : (b : Bool) → bytes_eq bytes (spelling text place) ≡ b
@@ -161,7 +179,8 @@ module _ (expressions : TypedExpressionsMean) (dialect : Dialect) (text : List �
           let same : spelling text place ≡ bytes = sym ((bytes_eq-Decides bytes (spelling text place)).0 e) in
           let none : function_named bytes functions ≡ None = subst (λ n. function_named n functions ≡ None) same new in
           let this : signature_of text place parameters t ≡ called = let f = last_named bytes functions (signature_of text place parameters t) none e in cc in
-          subst (λ s. GoesTo streams s.result (tr dialect text bodies body (parameters_bound text written us) control (length streams)) (each (λ row. given_by (function_answer dialect at text calls written body row)) rows)) this
+          subst (λ s. GoesTo streams s.result (tr dialect text bodies body (parameters_bound text written us) control (length streams))
+          (each (λ row. given_by (function_answer dialect at text calls written body row)) rows)) this
           (body_means functions calls bodies parameters written body t mean names typed streams at us control rows (subst (λ s. AllCarry streams us s.parameters rows) (sym this) carry) controls)
       by_case false e =
           mean streams at bytes called us control rows (sym (earlier_named bytes functions (signature_of text place parameters t) e) ∙ is) carry controls
@@ -172,5 +191,7 @@ module _ (expressions : TypedExpressionsMean) (dialect : Dialect) (text : List �
   functions_mean earlier all calls bodies declarations mean (input_declared {inputs = inputs} {declared = declared} {others = others} names h) =
       functions_mean (with_inputs earlier inputs) all (with_declaration dialect text calls (declares_input declared)) (with_body dialect text bodies (declares_input declared)) others mean h
   functions_mean earlier all calls bodies declarations mean (function_declared {place = place} {written = written} {result = result} {body = body} {signature = signature} {others = others} typed h) =
-      functions_mean (with_function text earlier signature body) all (with_declaration dialect text calls (declares_function place written result body)) (with_body dialect text bodies (declares_function place written result body)) others
+      functions_mean (with_function text earlier signature body) all
+      (with_declaration dialect text calls (declares_function place written result body))
+      (with_body dialect text bodies (declares_function place written result body)) others
       (one_more earlier.functions calls bodies place written result body signature mean typed) h

@@ -86,7 +86,8 @@ from_there (pair s t) k front more cs e w =
     let first : streams_at (numbers_of (wires_from s k)) (front ++ (p.0 ++ (p.1 ++ more))) ≡ Some p.0 = from_there s k front (p.1 ++ more) p.0 e p.3 in
     let behind : k + width s ≡ length (front ++ p.0) = omega (arith, e, p.3, length-append front p.0) in
     let second : streams_at (numbers_of (wires_from t (k + width s))) ((front ++ p.0) ++ (p.1 ++ more)) ≡ Some p.1 = from_there t (k + width s) (front ++ p.0) more p.1 behind p.4 in
-    let same : (front ++ p.0) ++ (p.1 ++ more) ≡ front ++ (cs ++ more) = append_assoc front p.0 (p.1 ++ more) ∙ ap (λ l. front ++ l) (sym (append_assoc p.0 p.1 more) ∙ ap (λ l. l ++ more) (sym p.2)) in
+    let same : (front ++ p.0) ++ (p.1 ++ more) ≡ front ++ (cs ++ more) = append_assoc front p.0 (p.1 ++ more)
+    ∙ ap (λ l. front ++ l) (sym (append_assoc p.0 p.1 more) ∙ ap (λ l. l ++ more) (sym p.2)) in
     let one : streams_at (numbers_of (wires_from s k)) (front ++ (cs ++ more)) ≡ Some p.0 =
     subst (λ l. streams_at (numbers_of (wires_from s k)) l ≡ Some p.0) (sym (append_assoc front p.0 (p.1 ++ more)) ∙ same) first in
     let other : streams_at (numbers_of (wires_from t (k + width s))) (front ++ (cs ++ more)) ≡ Some p.1 = subst (λ l. streams_at (numbers_of (wires_from t (k + width s))) l ≡ Some p.1) same second in
@@ -274,7 +275,8 @@ segments_carry streams f items t vs there c are = record {
   of_type = ap seq c.of_type;
   whole = c.whole;
   are = are;
-  there = streams_joined (f ∷ []) (numbers_of items) streams (flags (lengths (map elements_of vs)) ∷ []) (columns_of_values t (concatenation (map elements_of vs))) there c.there ∙ ap Some (sym (laid_seq t vs));
+  there = streams_joined (f ∷ []) (numbers_of items) streams (flags (lengths (map elements_of vs)) ∷ [])
+      (columns_of_values t (concatenation (map elements_of vs))) there c.there ∙ ap Some (sym (laid_seq t vs));
 }
 
 -- all elements are of their type
@@ -296,7 +298,8 @@ segments_parts streams (two u v) t vs c = absurd (let e = c.of_type in cc)
 segments_parts streams (segments f items) t vs c =
     let e = c.of_type in
     let same : type_of_wires items ≡ t = cc in
-    let p = streams_parted (f ∷ []) (numbers_of items) streams (flags (lengths (map elements_of vs)) ∷ []) (columns_of_values t (concatenation (map elements_of vs))) (c.there ∙ ap Some (laid_seq t vs)) refl in
+    let p = streams_parted (f ∷ []) (numbers_of items) streams (flags (lengths (map elements_of vs)) ∷ [])
+    (columns_of_values t (concatenation (map elements_of vs))) (c.there ∙ ap Some (laid_seq t vs)) refl in
     (p.0, record { of_type = same; whole = c.whole; are = elements_are t vs c.are; there = p.1 })
 
 pub flags_carry : (streams : Columns) (w : Wires) (t : Ty) (vs : List Value) → Carries streams w (seq t) vs

@@ -90,7 +90,8 @@ one_side : (b : Bool) (p n : Option Value) (u v : Value) → one_or_none b p ≡
 one_side true p n u v e f = let g = map_gives (λ v. a_seq_of (v ∷ [])) p e in ((true, g.0), g.2, sym (some_same (a_seq_of []) v f))
 one_side false p n u v e f = let g = map_gives (λ v. a_seq_of (v ∷ [])) n f in ((false, g.0), sym (some_same (a_seq_of []) u e), g.2)
 
-one_more_side : (z : Bool × Value) (zs : List (Bool × Value)) (u v : Value) (us vs before behind : List Value) → us ≡ u ∷ before → vs ≡ v ∷ behind → u ≡ a_seq_of (placed z).0 → v ≡ a_seq_of (placed z).1
+one_more_side : (z : Bool × Value) (zs : List (Bool × Value)) (u v : Value) (us vs before behind : List Value) → us ≡ u ∷ before → vs ≡ v ∷ behind → u
+    ≡ a_seq_of (placed z).0 → v ≡ a_seq_of (placed z).1
     → before ≡ left_sequences (map placed zs) → behind ≡ right_sequences (map placed zs) → (us ≡ left_sequences (map placed (z ∷ zs))) × (vs ≡ right_sequences (map placed (z ∷ zs)))
 one_more_side z zs u v us vs before behind e f is is' h g = (e ∙ ap₂ (λ u us. u ∷ us) is h, f ∙ ap₂ (λ v vs. v ∷ vs) is' g)
 
@@ -177,7 +178,8 @@ module _ (dialect : Dialect) (at : ℕ) (names others : Names) (positive negativ
   abbrev both_filters : Bound → Wires → ℕ → Making Wires
   both_filters bound d k = and_then (filtered at names positive bound (stream_of d) k) (λ u k. negated bound d u k)
 
-  branches_go : (context : Context) (t : Ty) (one other : Environment → Option Value) → AreOpen names context → AreOpen others context → IsTranslation positive one names context t → IsTranslation negative other others context t
+  branches_go : (context : Context) (t : Ty) (one other : Environment → Option Value) → AreOpen names context → AreOpen others context →
+      IsTranslation positive one names context t → IsTranslation negative other others context t
       → (streams : Columns) (bound : Bound) (d : Wires) (environments : List Environment) (ds : List Bool) → length ds ≡ length environments
       → streams_at (stream_of d ∷ []) streams ≡ Some (map flag ds ∷ []) → Bears streams bound names context environments → Bears streams bound others context environments
       → GoesTo streams t (both_filters bound d (length streams)) (each (λ p. if p.1 then one p.0 else other p.0) (zip environments ds))
@@ -219,7 +221,8 @@ module _ (dialect : Dialect) (at : ℕ) (names others : Names) (positive negativ
       subst (GoesTo last t (ending v (length last))) (sym items) (one_taken at t last u v zs cu' cv')))))
 
 -- the branch that the condition chooses
-pub choice_means : (dialect : Dialect) (context : Context) (at : ℕ) (t : Ty) (conditions names others : Names) (condition positive negative : Bound → ℕ → ℕ → Making Wires) (test one other : Environment → Answer Value)
+pub choice_means : (dialect : Dialect) (context : Context) (at : ℕ) (t : Ty) (conditions names others : Names)
+    (condition positive negative : Bound → ℕ → ℕ → Making Wires) (test one other : Environment → Answer Value)
     → AreOpen names context → AreOpen others context
     → IsTranslation condition (λ environment. given_by (test environment)) conditions context bool
     → IsTranslation positive (λ environment. given_by (one environment)) names context t → IsTranslation negative (λ environment. given_by (other environment)) others context t
@@ -254,5 +257,7 @@ pub choice_tree_means : (dialect : Dialect) (text : List ℕ) (calls : Calls) (b
     → TreeMeans dialect text calls bodies context condition bool → TreeMeans dialect text calls bodies context positive t → TreeMeans dialect text calls bodies context negative t
     → TreeMeans dialect text calls bodies context (choice at condition positive negative) t
 choice_tree_means dialect text calls bodies context at condition positive negative t usable usable' c h g =
-    choice_means dialect context at t (free text condition) (free text positive) (free text negative) (tr dialect text bodies condition) (tr dialect text bodies positive) (tr dialect text bodies negative)
-    (λ environment. eval dialect condition text calls environment) (λ environment. eval dialect positive text calls environment) (λ environment. eval dialect negative text calls environment) usable usable' c h g
+    choice_means dialect context at t (free text condition) (free text positive) (free text negative) (tr dialect text bodies condition)
+    (tr dialect text bodies positive) (tr dialect text bodies negative)
+    (λ environment. eval dialect condition text calls environment) (λ environment. eval dialect positive text calls environment)
+    (λ environment. eval dialect negative text calls environment) usable usable' c h g

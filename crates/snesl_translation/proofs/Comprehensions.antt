@@ -44,7 +44,8 @@ use Rattle.snesl_translation.proofs.Borne.{AreOpen, bears_distributed}
 use Rattle.snesl_translation.proofs.Grouping.{grouped_carry}
 use Rattle.snesl_translation.proofs.Twins.{go_all_gives}
 use Rattle.snesl_translation.proofs.Groups.{joined_length, lengths_inside, concat_gives, concat_goes}
-use Rattle.snesl_translation.proofs.Rows.{all_fit, rows_each, inner_instances, all_in_step, heights_with, with_column_length, fits_with, fit_length, inner_lengths, plain_instances, dist_zip, instances_with}
+use Rattle.snesl_translation.proofs.Rows.{all_fit, rows_each, inner_instances, all_in_step, heights_with, with_column_length, fits_with, fit_length}
+use Rattle.snesl_translation.proofs.Rows.{inner_lengths, plain_instances, dist_zip, instances_with}
 use Rattle.snesl_translation.proofs.Binders.{sources_on, sources_go, lengths_test, lengths_next}
 
 -- names
@@ -106,7 +107,8 @@ items_borne streams given context ns environments long (source ∷ sources) (ite
     let here = borne_with streams (items_bound sources ++ given) item.0 (item_wires source.1) item.1 names (names_context items ++ context) inner (concatenation groups) counted values within in
     let instances : concatenation (inner_instances ns all environments) ≡ with_name item.0 inner (concatenation groups) =
     ap (λ l. concatenation (inner_instances ns l environments)) is ∙ instances_with item.0 ns groups others environments high both.1 long in
-    subst (λ name. Bears streams ((name, item_wires source.1) ∷ (items_bound sources ++ given)) names (names_context (item ∷ items) ++ context) (concatenation (inner_instances ns all environments))) (sym named)
+    subst (λ name. Bears streams ((name, item_wires source.1) ∷ (items_bound sources ++ given)) names (names_context (item ∷ items) ++ context)
+    (concatenation (inner_instances ns all environments))) (sym named)
     (subst (Bears streams ((item.0, item_wires source.1) ∷ (items_bound sources ++ given)) names (names_context (item ∷ items) ++ context)) (sym instances) here)
 
 -- makings one after the other
@@ -317,7 +319,8 @@ rows_inside place columns value make environment =
     (λ rows. option_map make (each (λ row. value (row ++ environment)) rows)) (λ rows. ap (option_map make) (each_map value (λ row. row ++ environment) rows)))
 
 -- the form without a condition
-pub each_means : (context : Context) (at place : ℕ) (item : InputDeclaration) (items : List InputDeclaration) (t : Ty) (names inner_names : Names) (sources : Bound → ℕ → ℕ → Making Sources) (body : Bound → ℕ → ℕ → Making Wires)
+pub each_means : (context : Context) (at place : ℕ) (item : InputDeclaration) (items : List InputDeclaration) (t : Ty) (names inner_names : Names)
+    (sources : Bound → ℕ → ℕ → Making Sources) (body : Bound → ℕ → ℕ → Making Wires)
     (columns : Environment → Option BoundItems) (value : Environment → Option Value)
     → AreOpen inner_names (names_context (item ∷ items) ++ inside context) → SourcesMean sources columns names context (item ∷ items)
     → IsTranslation body value inner_names (names_context (item ∷ items) ++ inside context) t

@@ -117,7 +117,8 @@ module _ (dialect : Dialect) (at : ℕ) where
   the_agrees g = subst (λ l. Agrees (the_answer at l) (the_of g)) (sym (list_values g)) (the_alike g)
 
   module _ (streams : Columns) where
-    pub length_goes : (u : Wires) (t : Ty) (vs : List Value) → Carries streams u (seq t) vs → Goes streams int (call_streams dialect at Length (u ∷ []) (length streams)) (go_all (λ v. applied dialect at Length (v ∷ [])) vs)
+    pub length_goes : (u : Wires) (t : Ty) (vs : List Value) → Carries streams u (seq t) vs →
+        Goes streams int (call_streams dialect at Length (u ∷ []) (length streams)) (go_all (λ v. applied dialect at Length (v ∷ [])) vs)
     length_goes u t vs c =
         let by = grouped_from streams u t vs c in
         let g = λ (g : List Value). result_ok (ranged dialect (pos (length g))) in
@@ -125,11 +126,13 @@ module _ (dialect : Dialect) (at : ℕ) where
         (length_makes dialect (lengths by.groups) ∙ ap (one integer_cells) (each_lengths (λ n. result_ok (ranged dialect (pos n))) by.groups) ∙ one_integers (each g by.groups))
         length_agrees (each_are int an_int g (λ z b e. refl) by.groups)
 
-    pub iota_goes : (u : Wires) (vs : List Value) → Carries streams u int vs → Goes streams (seq int) (call_streams dialect at Iota (u ∷ []) (length streams)) (go_all (λ v. applied dialect at Iota (v ∷ [])) vs)
+    pub iota_goes : (u : Wires) (vs : List Value) → Carries streams u int vs →
+        Goes streams (seq int) (call_streams dialect at Iota (u ∷ []) (length streams)) (go_all (λ v. applied dialect at Iota (v ∷ [])) vs)
     iota_goes u vs c =
         let view = all_from int an_int int_from vs c.are in
         let ns = view.0 in
-        let there : streams_at (stream_of u ∷ []) streams ≡ Some (integer_cells ns ∷ []) = stream_carries streams u int vs tt c ∙ ap (λ cs. Some (cs ∷ [])) (ap (map cell_for) view.1 ∙ cells_of_integers ns) in
+        let there : streams_at (stream_of u ∷ []) streams ≡ Some (integer_cells ns ∷ []) = stream_carries streams u int vs tt c
+        ∙ ap (λ cs. Some (cs ∷ [])) (ap (map cell_for) view.1 ∙ cells_of_integers ns) in
         step_goes streams at iota (stream_of u ∷ []) (seq int) (integer_cells ns ∷ []) an_int (λ v. applied dialect at Iota (v ∷ [])) counted natural ns vs view.1 there
         (ap (λ o. option_map (λ ns. flags ns ∷ concatenation (map cells_below ns) ∷ []) (bind o (each natural))) (integers_forth ns)
         ∙ map_some_same (λ ks. flags ks ∷ concatenation (map cells_below ks) ∷ []) (λ ks. columns_of_values (seq int) (map counted ks)) (each natural ns) counted_laid)
@@ -148,11 +151,13 @@ module _ (dialect : Dialect) (at : ℕ) where
     the_either u t gs (faults kind place) None there c e h =
         tested_stops streams at the_check (stream_of u ∷ []) (item_wires u) (length streams) (flags (lengths gs) ∷ []) there (the_made gs ∙ ap (option_map (λ (vs : List Value). [])) e)
 
-    pub the_goes : (u : Wires) (t : Ty) (vs : List Value) → Carries streams u (seq t) vs → Goes streams t (call_streams dialect at The (u ∷ []) (length streams)) (go_all (λ v. applied dialect at The (v ∷ [])) vs)
+    pub the_goes : (u : Wires) (t : Ty) (vs : List Value) → Carries streams u (seq t) vs →
+        Goes streams t (call_streams dialect at The (u ∷ []) (length streams)) (go_all (λ v. applied dialect at The (v ∷ [])) vs)
     the_goes u t vs c =
         let by = grouped_from streams u t vs c in
         the_either u t by.groups (go_all (λ v. applied dialect at The (v ∷ [])) vs) (each the_of by.groups) by.flags_there by.items refl
-        (subst (λ vs. Agrees (go_all (λ v. applied dialect at The (v ∷ [])) vs) (each the_of by.groups)) (sym by.view) (all_agree a_seq_of (λ v. applied dialect at The (v ∷ [])) the_of the_agrees by.groups))
+        (subst (λ vs. Agrees (go_all (λ v. applied dialect at The (v ∷ [])) vs) (each the_of by.groups)) (sym by.view)
+        (all_agree a_seq_of (λ v. applied dialect at The (v ∷ [])) the_of the_agrees by.groups))
 
     pub tab_goes : (u : Wires) (t : Ty) (vs : List Value) → is_concrete t ≡ true → Carries streams u (seq t) vs
         → Goes streams (vec t) (call_streams dialect at Tab (u ∷ []) (length streams)) (go_all (λ v. applied dialect at Tab (v ∷ [])) vs)
@@ -170,12 +175,14 @@ module _ (dialect : Dialect) (at : ℕ) where
         (λ bs e. subst (λ bs. AllAre (vec t) (map a_vec_of bs)) (some_same gs bs (sym (each_some gs) ∙ e)) (vectors_of_groups t gs by.items.are)) in
         subst (λ item. Goes streams (vec t) (stepped at (tab item) (numbers_of u) (vec item) (length streams)) (go_all (λ v. applied dialect at Tab (v ∷ [])) vs)) (sym by.items.of_type) goes
 
-    pub seq_goes : (u : Wires) (t : Ty) (vs : List Value) → Carries streams u (vec t) vs → Goes streams (seq t) (call_streams dialect at Seq (u ∷ []) (length streams)) (go_all (λ v. applied dialect at Seq (v ∷ [])) vs)
+    pub seq_goes : (u : Wires) (t : Ty) (vs : List Value) → Carries streams u (vec t) vs →
+        Goes streams (seq t) (call_streams dialect at Seq (u ∷ []) (length streams)) (go_all (λ v. applied dialect at Seq (v ∷ [])) vs)
     seq_goes u t vs c =
         let view = all_from (vec t) a_vec_of (vec_from t) vs c.are in
         let gs = view.0 in
         let are : AllAre (vec t) (map a_vec_of gs) = subst (AllAre (vec t)) view.1 c.are in
-        let there : streams_at (stream_of u ∷ []) streams ≡ Some (map datum (map a_vec_of gs) ∷ []) = stream_carries streams u (vec t) vs tt c ∙ ap (λ cs. Some (cs ∷ [])) (ap (map cell_for) view.1 ∙ cells_of_vectors gs) in
+        let there : streams_at (stream_of u ∷ []) streams ≡ Some (map datum (map a_vec_of gs) ∷ []) = stream_carries streams u (vec t) vs tt c
+        ∙ ap (λ cs. Some (cs ∷ [])) (ap (map cell_for) view.1 ∙ cells_of_vectors gs) in
         let some = λ (g : List Value). Some g in
         let same : columns_of_values (seq t) (map a_vec_of gs) ≡ columns_of_values (seq t) (map a_seq_of gs) =
         laid_seq t (map a_vec_of gs) ∙ ap (λ gs. flags (lengths gs) ∷ columns_of_values t (concatenation gs)) (vector_elements gs) ∙ sym (laid_groups t gs) in
@@ -185,9 +192,11 @@ module _ (dialect : Dialect) (at : ℕ) where
         step_goes streams at (seq_of t) (stream_of u ∷ []) (seq t) (map datum (map a_vec_of gs) ∷ []) a_vec_of (λ v. applied dialect at Seq (v ∷ [])) a_seq_of some gs vs view.1 there made
         (λ g. ap (λ l. Some (a_seq_of l)) (sym (list_values g)))
         (λ bs e. subst (λ bs. AllAre (seq t) (map a_seq_of bs)) (some_same gs bs (sym (each_some gs) ∙ e)) (groups_of_vectors t gs are)) in
-        subst (λ item. Goes streams (seq t) (stepped at (seq_of item) (stream_of u ∷ []) (seq item) (length streams)) (go_all (λ v. applied dialect at Seq (v ∷ [])) vs)) (sym (ap item_type c.of_type)) goes
+        subst (λ item. Goes streams (seq t) (stepped at (seq_of item) (stream_of u ∷ []) (seq item) (length streams))
+        (go_all (λ v. applied dialect at Seq (v ∷ [])) vs)) (sym (ap item_type c.of_type)) goes
 
-    pub fst_goes : (u : Wires) (s t : Ty) (vs : List Value) → Carries streams u (pair s t) vs → Goes streams s (call_streams dialect at Fst (u ∷ []) (length streams)) (go_all (λ v. applied dialect at Fst (v ∷ [])) vs)
+    pub fst_goes : (u : Wires) (s t : Ty) (vs : List Value) → Carries streams u (pair s t) vs →
+        Goes streams s (call_streams dialect at Fst (u ∷ []) (length streams)) (go_all (λ v. applied dialect at Fst (v ∷ [])) vs)
     fst_goes u s t vs c =
         let view = all_from (pair s t) a_pair_of (pair_from s t) vs c.are in
         let f = λ (v : Value). applied dialect at Fst (v ∷ []) in
@@ -195,7 +204,8 @@ module _ (dialect : Dialect) (at : ℕ) where
         ap (go_all f) view.1 ∙ go_all_gives a_pair_of f (λ p. p.0) (λ p. refl) view.0 ∙ ap gives (sym (ap (map first_of) view.1 ∙ map_map first_of a_pair_of view.0)) in
         subst (Goes streams s (done (first_wires u) (length streams))) (sym same) (done_makes streams s (first_wires u) (map first_of vs) (first_carries streams u s t vs c))
 
-    pub snd_goes : (u : Wires) (s t : Ty) (vs : List Value) → Carries streams u (pair s t) vs → Goes streams t (call_streams dialect at Snd (u ∷ []) (length streams)) (go_all (λ v. applied dialect at Snd (v ∷ [])) vs)
+    pub snd_goes : (u : Wires) (s t : Ty) (vs : List Value) → Carries streams u (pair s t) vs →
+        Goes streams t (call_streams dialect at Snd (u ∷ []) (length streams)) (go_all (λ v. applied dialect at Snd (v ∷ [])) vs)
     snd_goes u s t vs c =
         let view = all_from (pair s t) a_pair_of (pair_from s t) vs c.are in
         let f = λ (v : Value). applied dialect at Snd (v ∷ []) in

@@ -11,7 +11,9 @@ use Rattle.snesl_tree.specs.Tree.{Tree, Trees, both, Binders, binder}
 use Rattle.snesl_evaluation.specs.Answer.{Answer, gives, go}
 use Rattle.snesl_evaluation.specs.Eval.{Calls, eval}
 use Rattle.snesl_types.specs.Contexts.{Context, names_context, inside, Signatures}
-use Rattle.snesl_types.specs.Typing.{Types, has_type, Gives, integer_type, truth_type, name_type, binary_type, prefix_type, call_type, apply_type, group_type, pair_type, binding_type, choice_type, literal_type, filter_type, each_type, AllTypes, no_types, more_types, BindersType, no_binders, more_binders, no_condition, condition_type, AllAre}
+use Rattle.snesl_types.specs.Typing.{Types, has_type, Gives, integer_type, truth_type, name_type, binary_type, prefix_type, call_type, apply_type}
+use Rattle.snesl_types.specs.Typing.{group_type, pair_type, binding_type, choice_type, literal_type, filter_type, each_type, AllTypes, no_types}
+use Rattle.snesl_types.specs.Typing.{more_types, BindersType, no_binders, more_binders, no_condition, condition_type, AllAre}
 use Rattle.snesl_translation.specs.Wires.{Wires, Bound}
 use Rattle.snesl_translation.specs.Makings.{Making}
 use Rattle.snesl_translation.specs.FreeNames.{Names, free}
@@ -22,7 +24,9 @@ use Rattle.snesl_translation.proofs.BuiltinMeanings.{TreeMeans, TreesMean, prefi
 use Rattle.snesl_translation.proofs.PlainMeanings.{integer_means, truth_means, variable_means, pair_tree_means, let_means, no_arguments_mean, arguments_mean, apply_means}
 use Rattle.snesl_translation.proofs.Borne.{AreOpen}
 use Rattle.snesl_translation.proofs.UsableNames.{binder_items, free_are_open, both_open}
-use Rattle.snesl_translation.proofs.FormMeanings.{filter_tree_means, ItemsMean, FurtherMean, SequenceMeans, first_item_means, literal_means, no_further_mean, with_item, item_followed, more_further_mean, BindersMean, no_binders_mean, binder_means, each_tree_means, each_where_tree_means}
+use Rattle.snesl_translation.proofs.FormMeanings.{filter_tree_means, ItemsMean, FurtherMean, SequenceMeans, first_item_means, literal_means}
+use Rattle.snesl_translation.proofs.FormMeanings.{no_further_mean, with_item, item_followed, more_further_mean, BindersMean, no_binders_mean}
+use Rattle.snesl_translation.proofs.FormMeanings.{binder_means, each_tree_means, each_where_tree_means}
 use Rattle.snesl_translation.proofs.Choices.{choice_means}
 
 -- the first item of a comprehension's binders, and the others
@@ -53,7 +57,8 @@ module _ (dialect : Dialect) (text : List ℕ) (functions : Signatures) (calls :
     form_means (binding_type {context = context} {at = at} {place = place} {value = value} {body = body} {t = s} {u = t} h g) =
         let_means dialect text calls bodies context at place value body s t (typed_means h) (typed_means g)
     form_means (choice_type {context = context} {at = at} {condition = condition} {positive = positive} {negative = negative} {t = t} h g k) =
-        choice_means dialect context at t (free text condition) (free text positive) (free text negative) (tr dialect text bodies condition) (tr dialect text bodies positive) (tr dialect text bodies negative)
+        choice_means dialect context at t (free text condition) (free text positive) (free text negative) (tr dialect text bodies condition)
+        (tr dialect text bodies positive) (tr dialect text bodies negative)
         (λ environment. eval dialect condition text calls environment) (λ environment. eval dialect positive text calls environment) (λ environment. eval dialect negative text calls environment)
         (free_are_open g) (free_are_open k) (typed_means h) (typed_means g) (typed_means k)
     form_means (literal_type {context = context} {at = at} {items = items} {t = t} h same) = items_mean at h same
@@ -79,12 +84,14 @@ module _ (dialect : Dialect) (text : List ℕ) (functions : Signatures) (calls :
         let named = p.2 names ∙ ap (λ l. without_items l names) first.2 in
         let sources : BindersMean dialect text calls bodies context binders (first.0 ∷ first.1) = subst (BindersMean dialect text calls bodies context binders) first.2 (sources_mean hb) in
         each_where_tree_means dialect text calls bodies context at body binders condition first.0 first.1 t named
-        (subst (λ l. AreOpen names (names_context l ++ inside context)) same (both_open (free text condition) (free text body) (names_context items ++ inside context) (free_are_open hc) (free_are_open h)))
+        (subst (λ l. AreOpen names (names_context l ++ inside context)) same
+        (both_open (free text condition) (free text body) (names_context items ++ inside context) (free_are_open hc) (free_are_open h)))
         (subst (λ l. AreOpen (free text body) (names_context l ++ inside context)) same (free_are_open h)) sources
         (subst (λ l. TreeMeans dialect text calls bodies (names_context l ++ inside context) condition bool) same (typed_means hc))
         (subst (λ l. TreeMeans dialect text calls bodies (names_context l ++ inside context) body t) same (typed_means h))
 
-    items_mean : {context : Context} {trees : Trees} {t : Ty} {ts : List Ty} (at : ℕ) → AllTypes dialect text functions context trees (t ∷ ts) → AllAre t ts → ItemsMean dialect text calls bodies context at trees t
+    items_mean : {context : Context} {trees : Trees} {t : Ty} {ts : List Ty} (at : ℕ) → AllTypes dialect text functions context trees (t ∷ ts) →
+        AllAre t ts → ItemsMean dialect text calls bodies context at trees t
     items_mean at (more_types {context = context} {first = first} {others = others} {t = t} h rest) same =
         literal_means dialect text calls bodies context at first others t
         (further_mean at t (single at (free text first) (tr dialect text bodies first)) (λ environment. go (eval dialect first text calls environment) (λ v. gives (v ∷ []))) (free text first)

@@ -47,7 +47,8 @@ then_go first rest streams First t None d stops = rest_stops first streams d.0 d
 then_go first rest streams First t (Some vs) d makes = then_makes first streams d.0 d.1 d.2 rest t vs makes
 
 -- the elements of groups, beside the flags of the groups
-pub groups_go : {X : Type 0} (streams : Columns) (f : ℕ) (making : Making Wires) (t : Ty) (value : X → Option Value) (groups : List (List X)) → streams_at (f ∷ []) streams ≡ Some (flags (lengths groups) ∷ [])
+pub groups_go : {X : Type 0} (streams : Columns) (f : ℕ) (making : Making Wires) (t : Ty) (value : X → Option Value) (groups : List (List X)) →
+    streams_at (f ∷ []) streams ≡ Some (flags (lengths groups) ∷ [])
     → GoesTo streams t making (each value (concatenation groups))
     → GoesTo streams (seq t) (and_then making (λ w k. done (segments f w) k)) (option_map (map a_seq_of) (each (each value) groups))
 groups_go streams f making t value groups there goes = by_case (each (each value) groups) (each_joined value groups) (each_lengths value groups)
@@ -132,7 +133,9 @@ module _ (context : Context) (at : ℕ) (names : Names) (t : Ty) (item : Bound �
       let goes : GoesTo last t (item given c (length last)) (each value inner) =
       means last given c inner (borne_on behind units.0 given names context inner moved.3) units.3 in
       then_go (flags_stepped at flag_of_bool (d ∷ []) (length streams))
-      (λ f k. and_then (all_moved (kept at d) names bound k) (λ inner k. and_then (units_step at (stream_of f) k) (λ control k. and_then (item inner (stream_of control) k) (λ w k. done (segments (stream_of f) w) k))))
+      (λ f k. and_then (all_moved (kept at d) names bound k)
+      (λ inner k. and_then (units_step at (stream_of f) k)
+      (λ control k. and_then (item inner (stream_of control) k) (λ w k. done (segments (stream_of f) w) k))))
       streams (λ l w. streams_at (stream_of w ∷ []) l ≡ Some (flags ns ∷ [])) (seq t) o flagged
       (then_go (all_moved (kept at d) names bound (length on))
       (λ inner k. and_then (units_step at f k) (λ control k. and_then (item inner (stream_of control) k) (λ w k. done (segments f w) k)))
@@ -229,7 +232,8 @@ module _ (context : Context) (at : ℕ) (t : Ty) where
       → IsTranslation item (λ environment. given_by (one environment)) names context t
       → IsTranslation (single at names item) (λ environment. given_by (seq_answer (go (one environment) (λ v. gives (v ∷ []))))) names context (seq t)
   single_means names item one usable h =
-      filter_means [] names (λ bound control next. stepped at (const (Truth true)) (control ∷ []) bool next) item (λ environment. gives (a_bool true)) one usable (const_means context at (Truth true)) h
+      filter_means [] names (λ bound control next. stepped at (const (Truth true)) (control ∷ []) bool next) item (λ environment. gives (a_bool true))
+      one usable (const_means context at (Truth true)) h
 
   appended_value : (before : Answer (List Value)) (one : Answer Value)
       → bind (given_by (seq_answer before)) (λ a. bind (given_by (seq_answer (go one (λ v. gives (v ∷ []))))) (λ b. given_by (append_answer at a b)))
@@ -245,7 +249,8 @@ module _ (context : Context) (at : ℕ) (t : Ty) where
 
   -- that of a sequence and of one item after it
   pub followed_means : (names others : Names) (before item : Bound → ℕ → ℕ → Making Wires) (sequences : Environment → Answer (List Value)) (one : Environment → Answer Value)
-      → AreOpen others context → IsTranslation before (λ environment. given_by (seq_answer (sequences environment))) names context (seq t) → IsTranslation item (λ environment. given_by (one environment)) others context t
+      → AreOpen others context → IsTranslation before (λ environment. given_by (seq_answer (sequences environment))) names context (seq t) →
+      IsTranslation item (λ environment. given_by (one environment)) others context t
       → IsTranslation (followed at before others item)
       (λ environment. given_by (seq_answer (go (sequences environment) (λ vs. go (one environment) (λ v. gives (vs ++ v ∷ [])))))) (names ++ others) context (seq t)
   followed_means names others before item sequences one usable h g =

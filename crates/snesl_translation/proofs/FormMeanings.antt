@@ -90,13 +90,17 @@ module _ (dialect : Dialect) (text : List ℕ) (calls : Calls) (bodies : Bodies)
   -- literals
 
   abbrev pub ItemsMean : ℕ → Trees → Ty → Type 0
-  ItemsMean at items t = IsTranslation (tr_items dialect text bodies at items) (λ environment. given_by (seq_answer (eval_all dialect items text calls environment))) (free_of_all text items) context (seq t)
+  ItemsMean at items t =
+      IsTranslation (tr_items dialect text bodies at items) (λ environment. given_by (seq_answer (eval_all dialect items text calls environment)))
+      (free_of_all text items) context (seq t)
 
   -- what stands before items, and how it is evaluated
   abbrev pub FurtherMean : ℕ → (Bound → ℕ → ℕ → Making Wires) → (Environment → Answer (List Value)) → Names → Trees → Ty → Type 0
   FurtherMean at sequence before names items t =
       IsTranslation (tr_further dialect text bodies at sequence items)
-      (λ environment. given_by (seq_answer (go (before environment) (λ vs. go (eval_all dialect items text calls environment) (λ ws. gives (vs ++ ws)))))) (names ++ free_of_all text items) context (seq t)
+      (λ environment. given_by
+      (seq_answer (go (before environment) (λ vs. go (eval_all dialect items text calls environment) (λ ws. gives (vs ++ ws))))))
+      (names ++ free_of_all text items) context (seq t)
 
   abbrev pub SequenceMeans : (Bound → ℕ → ℕ → Making Wires) → (Environment → Answer (List Value)) → Names → Ty → Type 0
   SequenceMeans sequence before names t = IsTranslation sequence (λ environment. given_by (seq_answer (before environment))) names context (seq t)
@@ -112,7 +116,9 @@ module _ (dialect : Dialect) (text : List ℕ) (calls : Calls) (bodies : Bodies)
       → ItemsMean at (both first others) t
   literal_means at first others t h =
       means_same context (seq t) (free_of_all text (both first others)) (tr_items dialect text bodies at (both first others))
-      (λ environment. given_by (seq_answer (go (go (eval dialect first text calls environment) (λ v. gives (v ∷ []))) (λ vs. go (eval_all dialect others text calls environment) (λ ws. gives (vs ++ ws))))))
+      (λ environment. given_by
+      (seq_answer (go (go (eval dialect first text calls environment) (λ v. gives (v ∷ [])))
+      (λ vs. go (eval_all dialect others text calls environment) (λ ws. gives (vs ++ ws))))))
       (λ environment. given_by (seq_answer (eval_all dialect (both first others) text calls environment)))
       (λ environment. same (eval dialect first text calls environment) (eval_all dialect others text calls environment)) h
     where
@@ -143,9 +149,13 @@ module _ (dialect : Dialect) (text : List ℕ) (calls : Calls) (bodies : Bodies)
       followed_means context at t names (free text item) sequence (tr dialect text bodies item) before (λ environment. eval dialect item text calls environment) usable h g
 
   pub more_further_mean : (at : ℕ) (sequence : Bound → ℕ → ℕ → Making Wires) (before : Environment → Answer (List Value)) (names : Names) (item : Tree) (others : Trees) (t : Ty)
-      → FurtherMean at (followed at sequence (free text item) (tr dialect text bodies item)) (with_item before item) (names ++ free text item) others t → FurtherMean at sequence before names (both item others) t
+      → FurtherMean at (followed at sequence (free text item) (tr dialect text bodies item)) (with_item before item) (names ++ free text item) others
+      t → FurtherMean at sequence before names (both item others) t
   more_further_mean at sequence before names item others t h =
-      subst (λ names'. IsTranslation (tr_further dialect text bodies at sequence (both item others)) (λ environment. given_by (seq_answer (go (before environment) (λ vs. go (eval_all dialect (both item others) text calls environment) (λ ws. gives (vs ++ ws)))))) names' context (seq t))
+      subst (λ names'. IsTranslation (tr_further dialect text bodies at sequence (both item others))
+      (λ environment. given_by
+      (seq_answer (go (before environment) (λ vs. go (eval_all dialect (both item others) text calls environment) (λ ws. gives (vs ++ ws))))))
+      names' context (seq t))
       (append_assoc names (free text item) (free_of_all text others))
       (means_same context (seq t) ((names ++ free text item) ++ free_of_all text others) (tr_further dialect text bodies at sequence (both item others))
       (λ environment. given_by (seq_answer (go (with_item before item environment) (λ vs. go (eval_all dialect others text calls environment) (λ ws. gives (vs ++ ws))))))
@@ -163,7 +173,9 @@ module _ (dialect : Dialect) (text : List ℕ) (calls : Calls) (bodies : Bodies)
   -- binders
 
   abbrev pub BindersMean : Binders → List InputDeclaration → Type 0
-  BindersMean binders items = SourcesMean (tr_binders dialect text bodies binders) (λ environment. given_by (eval_binders dialect binders text calls environment)) (free_of_sources text binders) context items
+  BindersMean binders items =
+      SourcesMean (tr_binders dialect text bodies binders) (λ environment. given_by (eval_binders dialect binders text calls environment))
+      (free_of_sources text binders) context items
 
   pub no_binders_mean : BindersMean none_bound []
   no_binders_mean = no_sources_mean context
@@ -194,7 +206,9 @@ module _ (dialect : Dialect) (text : List ℕ) (calls : Calls) (bodies : Bodies)
       and_then (all_moved (distributed at (first_flags sources)) names bound k) (λ inner k.
       and_then (units_step at (first_flags sources) k) (λ c k.
       and_then (tr dialect text bodies body (items_bound sources ++ inner) (stream_of c) k) (λ w k. done (segments (first_flags sources) w) k))))) in
-      let told : Environment → Option Value = λ environment. bind (columns environment) (λ columns. bind (given_by (rows_in_step at columns)) (λ rows. option_map a_seq_of (each (λ row. value (row ++ environment)) rows))) in
+      let told : Environment → Option Value =
+      λ environment. bind (columns environment)
+      (λ columns. bind (given_by (rows_in_step at columns)) (λ rows. option_map a_seq_of (each (λ row. value (row ++ environment)) rows))) in
       let means : IsTranslation (translated (without_items (item ∷ items) (free text body))) told (free_of_sources text binders ++ without_items (item ∷ items) (free text body)) context (seq t) =
       each_means context at at item items t (free_of_sources text binders) (free text body) (tr_binders dialect text bodies binders) (tr dialect text bodies body) columns value usable h g in
       means_same context (seq t) (free_of_sources text binders ++ without_binders text binders (free text body)) (translated (without_binders text binders (free text body))) told
@@ -202,7 +216,9 @@ module _ (dialect : Dialect) (text : List ℕ) (calls : Calls) (bodies : Bodies)
       (subst (λ names. IsTranslation (translated names) told (free_of_sources text binders ++ names) context (seq t)) (sym same) means)
     where
       same_value : (environment : Environment)
-          → bind (given_by (eval_binders dialect binders text calls environment)) (λ columns. bind (given_by (rows_in_step at columns)) (λ rows. option_map a_seq_of (each (λ row. given_by (eval dialect body text calls (row ++ environment))) rows)))
+          → bind (given_by (eval_binders dialect binders text calls environment))
+          (λ columns. bind (given_by (rows_in_step at columns))
+          (λ rows. option_map a_seq_of (each (λ row. given_by (eval dialect body text calls (row ++ environment))) rows)))
           ≡ given_by (eval dialect (each_tree at body binders always) text calls environment)
       same_value environment =
           let f : Environment → Answer Value = λ row. eval dialect body text calls (row ++ environment) in
@@ -215,7 +231,8 @@ module _ (dialect : Dialect) (text : List ℕ) (calls : Calls) (bodies : Bodies)
 
   pub each_where_tree_means : (at : ℕ) (body : Tree) (binders : Binders) (condition : Tree) (item : InputDeclaration) (items : List InputDeclaration) (t : Ty)
       → SameWithout text (free text condition ++ free text body) binders (item ∷ items)
-      → AreOpen (free text condition ++ free text body) (names_context (item ∷ items) ++ inside context) → AreOpen (free text body) (names_context (item ∷ items) ++ inside context) → BindersMean binders (item ∷ items)
+      → AreOpen (free text condition ++ free text body) (names_context (item ∷ items) ++ inside context) →
+      AreOpen (free text body) (names_context (item ∷ items) ++ inside context) → BindersMean binders (item ∷ items)
       → TreeMeans dialect text calls bodies (names_context (item ∷ items) ++ inside context) condition bool
       → TreeMeans dialect text calls bodies (names_context (item ∷ items) ++ inside context) body t
       → TreeMeans dialect text calls bodies context (each_tree at body binders (only_where condition)) (seq t)
@@ -236,7 +253,8 @@ module _ (dialect : Dialect) (text : List ℕ) (calls : Calls) (bodies : Bodies)
       concatenated at (segments (first_flags sources) w) k)))))) in
       let told : Environment → Option Value = λ environment. bind (columns environment) (λ columns. bind (given_by (rows_in_step at columns)) (λ rows.
       option_map (λ ls. a_seq_of (concatenation ls)) (each (λ row. kept_values (row ++ environment)) rows))) in
-      let kept_means : IsTranslation (λ b c k. and_then (tr dialect text bodies condition b c k) (λ d k. filters b (stream_of d) k)) (λ environment. option_map a_seq_of (kept_values environment)) inner_names inner (seq t) =
+      let kept_means : IsTranslation (λ b c k. and_then (tr dialect text bodies condition b c k) (λ d k. filters b (stream_of d) k))
+      (λ environment. option_map a_seq_of (kept_values environment)) inner_names inner (seq t) =
       means_same inner (seq t) inner_names (λ b c k. and_then (tr dialect text bodies condition b c k) (λ d k. filters b (stream_of d) k))
       (λ environment. given_by (go (eval dialect condition text calls environment) (λ v. go (truth_at at v) (λ b. seq_answer (kept_answer b (eval dialect body text calls environment))))))
       (λ environment. option_map a_seq_of (kept_values environment))
@@ -244,22 +262,29 @@ module _ (dialect : Dialect) (text : List ℕ) (calls : Calls) (bodies : Bodies)
       (filter_means inner at t (free text condition) (free text body) (tr dialect text bodies condition) (tr dialect text bodies body)
       (λ environment. eval dialect condition text calls environment) (λ environment. eval dialect body text calls environment) usable_body g b) in
       let means : IsTranslation (translated (without_items (item ∷ items) inner_names)) told (free_of_sources text binders ++ without_items (item ∷ items) inner_names) context (seq t) =
-      each_where_means dialect at t kept_values context at item items (free_of_sources text binders) inner_names (tr_binders dialect text bodies binders) (tr dialect text bodies condition) filters columns usable h kept_means in
+      each_where_means dialect at t kept_values context at item items (free_of_sources text binders) inner_names
+      (tr_binders dialect text bodies binders) (tr dialect text bodies condition) filters columns usable h kept_means in
       means_same context (seq t) (free_of_sources text binders ++ without_binders text binders inner_names) (translated (without_binders text binders inner_names)) told
       (λ environment. given_by (eval dialect (each_tree at body binders (only_where condition)) text calls environment)) same_value
       (subst (λ names. IsTranslation (translated names) told (free_of_sources text binders ++ names) context (seq t)) (sym same) means)
     where
       same_value : (environment : Environment)
           → bind (given_by (eval_binders dialect binders text calls environment)) (λ columns. bind (given_by (rows_in_step at columns)) (λ rows.
-          option_map (λ ls. a_seq_of (concatenation ls)) (each (λ row. given_by (go (eval dialect condition text calls (row ++ environment)) (λ v. go (truth_at at v) (λ b. kept_answer b (eval dialect body text calls (row ++ environment)))))) rows)))
+          option_map (λ ls. a_seq_of (concatenation ls))
+          (each (λ row. given_by
+          (go (eval dialect condition text calls (row ++ environment))
+          (λ v. go (truth_at at v) (λ b. kept_answer b (eval dialect body text calls (row ++ environment)))))) rows)))
           ≡ given_by (eval dialect (each_tree at body binders (only_where condition)) text calls environment)
       same_value environment =
-          let f : Environment → Answer (List Value) = λ row. go (eval dialect condition text calls (row ++ environment)) (λ v. go (truth_at at v) (λ b. kept_answer b (eval dialect body text calls (row ++ environment)))) in
+          let f : Environment → Answer (List Value) =
+          λ row. go (eval dialect condition text calls (row ++ environment))
+          (λ v. go (truth_at at v) (λ b. kept_answer b (eval dialect body text calls (row ++ environment)))) in
           sym (given_go (eval_binders dialect binders text calls environment) (λ columns. go (rows_in_step at columns) (λ rows. seq_answer (go_join f rows)))
           ∙ bind_same (given_by (eval_binders dialect binders text calls environment)) (λ columns. given_by (go (rows_in_step at columns) (λ rows. seq_answer (go_join f rows))))
           (λ columns. bind (given_by (rows_in_step at columns)) (λ rows. option_map (λ ls. a_seq_of (concatenation ls)) (each (λ row. given_by (f row)) rows)))
           (λ columns. given_go (rows_in_step at columns) (λ rows. seq_answer (go_join f rows))
-          ∙ bind_same (given_by (rows_in_step at columns)) (λ rows. given_by (seq_answer (go_join f rows))) (λ rows. option_map (λ ls. a_seq_of (concatenation ls)) (each (λ row. given_by (f row)) rows))
+          ∙ bind_same (given_by (rows_in_step at columns)) (λ rows. given_by (seq_answer (go_join f rows)))
+          (λ rows. option_map (λ ls. a_seq_of (concatenation ls)) (each (λ row. given_by (f row)) rows))
           (λ rows. sequence_given (go_join f rows) ∙ ap (option_map a_seq_of) (joined_given f rows) ∙ sequences_of (each (λ row. given_by (f row)) rows))))
         where
           sequences_of : (o : Option (List (List Value))) → option_map a_seq_of (option_map concatenation o) ≡ option_map (λ ls. a_seq_of (concatenation ls)) o

@@ -105,7 +105,9 @@ module _ (context : Context) where
       (λ more u vs is cu.
       let there = streams ++ more in
       two_go there t (pair s t) (second bound control (length there)) (λ v k. done (two u v) k) (each other environments) (λ ws. each (λ p. Some (a_pair p.0 p.1)) (zip vs ws))
-      (g there bound control environments (borne_on streams more bound others context environments (borne_right streams bound names others context environments bears)) (controls_on streams more control (length environments) controls))
+      (g there bound control environments
+      (borne_on streams more bound others context environments (borne_right streams bound names others context environments bears))
+      (controls_on streams more control (length environments) controls))
       (λ later v ws is' cv.
       let last = there ++ later in
       let long : length vs ≡ length ws = each_length one environments vs is ∙ sym (each_length other environments ws is') in

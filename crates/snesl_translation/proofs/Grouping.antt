@@ -33,11 +33,13 @@ grouped_from streams u t vs c =
       items = subst (λ gs. Carries streams (item_wires u) t (concatenation gs)) same (items_carry streams u t vs c);
     }
 
-pub grouped_carry : (streams : Columns) (f : ℕ) (items : Wires) (t : Ty) (gs : List (List Value)) → streams_at (f ∷ []) streams ≡ Some (flags (lengths gs) ∷ []) → Carries streams items t (concatenation gs)
+pub grouped_carry : (streams : Columns) (f : ℕ) (items : Wires) (t : Ty) (gs : List (List Value)) → streams_at (f ∷ []) streams
+    ≡ Some (flags (lengths gs) ∷ []) → Carries streams items t (concatenation gs)
     → Carries streams (segments f items) (seq t) (map a_seq_of gs)
 grouped_carry streams f items t gs there c =
     let same : gs ≡ map elements_of (map a_seq_of gs) = sym (elements_made gs) in
-    segments_carry streams f items t (map a_seq_of gs) (there ∙ ap (λ gs. Some (flags (lengths gs) ∷ [])) same) (subst (λ gs. Carries streams items t (concatenation gs)) same c) (groups_made t gs c.are)
+    segments_carry streams f items t (map a_seq_of gs) (there ∙ ap (λ gs. Some (flags (lengths gs) ∷ [])) same)
+    (subst (λ gs. Carries streams items t (concatenation gs)) same c) (groups_made t gs c.are)
 
 pub each_lengths : {A B : Type 0} (f : ℕ → Option B) (gs : List (List A)) → each f (lengths gs) ≡ each (λ g. f (length g)) gs
 each_lengths f [] = refl

@@ -50,7 +50,8 @@ pub lengths_inside : {A B : Type 0} (f : A → B) (ls : List (List A)) → lengt
 lengths_inside f [] = refl
 lengths_inside f (l ∷ ls) = ap₂ (λ n ns. n ∷ ns) (length_same f l) (lengths_inside f ls)
 
-lengths_given : {A B : Type 0} (g : List A → Option (List B)) → ((l : List A) (m : List B) → g l ≡ Some m → length m ≡ length l) → (ls : List (List A)) (ms : List (List B)) → each g ls ≡ Some ms → lengths ms ≡ lengths ls
+lengths_given : {A B : Type 0} (g : List A → Option (List B)) → ((l : List A) (m : List B) → g l ≡ Some m → length m ≡ length l) →
+    (ls : List (List A)) (ms : List (List B)) → each g ls ≡ Some ms → lengths ms ≡ lengths ls
 lengths_given g h [] ms e = ap lengths (sym (some_same [] ms e))
 lengths_given g h (l ∷ ls) ms e =
     let one = bind_gives (g l) (λ y. option_map (λ ys. y ∷ ys) (each g ls)) e in
@@ -163,8 +164,10 @@ module _ (dialect : Dialect) (at : ℕ) where
         there : streams_at (stream_of u ∷ stream_of (item_wires u) ∷ []) streams ≡ Some (flags (lengths nss) ∷ integer_cells (concatenation nss) ∷ [])
         there = streams_joined (stream_of u ∷ []) (stream_of (item_wires u) ∷ []) streams (flags (lengths nss) ∷ []) (integer_cells (concatenation nss) ∷ []) f_there i_there
 
-        made : scan_add_made dialect (flags (lengths nss) ∷ integer_cells (concatenation nss) ∷ []) ≡ one (λ sums. concatenation (map integer_cells sums)) (each (λ ns. result_ok (scan_of dialect ns)) nss)
-        made = scan_add_makes dialect (lengths nss) (concatenation nss) ∙ ap (λ p. one (λ sums. concatenation (map integer_cells sums)) (bind p (each (λ ns. result_ok (scan_of dialect ns))))) (cut_forth nss)
+        made : scan_add_made dialect (flags (lengths nss) ∷ integer_cells (concatenation nss) ∷ [])
+            ≡ one (λ sums. concatenation (map integer_cells sums)) (each (λ ns. result_ok (scan_of dialect ns)) nss)
+        made = scan_add_makes dialect (lengths nss) (concatenation nss)
+            ∙ ap (λ p. one (λ sums. concatenation (map integer_cells sums)) (bind p (each (λ ns. result_ok (scan_of dialect ns))))) (cut_forth nss)
 
         go_on : (a : Answer (List Value)) (o : Option (List (List ℤ))) → each (λ ns. result_ok (scan_of dialect ns)) nss ≡ o → Agrees a (option_map (map integer_sequence) o)
             → Goes streams (seq int) (call_streams dialect at ScanAdd (u ∷ []) (length streams)) a
@@ -175,10 +178,13 @@ module _ (dialect : Dialect) (at : ℕ) where
             let cells : scan_add_made dialect (flags (lengths nss) ∷ integer_cells (concatenation nss) ∷ []) ≡ Some (columns_of_values int (map an_int (concatenation sums))) =
             made ∙ ap (one (λ sums. concatenation (map integer_cells sums))) e ∙ ap (λ cs. Some (cs ∷ [])) (sym (map_joined int_cell sums) ∙ sym (cells_of_integers (concatenation sums))) in
             let sizes : lengths nss ≡ lengths (map elements_of ws) =
-            sym (lengths_given (λ ns. result_ok (scan_of dialect ns)) (λ ns ms d. scan_length dialect (pos 0) ns ms d) nss sums e) ∙ sym (lengths_inside an_int sums) ∙ ap lengths (sym (elements_made gs)) in
+            sym (lengths_given (λ ns. result_ok (scan_of dialect ns)) (λ ns ms d. scan_length dialect (pos 0) ns ms d) nss sums e)
+            ∙ sym (lengths_inside an_int sums) ∙ ap lengths (sym (elements_made gs)) in
             let step = stepped at (scan_add dialect) (stream_of u ∷ stream_of (item_wires u) ∷ []) int (length streams) in
             let first : Makes streams int step (map an_int (concatenation sums)) =
-            stepped_makes streams at (scan_add dialect) (stream_of u ∷ stream_of (item_wires u) ∷ []) int (flags (lengths nss) ∷ integer_cells (concatenation nss) ∷ []) (map an_int (concatenation sums)) there cells (all_integers (concatenation sums)) in
+            stepped_makes streams at (scan_add dialect) (stream_of u ∷ stream_of (item_wires u) ∷ []) int
+            (flags (lengths nss) ∷ integer_cells (concatenation nss) ∷ []) (map an_int (concatenation sums)) there cells
+            (all_integers (concatenation sums)) in
             let are : AllAre int (concatenation gs) = subst (AllAre int) (map_joined an_int sums) (all_integers (concatenation sums)) in
             subst (Makes streams (seq int) (call_streams dialect at ScanAdd (u ∷ []) (length streams))) (map_map a_seq_of (map an_int) sums ∙ some_same (map integer_sequence sums) vs h)
             (segments_makes streams (stream_of u) step int ws (f_there ∙ ap (λ ns. Some (flags ns ∷ [])) sizes) (subst (Makes streams int step) all first) (groups_made int gs are))
@@ -186,9 +192,12 @@ module _ (dialect : Dialect) (at : ℕ) where
         go_on (faults kind place) (Some sums) e h = absurd (cc)
         go_on (faults kind place) None e h =
             first_stops (stepped at (scan_add dialect) (stream_of u ∷ stream_of (item_wires u) ∷ []) int (length streams)) (λ sums k. done (segments (stream_of u) sums) k) streams
-            (stepped_stops streams at (scan_add dialect) (stream_of u ∷ stream_of (item_wires u) ∷ []) int (length streams) (flags (lengths nss) ∷ integer_cells (concatenation nss) ∷ []) there (made ∙ ap (one (λ sums. concatenation (map integer_cells sums))) e))
+            (stepped_stops streams at (scan_add dialect) (stream_of u ∷ stream_of (item_wires u) ∷ []) int (length streams)
+            (flags (lengths nss) ∷ integer_cells (concatenation nss) ∷ []) there
+            (made ∙ ap (one (λ sums. concatenation (map integer_cells sums))) e))
 
-    pub scan_goes : (u : Wires) (vs : List Value) → Carries streams u (seq int) vs → Goes streams (seq int) (call_streams dialect at ScanAdd (u ∷ []) (length streams)) (go_all (λ v. applied dialect at ScanAdd (v ∷ [])) vs)
+    pub scan_goes : (u : Wires) (vs : List Value) → Carries streams u (seq int) vs →
+        Goes streams (seq int) (call_streams dialect at ScanAdd (u ∷ []) (length streams)) (go_all (λ v. applied dialect at ScanAdd (v ∷ [])) vs)
     scan_goes u vs c =
         let by = grouped_from streams u int vs c in
         let inner = groups_from int an_int int_from by.groups by.items.are in
@@ -213,18 +222,21 @@ module _ (dialect : Dialect) (at : ℕ) where
         let kss = inner.0 in
         let g = λ (ks : List Scalar). result_ok (reduction_of dialect r ks) in
         let view : vs ≡ map scalar_sequence kss = by.view ∙ ap (map a_seq_of) inner.1 ∙ map_map a_seq_of (map scalar_value) kss in
-        let flags_there : streams_at (stream_of u ∷ []) streams ≡ Some (flags (lengths kss) ∷ []) = by.flags_there ∙ ap (λ ns. Some (flags ns ∷ [])) (ap lengths inner.1 ∙ lengths_inside scalar_value kss) in
+        let flags_there : streams_at (stream_of u ∷ []) streams ≡ Some (flags (lengths kss) ∷ []) = by.flags_there
+        ∙ ap (λ ns. Some (flags ns ∷ [])) (ap lengths inner.1 ∙ lengths_inside scalar_value kss) in
         let items_there : streams_at (stream_of (item_wires u) ∷ []) streams ≡ Some (scalar_cells (concatenation kss) ∷ []) =
         stream_carries streams (item_wires u) (type_as s) (concatenation by.groups) (single_as s) by.items
         ∙ ap (λ cs. Some (cs ∷ [])) (ap (λ gs. map cell_for (concatenation gs)) inner.1 ∙ ap (map cell_for) (sym (map_joined scalar_value kss)) ∙ cells_of_scalars (concatenation kss)) in
         let there = streams_joined (stream_of u ∷ []) (stream_of (item_wires u) ∷ []) streams (flags (lengths kss) ∷ []) (scalar_cells (concatenation kss) ∷ []) flags_there items_there in
         let made : reduce_made dialect r (flags (lengths kss) ∷ scalar_cells (concatenation kss) ∷ []) ≡ one scalar_cells (each g kss) =
         reduce_makes dialect r (lengths kss) (concatenation kss) ∙ ap (λ o. one scalar_cells (bind o (each g))) (cut_forth kss) in
-        step_goes streams at (reduce dialect r) (stream_of u ∷ stream_of (item_wires u) ∷ []) (type_as s) (flags (lengths kss) ∷ scalar_cells (concatenation kss) ∷ []) scalar_sequence (reduce_answer dialect at r) scalar_value g kss vs view there
+        step_goes streams at (reduce dialect r) (stream_of u ∷ stream_of (item_wires u) ∷ []) (type_as s)
+        (flags (lengths kss) ∷ scalar_cells (concatenation kss) ∷ []) scalar_sequence (reduce_answer dialect at r) scalar_value g kss vs view there
         (made ∙ one_scalars s (each g kss)) (reduce_agrees r)
         (each_are (type_as s) scalar_value g (λ ks b e. scalar_as s b (if_ok (λ v. type_of v ≡ s) (reduction_of dialect r ks) b (reduced_type dialect r ks) e)) kss)
 
-    pub concat_goes : (u : Wires) (t : Ty) (vs : List Value) → Carries streams u (seq (seq t)) vs → Goes streams (seq t) (call_streams dialect at Concat (u ∷ []) (length streams)) (go_all (λ v. applied dialect at Concat (v ∷ [])) vs)
+    pub concat_goes : (u : Wires) (t : Ty) (vs : List Value) → Carries streams u (seq (seq t)) vs →
+        Goes streams (seq t) (call_streams dialect at Concat (u ∷ []) (length streams)) (go_all (λ v. applied dialect at Concat (v ∷ [])) vs)
     concat_goes u t vs c =
         let by = grouped_from streams u (seq t) vs c in
         let inner = groups_from (seq t) a_seq_of (seq_from t) by.groups by.items.are in
@@ -237,19 +249,23 @@ module _ (dialect : Dialect) (at : ℕ) where
         let within = grouped_from streams (item_wires u) t (concatenation by.groups) by.items in
         let same : within.groups ≡ concatenation lss =
         sym (elements_made within.groups) ∙ ap (map elements_of) (sym within.view ∙ ap concatenation inner.1 ∙ sym (map_joined a_seq_of lss)) ∙ elements_made (concatenation lss) in
-        let outer_there : streams_at (stream_of u ∷ []) streams ≡ Some (flags (lengths lss) ∷ []) = by.flags_there ∙ ap (λ ns. Some (flags ns ∷ [])) (ap lengths inner.1 ∙ lengths_inside a_seq_of lss) in
+        let outer_there : streams_at (stream_of u ∷ []) streams ≡ Some (flags (lengths lss) ∷ []) = by.flags_there
+        ∙ ap (λ ns. Some (flags ns ∷ [])) (ap lengths inner.1 ∙ lengths_inside a_seq_of lss) in
         let inner_there : streams_at (stream_of (item_wires u) ∷ []) streams ≡ Some (flags (lengths (concatenation lss)) ∷ []) = within.flags_there ∙ ap (λ gs. Some (flags (lengths gs) ∷ [])) same in
         let there = streams_joined (stream_of u ∷ []) (stream_of (item_wires u) ∷ []) streams (flags (lengths lss) ∷ []) (flags (lengths (concatenation lss)) ∷ []) outer_there inner_there in
         let made : concat_flags_made (flags (lengths lss) ∷ flags (lengths (concatenation lss)) ∷ []) ≡ Some (flags (lengths given) ∷ []) =
         concat_flags_makes (lengths lss) (lengths (concatenation lss)) ∙ ap (one flags) (groups_summed lss) in
-        let items : Carries streams (item_wires (item_wires u)) t (concatenation given) = subst (Carries streams (item_wires (item_wires u)) t) (ap concatenation same ∙ joined_joined lss) within.items in
+        let items : Carries streams (item_wires (item_wires u)) t (concatenation given) =
+        subst (Carries streams (item_wires (item_wires u)) t) (ap concatenation same ∙ joined_joined lss) within.items in
         let reads = stream_of u ∷ stream_of (item_wires u) ∷ [] in
         let step = flags_stepped at concat_flags reads (length streams) in
         let wrote = flags_written streams at concat_flags reads (flags (lengths lss) ∷ flags (lengths (concatenation lss)) ∷ []) (flags (lengths given)) there made in
         let on = streams ++ wrote.0 in
         let w = segments (stream_of step.given) (item_wires (item_wires u)) in
         let Holds : Columns → Wires → Type 0 = λ l w. Carries l w (seq t) (map a_seq_of given) in
-        let carried : Carries on w (seq t) (map a_seq_of given) = grouped_carry on (stream_of step.given) (item_wires (item_wires u)) t given wrote.3 (carried_on streams wrote.0 (item_wires (item_wires u)) t (concatenation given) items) in
+        let carried : Carries on w (seq t) (map a_seq_of given) =
+        grouped_carry on (stream_of step.given) (item_wires (item_wires u)) t given wrote.3
+        (carried_on streams wrote.0 (item_wires (item_wires u)) t (concatenation given) items) in
         let makes : Makes streams (seq t) (call_streams dialect at Concat (u ∷ []) (length streams)) (map a_seq_of given) =
         then_does step (λ h k. done (segments (stream_of h) (item_wires (item_wires u))) k) streams (λ l w. streams_at (stream_of w ∷ []) l ≡ Some (flags (lengths given) ∷ [])) Holds wrote
         (done_does w on Holds carried) in

@@ -80,7 +80,8 @@ module _ (dialect : Dialect) (at : ℕ) (streams : Columns) where
       ∙ ap (option_map (columns_of_values item)) (each_map picked beside qs)
       ∙ map_some_same (columns_of_values item) (λ bs. columns_of_values item (map (λ v. v) bs)) (each element_of qs) (λ bs. ap (columns_of_values item) (sym (map-id bs))) in
       let goes : Goes streams item (stepped at (index item) (stream_of u ∷ stream_of v ∷ []) item (length streams)) (go_all (λ p. binary_answer dialect at Index p.0 p.1) ps) =
-      step_goes streams at (index item) (stream_of u ∷ stream_of v ∷ []) item (map datum vectors ∷ integer_cells ns ∷ []) vector_and_index (λ p. binary_answer dialect at Index p.0 p.1) (λ v. v) element_of qs ps
+      step_goes streams at (index item) (stream_of u ∷ stream_of v ∷ []) item (map datum vectors ∷ integer_cells ns ∷ []) vector_and_index
+      (λ p. binary_answer dialect at Index p.0 p.1) (λ v. v) element_of qs ps
       view.1 there made element_agrees (elements_typed item qs are) in
       subst (λ item'. Goes streams item (stepped at (index item') (stream_of u ∷ stream_of v ∷ []) item' (length streams)) (go_all (λ p. binary_answer dialect at Index p.0 p.1) ps))
       (sym (ap item_type cu.of_type)) goes

@@ -73,7 +73,8 @@ pub map_each : {X A B : Type 0} (f : X → Option A) (make : A → B) (xs : List
 map_each f make [] = refl
 map_each {A = A} f make (x ∷ xs) = ap (λ o. bind (option_map make (f x)) (λ y. option_map (λ ys. y ∷ ys) o)) (map_each f make xs) ∙ by_case (f x) (each f xs)
   where
-    by_case : (a : Option A) (vs : Option (List A)) → bind (option_map make a) (λ y. option_map (λ ys. y ∷ ys) (option_map (map make) vs)) ≡ option_map (map make) (bind a (λ v. option_map (λ vs. v ∷ vs) vs))
+    by_case : (a : Option A) (vs : Option (List A)) → bind (option_map make a) (λ y. option_map (λ ys. y ∷ ys) (option_map (map make) vs))
+        ≡ option_map (map make) (bind a (λ v. option_map (λ vs. v ∷ vs) vs))
     by_case None vs = refl
     by_case (Some v) None = refl
     by_case (Some v) (Some vs) = refl
@@ -110,9 +111,11 @@ each_append {A = A} f (x ∷ xs) ys = ap (λ o. bind (f x) (λ y. option_map (λ
 -- all answers of groups are those of the groups joined
 pub each_joined : {X A : Type 0} (f : X → Option A) (groups : List (List X)) → option_map concatenation (each (each f) groups) ≡ each f (concatenation groups)
 each_joined f [] = refl
-each_joined {A = A} f (g ∷ groups) = by_case (each f g) (each (each f) groups) ∙ ap (λ o. bind (each f g) (λ vs. option_map (λ ws. vs ++ ws) o)) (each_joined f groups) ∙ sym (each_append f g (concatenation groups))
+each_joined {A = A} f (g ∷ groups) = by_case (each f g) (each (each f) groups)
+    ∙ ap (λ o. bind (each f g) (λ vs. option_map (λ ws. vs ++ ws) o)) (each_joined f groups) ∙ sym (each_append f g (concatenation groups))
   where
-    by_case : (vs : Option (List A)) (others : Option (List (List A))) → option_map concatenation (bind vs (λ v. option_map (λ o. v ∷ o) others)) ≡ bind vs (λ vs. option_map (λ ws. vs ++ ws) (option_map concatenation others))
+    by_case : (vs : Option (List A)) (others : Option (List (List A))) → option_map concatenation (bind vs (λ v. option_map (λ o. v ∷ o) others))
+        ≡ bind vs (λ vs. option_map (λ ws. vs ++ ws) (option_map concatenation others))
     by_case None others = refl
     by_case (Some vs) None = refl
     by_case (Some vs) (Some others) = refl

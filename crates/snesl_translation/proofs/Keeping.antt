@@ -131,14 +131,18 @@ module _ (at : ℕ) where
       (dist_makes BoolKind (map flag ds) (lengths ls) (truths_of_kind ds) ∙ ap (one (λ (r : List Cell). r)) (dist_map flag (lengths ls) ds ∙ ap (option_map (map flag)) inside.1)) in
       let all = on ++ spread.0 in
       let e = (flags_stepped at (dist_step BoolKind) (d ∷ g ∷ []) (length on)).given in
-      let carried : Carries all items t (concatenation ls) = carried_on on spread.0 items t (concatenation ls) (carried_on streams groups.0 items t (concatenation ls) (items_carry streams (segments g items) t vs c)) in
-      let elements : Makes all t (kept at (stream_of e) items (length all)) (concatenation ms) = kept_of (stream_of e) inside.0 all items (concatenation ls) (concatenation ms) carried spread.3 inside.2 in
+      let carried : Carries all items t (concatenation ls) =
+      carried_on on spread.0 items t (concatenation ls)
+      (carried_on streams groups.0 items t (concatenation ls) (items_carry streams (segments g items) t vs c)) in
+      let elements : Makes all t (kept at (stream_of e) items (length all)) (concatenation ms) =
+      kept_of (stream_of e) inside.0 all items (concatenation ls) (concatenation ms) carried spread.3 inside.2 in
       then_does (flags_stepped at pack_groups (d ∷ g ∷ []) (length streams))
       (λ h k. and_then (flags_stepped at (dist_step BoolKind) (d ∷ g ∷ []) k) (λ e k. and_then (kept at (stream_of e) items k) (λ u k. done (segments (stream_of h) u) k)))
       streams (λ l w. streams_at (stream_of w ∷ []) l ≡ Some (flags (lengths ms) ∷ [])) Kept groups
       (then_does (flags_stepped at (dist_step BoolKind) (d ∷ g ∷ []) (length on)) (λ e k. and_then (kept at (stream_of e) items k) (λ u k. done (segments (stream_of h) u) k))
       on (λ l w. streams_at (stream_of w ∷ []) l ≡ Some (map flag inside.0 ∷ [])) Kept spread
-      (segments_makes all (stream_of h) (kept at (stream_of e) items (length all)) t ws (grown (stream_of h ∷ []) on spread.0 (flags (lengths ms) ∷ []) groups.3) elements (all_packed (seq t) ds vs ws c.are moved)))
+      (segments_makes all (stream_of h) (kept at (stream_of e) items (length all)) t ws
+      (grown (stream_of h ∷ []) on spread.0 (flags (lengths ms) ∷ []) groups.3) elements (all_packed (seq t) ds vs ws c.are moved)))
 
   -- of any type the values beside which true stands
   pub kept_makes : (d : ℕ) (ds : List Bool) (streams : Columns) (w : Wires) (t : Ty) (vs ws : List Value) → Carries streams w t vs

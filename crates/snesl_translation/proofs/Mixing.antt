@@ -73,7 +73,9 @@ module _ {A B : Type 0} (e : A → List B) where
       ∙ ap (option_map (map sum)) (cut_map size (lengths ls) (concatenation ls) ∙ ap (option_map (map (map size))) (cut_forth ls))
       ∙ ap Some (sums_are ls)
 
-  interleave_opened : (xs : Sides A) → interleave (lengths (map opened (lefts xs))) (lengths (map opened (rights xs))) (opened (concatenation (lefts xs))) (opened (concatenation (rights xs))) ≡ Some (opened (alternated xs))
+  interleave_opened : (xs : Sides A) →
+      interleave (lengths (map opened (lefts xs))) (lengths (map opened (rights xs))) (opened (concatenation (lefts xs)))
+      (opened (concatenation (rights xs))) ≡ Some (opened (alternated xs))
   interleave_opened xs =
       ap₂ (λ k l. interleave (lengths (map opened (lefts xs))) (lengths (map opened (rights xs))) k l) (sym (opened_joined (lefts xs))) (sym (opened_joined (rights xs)))
       ∙ ap₂ (λ k l. interleave (lengths k) (lengths l) (concatenation k) (concatenation l)) (sym (lefts_opened xs)) (sym (rights_opened xs))
@@ -122,7 +124,8 @@ pub record BothFlags (streams : Columns) (f g : ℕ) (ns ms : List ℕ) : Type 0
 pub both_on : (streams more : Columns) (f g : ℕ) (ns ms : List ℕ) → BothFlags streams f g ns ms → BothFlags (streams ++ more) f g ns ms
 both_on streams more f g ns ms h = record { left = grown (f ∷ []) streams more (flags ns ∷ []) h.left; right = grown (g ∷ []) streams more (flags ms ∷ []) h.right }
 
-four_there : (streams : Columns) (f g a b : ℕ) (ns ms : List ℕ) (xs ys : List Cell) → BothFlags streams f g ns ms → streams_at (a ∷ []) streams ≡ Some (xs ∷ []) → streams_at (b ∷ []) streams ≡ Some (ys ∷ [])
+four_there : (streams : Columns) (f g a b : ℕ) (ns ms : List ℕ) (xs ys : List Cell) → BothFlags streams f g ns ms → streams_at (a ∷ []) streams
+    ≡ Some (xs ∷ []) → streams_at (b ∷ []) streams ≡ Some (ys ∷ [])
     → streams_at (f ∷ g ∷ a ∷ b ∷ []) streams ≡ Some (flags ns ∷ flags ms ∷ xs ∷ ys ∷ [])
 four_there streams f g a b ns ms xs ys h there other =
     streams_joined (f ∷ []) (g ∷ a ∷ b ∷ []) streams (flags ns ∷ []) (flags ms ∷ xs ∷ ys ∷ []) h.left
@@ -150,7 +153,8 @@ module _ (at : ℕ) where
       let firsts : interleave ns ms (map first_of us) (map first_of vs) ≡ Some (map first_of r) = interleave_map first_of ns ms us vs ∙ ap (option_map (map first_of)) moved in
       let seconds : interleave ns ms (map second_of us) (map second_of vs) ≡ Some (map second_of r) = interleave_map second_of ns ms us vs ∙ ap (option_map (map second_of)) moved in
       pair_makes streams (λ k. mixed at f g p (first_wires other) k) (λ k. mixed at f g q (second_wires other) k) s t r
-      (mixed_of f g ns ms streams p (first_wires other) (map first_of us) (map first_of vs) (map first_of r) grouped (first_carries streams (two p q) s t us c) (first_carries streams other s t vs d) firsts)
+      (mixed_of f g ns ms streams p (first_wires other) (map first_of us) (map first_of vs) (map first_of r) grouped
+      (first_carries streams (two p q) s t us c) (first_carries streams other s t vs d) firsts)
       (λ more.
       let left = carried_on streams more q t (map second_of us) (second_carries streams (two p q) s t us c) in
       let right = carried_on streams more (second_wires other) t (map second_of vs) (second_carries streams other s t vs d) in
@@ -171,12 +175,14 @@ module _ (at : ℕ) where
       let both_left : streams_at (f ∷ p ∷ []) streams ≡ Some (flags ns ∷ flags ps ∷ []) = streams_joined (f ∷ []) (p ∷ []) streams (flags ns ∷ []) (flags ps ∷ []) grouped.left left_there in
       let both_right : streams_at (g ∷ q ∷ []) streams ≡ Some (flags ms ∷ flags qs ∷ []) = streams_joined (g ∷ []) (q ∷ []) streams (flags ms ∷ []) (flags qs ∷ []) grouped.right right_there in
       let groups : Writes streams (flags_stepped at interleave_groups (f ∷ g ∷ p ∷ q ∷ []) (length streams)) (flags rs) =
-      flags_written streams at interleave_groups (f ∷ g ∷ p ∷ q ∷ []) (flags ns ∷ flags ms ∷ flags ps ∷ flags qs ∷ []) (flags rs) (four_there streams f g p q ns ms (flags ps) (flags qs) grouped left_there right_there)
+      flags_written streams at interleave_groups (f ∷ g ∷ p ∷ q ∷ []) (flags ns ∷ flags ms ∷ flags ps ∷ flags qs ∷ []) (flags rs)
+      (four_there streams f g p q ns ms (flags ps) (flags qs) grouped left_there right_there)
       (interleave_groups_makes ns ms ps qs ∙ ap (one flags) (interleave_sizes elements_of ns ms us vs r moved)) in
       let on = streams ++ groups.0 in
       let h = (flags_stepped at interleave_groups (f ∷ g ∷ p ∷ q ∷ []) (length streams)).given in
       let lefter : Writes on (flags_stepped at concat_step (f ∷ p ∷ []) (length on)) (flags ks) =
-      flags_written on at concat_step (f ∷ p ∷ []) (flags ns ∷ flags ps ∷ []) (flags ks) (grown (f ∷ p ∷ []) streams groups.0 (flags ns ∷ flags ps ∷ []) both_left) (concat_flags_makes ns ps ∙ ap (one flags) inside.2) in
+      flags_written on at concat_step (f ∷ p ∷ []) (flags ns ∷ flags ps ∷ []) (flags ks)
+      (grown (f ∷ p ∷ []) streams groups.0 (flags ns ∷ flags ps ∷ []) both_left) (concat_flags_makes ns ps ∙ ap (one flags) inside.2) in
       let further = on ++ lefter.0 in
       let i = (flags_stepped at concat_step (f ∷ p ∷ []) (length on)).given in
       let righter : Writes further (flags_stepped at concat_step (g ∷ q ∷ []) (length further)) (flags ls) =
@@ -189,8 +195,10 @@ module _ (at : ℕ) where
       let inner : BothFlags all (stream_of i) (stream_of j) ks ls = record { left = grown (stream_of i ∷ []) further righter.0 (flags ks ∷ []) lefter.3; right = righter.3 } in
       let elements : Makes all t (mixed at (stream_of i) (stream_of j) items (item_wires other) (length all)) (concatenation (map elements_of r)) =
       mixed_of (stream_of i) (stream_of j) ks ls all items (item_wires other) (concatenation (map elements_of us)) (concatenation (map elements_of vs)) (concatenation (map elements_of r)) inner
-      (later items (concatenation (map elements_of us)) (items_carry streams (segments p items) t us c)) (later (item_wires other) (concatenation (map elements_of vs)) (items_carry streams other t vs d)) inside.4 in
-      let there : streams_at (stream_of h ∷ []) all ≡ Some (flags rs ∷ []) = grown (stream_of h ∷ []) further righter.0 (flags rs ∷ []) (grown (stream_of h ∷ []) on lefter.0 (flags rs ∷ []) groups.3) in
+      (later items (concatenation (map elements_of us)) (items_carry streams (segments p items) t us c))
+      (later (item_wires other) (concatenation (map elements_of vs)) (items_carry streams other t vs d)) inside.4 in
+      let there : streams_at (stream_of h ∷ []) all ≡ Some (flags rs ∷ []) =
+      grown (stream_of h ∷ []) further righter.0 (flags rs ∷ []) (grown (stream_of h ∷ []) on lefter.0 (flags rs ∷ []) groups.3) in
       then_does (flags_stepped at interleave_groups (f ∷ g ∷ p ∷ q ∷ []) (length streams))
       (λ h k. and_then (flags_stepped at concat_step (f ∷ p ∷ []) k) (λ i k. and_then (flags_stepped at concat_step (g ∷ q ∷ []) k) (λ j k.
       and_then (mixed at (stream_of i) (stream_of j) items (item_wires other) k) (λ u k. done (segments (stream_of h) u) k))))

@@ -30,7 +30,8 @@ each_after {A = A} f h (x ∷ xs) = ap (λ o. bind (bind (f x) h) (λ y. option_
 
 -- one operand
 
-pub after_means : (context : Context) (s t : Ty) (names : Names) (operand : Bound → ℕ → ℕ → Making Wires) (step : Wires → ℕ → Making Wires) (one : Environment → Option Value) (answer : Value → Option Value)
+pub after_means : (context : Context) (s t : Ty) (names : Names) (operand : Bound → ℕ → ℕ → Making Wires) (step : Wires → ℕ → Making Wires)
+    (one : Environment → Option Value) (answer : Value → Option Value)
     → IsTranslation operand one names context s
     → ((streams : Columns) (u : Wires) (vs : List Value) → Carries streams u s vs → GoesTo streams t (step u (length streams)) (each answer vs))
     → IsTranslation (λ bound control k. and_then (operand bound control k) (λ u k. step u k)) (λ environment. bind (one environment) answer) names context t
@@ -68,7 +69,9 @@ both_mean context r s t names others left right step one other answer h g goes s
     (λ more u vs is cu.
     let there = streams ++ more in
     two_go there s t (right bound control (length there)) (λ v k. step u v k) (each other environments) (λ ws. each (λ p. answer p.0 p.1) (zip vs ws))
-    (g there bound control environments (borne_on streams more bound others context environments (borne_right streams bound names others context environments bears)) (controls_on streams more control (length environments) controls))
+    (g there bound control environments
+    (borne_on streams more bound others context environments (borne_right streams bound names others context environments bears))
+    (controls_on streams more control (length environments) controls))
     (λ later v ws is' cv.
     let last = there ++ later in
     let long : length vs ≡ length ws = each_length one environments vs is ∙ sym (each_length other environments ws is') in
@@ -107,7 +110,8 @@ each_lists f g xs = each_two f g (λ v row. Some (v ∷ row)) xs ∙ by_case (ea
     all_some [] = refl
     all_some (p ∷ ps) = ap (option_map (λ ys. (p.0 ∷ p.1) ∷ ys)) (all_some ps)
 
-    by_case : (a : Option (List Value)) (b : Option (List (List Value))) → bind a (λ vs. bind b (λ rows. each (λ p. Some (p.0 ∷ p.1)) (zip vs rows))) ≡ bind a (λ vs. bind b (λ rows. Some (map (λ p. p.0 ∷ p.1) (zip vs rows))))
+    by_case : (a : Option (List Value)) (b : Option (List (List Value))) → bind a (λ vs. bind b (λ rows. each (λ p. Some (p.0 ∷ p.1)) (zip vs rows)))
+        ≡ bind a (λ vs. bind b (λ rows. Some (map (λ p. p.0 ∷ p.1) (zip vs rows))))
     by_case None b = refl
     by_case (Some vs) None = refl
     by_case (Some vs) (Some rows) = all_some (zip vs rows)

@@ -207,7 +207,8 @@ parts_joined (q ∷ qs) pss e =
     let one = bind_gives (parts_of q) (λ y. option_map (λ ys. y ∷ ys) (each parts_of qs)) e in
     let others = map_gives (λ ys. one.0 ∷ ys) (each parts_of qs) one.2 in
     let cuts = bind_gives (numbers (map flag q.1)) (λ ns. cut ns q.0) one.1 in
-    ap₂ (λ a b. a ++ b) (cut_back cuts.0 q.0 one.0 cuts.2).1 (parts_joined qs others.0 others.1) ∙ sym (joined_append one.0 (concatenation others.0)) ∙ ap (λ l. concatenation (concatenation l)) (sym others.2)
+    ap₂ (λ a b. a ++ b) (cut_back cuts.0 q.0 one.0 cuts.2).1 (parts_joined qs others.0 others.1) ∙ sym (joined_append one.0 (concatenation others.0))
+    ∙ ap (λ l. concatenation (concatenation l)) (sym others.2)
 
 -- values and flags as arguments
 
@@ -239,7 +240,8 @@ part_agrees dialect at q =
 abbrev alone : Option (List Cell) → Option Columns
 alone o = bind o (λ x. Some (x ∷ []))
 
-both_apart : (n m : ℕ) (streams : Columns) (c d : List Cell) → streams_at (n ∷ m ∷ []) streams ≡ Some (c ∷ d ∷ []) → (streams_at (n ∷ []) streams ≡ Some (c ∷ [])) × (streams_at (m ∷ []) streams ≡ Some (d ∷ []))
+both_apart : (n m : ℕ) (streams : Columns) (c d : List Cell) → streams_at (n ∷ m ∷ []) streams ≡ Some (c ∷ d ∷ []) →
+    (streams_at (n ∷ []) streams ≡ Some (c ∷ [])) × (streams_at (m ∷ []) streams ≡ Some (d ∷ []))
 both_apart n m streams c d e = go_on (slice_get streams n) (slice_get streams m) e
   where
     go_on : (o p : Option (List Cell)) → bind o (λ x. option_map (λ xs. x ∷ xs) (alone p)) ≡ Some (c ∷ d ∷ []) → (alone o ≡ Some (c ∷ [])) × (alone p ≡ Some (d ∷ []))
@@ -253,7 +255,8 @@ both_apart n m streams c d e = go_on (slice_get streams n) (slice_get streams m)
 abbrev TwoColumns : List Cell → List Cell → Columns → Wires → Type 0
 TwoColumns c d streams w = (streams_at (stream_of (first_wires w) ∷ []) streams ≡ Some (c ∷ [])) × (streams_at (stream_of (second_wires w) ∷ []) streams ≡ Some (d ∷ []))
 
-two_written : (streams : Columns) (at : ℕ) (operation : Operation) (reads : List ℕ) (read : Columns) (c d : List Cell) → streams_at reads streams ≡ Some read → made_by operation read ≡ Some (c ∷ d ∷ [])
+two_written : (streams : Columns) (at : ℕ) (operation : Operation) (reads : List ℕ) (read : Columns) (c d : List Cell) → streams_at reads streams
+    ≡ Some read → made_by operation read ≡ Some (c ∷ d ∷ [])
     → Does streams (stepped at operation reads (pair bool bool) (length streams)) (TwoColumns c d)
 two_written streams at operation reads read c d there made = (
   c ∷ d ∷ [],
@@ -265,7 +268,8 @@ two_written streams at operation reads read c d there made = (
 
 module _ (dialect : Dialect) (at : ℕ) (streams : Columns) where
   part_either : (u v : Wires) (t : Ty) (qs : List (List Value × List Bool)) (a : Answer (List Value)) (o : Option (List (List (List Value))))
-      → streams_at (stream_of v ∷ stream_of (item_wires v) ∷ stream_of u ∷ []) streams ≡ Some (flags (lengths (map (λ q. q.1) qs)) ∷ map flag (concatenation (map (λ q. q.1) qs)) ∷ flags (lengths (map (λ q. q.0) qs)) ∷ [])
+      → streams_at (stream_of v ∷ stream_of (item_wires v) ∷ stream_of u ∷ []) streams
+      ≡ Some (flags (lengths (map (λ q. q.1) qs)) ∷ map flag (concatenation (map (λ q. q.1) qs)) ∷ flags (lengths (map (λ q. q.0) qs)) ∷ [])
       → Carries streams (item_wires u) t (concatenation (map (λ q. q.0) qs)) → each parts_of qs ≡ o → Agrees a (option_map (map nested) o)
       → Goes streams (seq (seq t)) (call_streams dialect at Part (u ∷ v ∷ []) (length streams)) a
   part_either u v t qs (gives vs) (Some pss) there c e h =
@@ -273,7 +277,8 @@ module _ (dialect : Dialect) (at : ℕ) (streams : Columns) where
       let step = stepped at part_flags reads (pair bool bool) (length streams) in
       let sizes = map (λ l. lengths l) pss in
       let read = flags (lengths (map (λ q. q.1) qs)) ∷ map flag (concatenation (map (λ q. q.1) qs)) ∷ flags (lengths (map (λ q. q.0) qs)) ∷ [] in
-      let wrote = two_written streams at part_flags reads read (flags (lengths sizes)) (flags (concatenation sizes)) there (parts_made qs ∙ ap (option_map (λ pss. part_columns (map (λ l. lengths l) pss))) e) in
+      let wrote = two_written streams at part_flags reads read (flags (lengths sizes)) (flags (concatenation sizes)) there
+      (parts_made qs ∙ ap (option_map (λ pss. part_columns (map (λ l. lengths l) pss))) e) in
       let on = streams ++ wrote.0 in
       let first = stream_of (first_wires step.given) in
       let second = stream_of (second_wires step.given) in
@@ -282,12 +287,14 @@ module _ (dialect : Dialect) (at : ℕ) (streams : Columns) where
       let inner : Carries on (segments second (item_wires u)) (seq t) (map a_seq_of (concatenation pss)) =
       grouped_carry on second (item_wires u) t (concatenation pss) (wrote.3.1 ∙ ap (λ ns. Some (flags ns ∷ [])) (sym (lengths_joined pss))) items in
       let outer : Carries on (segments first (segments second (item_wires u))) (seq (seq t)) (map a_seq_of (map (map a_seq_of) pss)) =
-      grouped_carry on first (segments second (item_wires u)) (seq t) (map (map a_seq_of) pss) (wrote.3.0 ∙ ap (λ ns. Some (flags ns ∷ [])) (sym (lengths_lengths pss) ∙ sym (lengths_inside a_seq_of pss)))
+      grouped_carry on first (segments second (item_wires u)) (seq t) (map (map a_seq_of) pss)
+      (wrote.3.0 ∙ ap (λ ns. Some (flags ns ∷ [])) (sym (lengths_lengths pss) ∙ sym (lengths_inside a_seq_of pss)))
       (subst (Carries on (segments second (item_wires u)) (seq t)) (map_joined a_seq_of pss) inner) in
       let carried : Carries on (segments first (segments second (item_wires u))) (seq (seq t)) vs =
       subst (Carries on (segments first (segments second (item_wires u))) (seq (seq t))) (map_map a_seq_of (map a_seq_of) pss ∙ some_same (map nested pss) vs h) outer in
       let Holds : Columns → Wires → Type 0 = λ l w. Carries l w (seq (seq t)) vs in
-      then_does step (λ h k. done (segments (stream_of (first_wires h)) (segments (stream_of (second_wires h)) (item_wires u))) k) streams (TwoColumns (flags (lengths sizes)) (flags (concatenation sizes))) Holds wrote
+      then_does step (λ h k. done (segments (stream_of (first_wires h)) (segments (stream_of (second_wires h)) (item_wires u))) k) streams
+      (TwoColumns (flags (lengths sizes)) (flags (concatenation sizes))) Holds wrote
       (done_does (segments first (segments second (item_wires u))) on Holds carried)
   part_either u v t qs (gives vs) None there c e h = absurd (cc)
   part_either u v t qs (faults kind place) (Some pss) there c e h = absurd (cc)

@@ -53,7 +53,8 @@ module _ (dialect : Dialect) (text : List ℕ) (calls : Calls) (bodies : Bodies)
 
   pub variable_means : (place : Span) (t : Ty) → found (spelling text place) context ≡ Some (open_to t) → TreeMeans dialect text calls bodies context (name place) t
   variable_means place t is =
-      means_same context t (spelling text place ∷ []) (tr dialect text bodies (name place)) (value_in (spelling text place)) (λ environment. given_by (eval dialect (name place) text calls environment))
+      means_same context t (spelling text place ∷ []) (tr dialect text bodies (name place)) (value_in (spelling text place))
+      (λ environment. given_by (eval dialect (name place) text calls environment))
       (λ environment. named_value place.at (value_in (spelling text place) environment)) (name_means context (spelling text place) t is)
 
   pub pair_tree_means : (at : ℕ) (first second : Tree) (s t : Ty) → TreeMeans dialect text calls bodies context first s → TreeMeans dialect text calls bodies context second t
@@ -89,13 +90,15 @@ module _ (dialect : Dialect) (text : List ℕ) (calls : Calls) (bodies : Bodies)
       (more_mean context t ts (free text first) (free_of_all text others) (tr dialect text bodies first) (tr_all dialect text bodies others)
       (λ environment. given_by (eval dialect first text calls environment)) (λ environment. given_by (eval_all dialect others text calls environment)) h g)
 
-  pub apply_means : (functions : Signatures) (function : Span) (arguments : Trees) (signature : Signature) → CallsMean functions calls bodies → function_named (spelling text function) functions ≡ Some signature
+  pub apply_means : (functions : Signatures) (function : Span) (arguments : Trees) (signature : Signature) → CallsMean functions calls bodies →
+      function_named (spelling text function) functions ≡ Some signature
       → TreesMean dialect text calls bodies context arguments signature.parameters → TreeMeans dialect text calls bodies context (apply function arguments) signature.result
   apply_means functions function arguments signature mean is h =
       means_same context signature.result (free_of_all text arguments) (tr dialect text bodies (apply function arguments))
       (λ environment. bind (given_by (eval_all dialect arguments text calls environment)) (λ row. given_by (calls function.at (spelling text function) row)))
       (λ environment. given_by (eval dialect (apply function arguments) text calls environment))
       (λ environment. sym (given_go (eval_all dialect arguments text calls environment) (calls function.at (spelling text function))))
-      (call_means context signature.parameters signature.result (free_of_all text arguments) (tr_all dialect text bodies arguments) (λ us control k. bodies function.at (spelling text function) us control k)
+      (call_means context signature.parameters signature.result (free_of_all text arguments) (tr_all dialect text bodies arguments)
+      (λ us control k. bodies function.at (spelling text function) us control k)
       (λ environment. given_by (eval_all dialect arguments text calls environment)) (λ row. given_by (calls function.at (spelling text function) row)) h
       (λ streams us control rows carry controls. mean streams function.at (spelling text function) signature us control rows is carry controls))

@@ -76,7 +76,13 @@ sourced_does at cells t v streams is agrees = (
   columns_of_values t (v ∷ []),
   sources_run at cells (length streams) (kinds_of t) (columns_of_values t (v ∷ [])) streams (laid_length t (v ∷ [])) agrees,
   omega (arith, length-append streams (columns_of_values t (v ∷ [])), laid_length t (v ∷ [])),
-  record { of_type = wires_type t (length streams); whole = wires_whole t (length streams); are = all_cons t v [] is refl; there = fresh t streams (columns_of_values t (v ∷ [])) (laid_length t (v ∷ [])) },
+  record {
+    of_type = wires_type t (length streams);
+    whole = wires_whole t (length streams);
+    are = all_cons t v [] is refl;
+    there =
+        fresh t streams (columns_of_values t (v ∷ [])) (laid_length t (v ∷ []));
+  },
 )
 
 first_agree : (cells : ℕ → List Cell) (number : ℕ) (first others : Columns) → Agrees cells number (first ++ others) → Agrees cells number first
@@ -89,7 +95,8 @@ unfolding Agrees
 others_agree cells number first others agrees k i is lt =
     agrees k (length first + i) (omega (arith, is)) (omega (arith, lt, length-append first others)) ∙ get_or-append-add first others i []
 
-inputs_does : (at : ℕ) (cells : ℕ → List Cell) (dialect : Dialect) (declarations : List InputDeclaration) (environment : Environment) (streams : Columns) → FitDeclarations dialect declarations environment
+inputs_does : (at : ℕ) (cells : ℕ → List Cell) (dialect : Dialect) (declarations : List InputDeclaration) (environment : Environment)
+    (streams : Columns) → FitDeclarations dialect declarations environment
     → Agrees cells (length streams) (columns_of declarations environment)
     → Does streams (inputs_sourced at cells declarations (length streams)) (λ l bound. (names : Names) → Bears l bound names (names_context declarations) (environment ∷ []))
 unfolding sourced_does
@@ -109,11 +116,13 @@ inputs_does at cells dialect (declaration ∷ declarations) (entry ∷ environme
     let named : ((declaration.0, entry.1) ∷ environment) ∷ [] ≡ (entry ∷ environment) ∷ [] = ap (λ n. ((n, entry.1) ∷ environment) ∷ []) (sym fits.0) in
     let borne : (names : Names) → Bears last ((declaration.0, u) ∷ bound) names (names_context (declaration ∷ declarations)) ((entry ∷ environment) ∷ []) = λ names.
     subst (Bears last ((declaration.0, u) ∷ bound) names (names_context (declaration ∷ declarations))) named
-    (borne_with last bound declaration.0 u t names (names_context declarations) (environment ∷ []) (entry.1 ∷ []) refl (carried_on there others.0 u t (entry.1 ∷ []) first.3) (others.3 (without declaration.0 names))) in
+    (borne_with last bound declaration.0 u t names (names_context declarations) (environment ∷ []) (entry.1 ∷ []) refl
+    (carried_on there others.0 u t (entry.1 ∷ []) first.3) (others.3 (without declaration.0 names))) in
     then_does (sourced at cells t (length streams)) (λ u k. and_then (inputs_sourced at cells declarations k) (λ bound k. done ((declaration.0, u) ∷ bound) k)) streams
     (λ l w. Carries l w t (entry.1 ∷ [])) (λ l bound. (names : Names) → Bears l bound names (names_context (declaration ∷ declarations)) ((entry ∷ environment) ∷ [])) first
     (then_does (inputs_sourced at cells declarations (length there)) (λ bound k. done ((declaration.0, u) ∷ bound) k) there
-    (λ l bound. (names : Names) → Bears l bound names (names_context declarations) (environment ∷ [])) (λ l bound. (names : Names) → Bears l bound names (names_context (declaration ∷ declarations)) ((entry ∷ environment) ∷ [])) others
+    (λ l bound. (names : Names) → Bears l bound names (names_context declarations) (environment ∷ []))
+    (λ l bound. (names : Names) → Bears l bound names (names_context (declaration ∷ declarations)) ((entry ∷ environment) ∷ [])) others
     (done_does ((declaration.0, u) ∷ bound) last (λ l bound. (names : Names) → Bears l bound names (names_context (declaration ∷ declarations)) ((entry ∷ environment) ∷ [])) borne))
 
 -- those of a program's sources are so after the control stream
@@ -175,7 +184,8 @@ plans_mean expressions text program declared t environment typed fits = (where_v
     where_value : (v : Value) → program_value text program environment ≡ gives v
         → (type_of_wires plan.given ≡ t) × ((streams : Columns) × (run plan.steps [] ≡ Some streams) × (streams_at (numbers_of plan.given) streams ≡ Some (columns_of_values t (v ∷ []))))
     where_value v is =
-        let makes : Makes there t (translated bound zero (length there)) (v ∷ []) = subst (λ a. GoesTo there t (translated bound zero (length there)) (bind (given_by a) (λ y. Some (y ∷ [])))) is goes in
+        let makes : Makes there t (translated bound zero (length there)) (v ∷ []) =
+        subst (λ a. GoesTo there t (translated bound zero (length there)) (bind (given_by a) (λ y. Some (y ∷ [])))) is goes in
         let last = there ++ makes.0 in
         let w = (translated bound zero (length there)).given in
         let c = makes.3 in
@@ -187,13 +197,15 @@ plans_mean expressions text program declared t environment typed fits = (where_v
           subst (λ l. Holds l w) (sym (append-nil last)) (c.of_type, c.there),
         ) in
         let whole = then_does (control_sourced at zero) behind [] (λ l c. Controls l c 1) Holds (first, refl, refl, refl)
-        (then_does (inputs_sourced at cells declared.inputs (length first)) (λ bound k. and_then (translated bound zero k) printed) first (λ l bound. (names : Names) → Bears l bound names (names_context declared.inputs) (environment ∷ [])) Holds inputs
+        (then_does (inputs_sourced at cells declared.inputs (length first)) (λ bound k. and_then (translated bound zero k) printed) first
+        (λ l bound. (names : Names) → Bears l bound names (names_context declared.inputs) (environment ∷ [])) Holds inputs
         (then_does (translated bound zero (length there)) printed there (λ l w. Carries l w t (v ∷ [])) Holds makes end)) in
         (whole.3.0, (whole.0, whole.1, whole.3.1))
 
     where_fault : (kind : FaultKind) (place : ℕ) → program_value text program environment ≡ faults kind place → run plan.steps [] ≡ None
     where_fault kind place is =
-        let stops : run (translated bound zero (length there)).steps there ≡ None = subst (λ a. GoesTo there t (translated bound zero (length there)) (bind (given_by a) (λ y. Some (y ∷ [])))) is goes in
+        let stops : run (translated bound zero (length there)).steps there ≡ None =
+        subst (λ a. GoesTo there t (translated bound zero (length there)) (bind (given_by a) (λ y. Some (y ∷ [])))) is goes in
         rest_stops (control_sourced at zero) [] first refl refl behind
         (rest_stops (inputs_sourced at cells declared.inputs (length first)) first inputs.0 inputs.1 inputs.2 (λ bound k. and_then (translated bound zero k) printed)
         (first_stops (translated bound zero (length there)) printed there stops))

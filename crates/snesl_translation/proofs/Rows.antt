@@ -124,7 +124,8 @@ rows_length n (column ∷ columns) e =
     let rest = rows_length n columns p.1 in
     beside_length column.0 column.1 (rows_of n columns) (eqb-true (length column.1) n p.0 ∙ sym rest) ∙ rest
 
-pub inner_lengths : (ns : List ℕ) (all : List BoundItems) (environments : List Environment) → all_fit ns all ≡ true → length ns ≡ length environments → lengths (inner_instances ns all environments) ≡ ns
+pub inner_lengths : (ns : List ℕ) (all : List BoundItems) (environments : List Environment) → all_fit ns all ≡ true → length ns ≡ length environments
+    → lengths (inner_instances ns all environments) ≡ ns
 inner_lengths [] [] [] e f = refl
 inner_lengths [] [] (environment ∷ environments) e f = absurd (omega (arith))
 inner_lengths [] (columns ∷ all) environments e f = absurd (cc)
@@ -170,7 +171,8 @@ beside_rows name [] (row ∷ rows) environment = refl
 beside_rows name (v ∷ vs) [] environment = refl
 beside_rows name (v ∷ vs) (row ∷ rows) environment = ap (λ l. ((name, v) ∷ (row ++ environment)) ∷ l) (beside_rows name vs rows environment)
 
-with_name_append : (name : List ℕ) (first second : List Environment) (vs ws : List Value) → length first ≡ length vs → with_name name (first ++ second) (vs ++ ws) ≡ with_name name first vs ++ with_name name second ws
+with_name_append : (name : List ℕ) (first second : List Environment) (vs ws : List Value) → length first ≡ length vs →
+    with_name name (first ++ second) (vs ++ ws) ≡ with_name name first vs ++ with_name name second ws
 with_name_append name [] second [] ws e = refl
 with_name_append name [] second (v ∷ vs) ws e = absurd (omega (arith))
 with_name_append name (a ∷ first) second [] ws e = absurd (omega (arith))

@@ -21,6 +21,7 @@ in_turn (step ∷ first) second streams =
     bind_same (streams_at step.reads streams)
     (λ read. bind (made_by step.operation read) (λ written. run (first ++ second) (streams ++ written)))
     (λ read. bind (bind (made_by step.operation read) (λ written. run first (streams ++ written))) (run second))
-    (λ read. bind_same (made_by step.operation read) (λ written. run (first ++ second) (streams ++ written)) (λ written. bind (run first (streams ++ written)) (run second)) (λ written. in_turn first second (streams ++ written))
+    (λ read. bind_same (made_by step.operation read) (λ written. run (first ++ second) (streams ++ written))
+    (λ written. bind (run first (streams ++ written)) (run second)) (λ written. in_turn first second (streams ++ written))
     ∙ sym (bind_bind (made_by step.operation read) (λ written. run first (streams ++ written)) (run second)))
     ∙ sym (bind_bind (streams_at step.reads streams) (λ read. bind (made_by step.operation read) (λ written. run first (streams ++ written))) (run second))

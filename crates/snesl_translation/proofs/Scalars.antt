@@ -46,14 +46,17 @@ module _ (dialect : Dialect) (at : ℕ) where
   unary_agrees op (Int n) = agree_value scalar_value at (unary_value dialect op (Int n))
   unary_agrees op (Truth b) = agree_value scalar_value at (unary_value dialect op (Truth b))
 
-  scalars_agree : (op : BinaryOperator) (q : Scalar × Scalar) → Agrees (scalars_answer dialect at op (scalar_value q.0) (scalar_value q.1)) (option_map scalar_value (result_ok (binary_value dialect op q.0 q.1)))
+  scalars_agree : (op : BinaryOperator) (q : Scalar × Scalar) →
+      Agrees (scalars_answer dialect at op (scalar_value q.0) (scalar_value q.1))
+      (option_map scalar_value (result_ok (binary_value dialect op q.0 q.1)))
   scalars_agree op (Int m, Int n) = agree_value scalar_value at (binary_value dialect op (Int m) (Int n))
   scalars_agree op (Int m, Truth b) = agree_value scalar_value at (binary_value dialect op (Int m) (Truth b))
   scalars_agree op (Truth a, Int n) = agree_value scalar_value at (binary_value dialect op (Truth a) (Int n))
   scalars_agree op (Truth a, Truth b) = agree_value scalar_value at (binary_value dialect op (Truth a) (Truth b))
 
   -- `==` of integers, and of truth values
-  equal_integers : (ps : List (Value × Value)) → AllAre int (map (λ p. p.0) ps) → go_all (λ p. equal_answer dialect at p.0 p.1) ps ≡ go_all (λ p. scalars_answer dialect at binaries.EqualIntegers p.0 p.1) ps
+  equal_integers : (ps : List (Value × Value)) → AllAre int (map (λ p. p.0) ps) → go_all (λ p. equal_answer dialect at p.0 p.1) ps
+      ≡ go_all (λ p. scalars_answer dialect at binaries.EqualIntegers p.0 p.1) ps
   equal_integers [] are = refl
   equal_integers ((an_int n, w) ∷ ps) are =
       ap (λ b. go (scalars_answer dialect at binaries.EqualIntegers (an_int n) w) (λ y. go b (λ ys. gives (y ∷ ys)))) (equal_integers ps (all_split int (an_int n) (map (λ p. p.0) ps) are).1)
@@ -62,7 +65,8 @@ module _ (dialect : Dialect) (at : ℕ) where
   equal_integers ((a_vec vs, w) ∷ ps) are = absurd (cc)
   equal_integers ((a_seq vs, w) ∷ ps) are = absurd (cc)
 
-  equal_truths : (ps : List (Value × Value)) → AllAre bool (map (λ p. p.0) ps) → go_all (λ p. equal_answer dialect at p.0 p.1) ps ≡ go_all (λ p. scalars_answer dialect at binaries.EqualTruths p.0 p.1) ps
+  equal_truths : (ps : List (Value × Value)) → AllAre bool (map (λ p. p.0) ps) → go_all (λ p. equal_answer dialect at p.0 p.1) ps
+      ≡ go_all (λ p. scalars_answer dialect at binaries.EqualTruths p.0 p.1) ps
   equal_truths [] are = refl
   equal_truths ((a_bool b, w) ∷ ps) are =
       ap (λ o. go (scalars_answer dialect at binaries.EqualTruths (a_bool b) w) (λ y. go o (λ ys. gives (y ∷ ys)))) (equal_truths ps (all_split bool (a_bool b) (map (λ p. p.0) ps) are).1)
@@ -86,7 +90,8 @@ module _ (dialect : Dialect) (at : ℕ) where
         (each_are (type_as s) scalar_value g (λ k b e. scalar_as s b (if_ok (λ v. type_of v ≡ s) (unary_value dialect op k) b (unary_type dialect op k) e)) ks)
 
     -- both operands are of the operator's type
-    scalars_go : (op : BinaryOperator) (u v : Wires) (ps : List (Value × Value)) → Carries streams u (type_as (binary_operand op)) (map (λ p. p.0) ps) → Carries streams v (type_as (binary_operand op)) (map (λ p. p.1) ps)
+    scalars_go : (op : BinaryOperator) (u v : Wires) (ps : List (Value × Value)) → Carries streams u (type_as (binary_operand op)) (map (λ p. p.0) ps)
+        → Carries streams v (type_as (binary_operand op)) (map (λ p. p.1) ps)
         → Goes streams (type_as (binary_result op)) (scalars_step dialect at op (type_as (binary_result op)) u v (length streams)) (go_all (λ p. scalars_answer dialect at op p.0 p.1) ps)
     scalars_go op u v ps cu cv =
         let s = binary_operand op in
@@ -103,15 +108,19 @@ module _ (dialect : Dialect) (at : ℕ) where
         stream_carries streams v (type_as s) (map (λ p. p.1) ps) (single_as s) cv ∙ ap (λ cs. Some (cs ∷ [])) (ap (map cell_for) right ∙ cells_of_scalars ys) in
         let there = streams_joined (stream_of u ∷ []) (stream_of v ∷ []) streams (scalar_cells xs ∷ []) (scalar_cells ys ∷ []) there_left there_right in
         let g = λ (q : Scalar × Scalar). result_ok (binary_value dialect op q.0 q.1) in
-        let made : binary_made dialect op (scalar_cells xs ∷ scalar_cells ys ∷ []) ≡ one scalar_cells (each g qs) = binary_makes dialect op xs ys ∙ ap (λ o. one scalar_cells (bind o (each g))) (paired_forth qs) in
-        step_goes streams at (binary dialect op) (stream_of u ∷ stream_of v ∷ []) (type_as t) (scalar_cells xs ∷ scalar_cells ys ∷ []) both_values (λ p. scalars_answer dialect at op p.0 p.1) scalar_value g qs ps view.1 there
+        let made : binary_made dialect op (scalar_cells xs ∷ scalar_cells ys ∷ []) ≡ one scalar_cells (each g qs) = binary_makes dialect op xs ys
+        ∙ ap (λ o. one scalar_cells (bind o (each g))) (paired_forth qs) in
+        step_goes streams at (binary dialect op) (stream_of u ∷ stream_of v ∷ []) (type_as t) (scalar_cells xs ∷ scalar_cells ys ∷ []) both_values
+        (λ p. scalars_answer dialect at op p.0 p.1) scalar_value g qs ps view.1 there
         (made ∙ one_scalars t (each g qs)) (scalars_agree op)
         (each_are (type_as t) scalar_value g (λ q b e. scalar_as t b (if_ok (λ v. type_of v ≡ t) (binary_value dialect op q.0 q.1) b (binary_type dialect op q.0 q.1) e)) qs)
 
     -- An operator before its operand, over all instances.
     pub prefix_goes : (operator : Prefix) (u : Wires) (s t : Ty) (vs : List Value) → prefix_result operator s ≡ Some t → Carries streams u s vs
         → Goes streams t (prefix_streams dialect at operator u (length streams)) (go_all (prefix_answer dialect at operator) vs)
-    prefix_goes Negate u int t vs e c = goes_typed streams int t (prefix_streams dialect at Negate u (length streams)) (go_all (prefix_answer dialect at Negate) vs) e (unary_goes unaries.Negate u vs c)
+    prefix_goes Negate u int t vs e c =
+        goes_typed streams int t (prefix_streams dialect at Negate u (length streams)) (go_all (prefix_answer dialect at Negate) vs) e
+        (unary_goes unaries.Negate u vs c)
     prefix_goes Not u bool t vs e c = goes_typed streams bool t (prefix_streams dialect at Not u (length streams)) (go_all (prefix_answer dialect at Not) vs) e (unary_goes unaries.Not u vs c)
     prefix_goes _ u _ t vs e c = absurd (cc)
 
@@ -127,23 +136,45 @@ module _ (dialect : Dialect) (at : ℕ) where
     pub binary_goes : (operator : Operator) (u v : Wires) (s r t : Ty) (ps : List (Value × Value)) → operator_result operator s r ≡ Some t → operator ≢ Append
         → Carries streams u s (map (λ p. p.0) ps) → Carries streams v r (map (λ p. p.1) ps)
         → Goes streams t (binary_streams dialect at operator u v (length streams)) (go_all (λ p. binary_answer dialect at operator p.0 p.1) ps)
-    binary_goes Or u v bool bool t ps e n cu cv = goes_typed streams bool t (binary_streams dialect at Or u v (length streams)) (go_all (λ p. binary_answer dialect at Or p.0 p.1) ps) e (scalars_go binaries.Or u v ps cu cv)
-    binary_goes And u v bool bool t ps e n cu cv = goes_typed streams bool t (binary_streams dialect at And u v (length streams)) (go_all (λ p. binary_answer dialect at And p.0 p.1) ps) e (scalars_go binaries.And u v ps cu cv)
+    binary_goes Or u v bool bool t ps e n cu cv =
+        goes_typed streams bool t (binary_streams dialect at Or u v (length streams)) (go_all (λ p. binary_answer dialect at Or p.0 p.1) ps) e
+        (scalars_go binaries.Or u v ps cu cv)
+    binary_goes And u v bool bool t ps e n cu cv =
+        goes_typed streams bool t (binary_streams dialect at And u v (length streams)) (go_all (λ p. binary_answer dialect at And p.0 p.1) ps) e
+        (scalars_go binaries.And u v ps cu cv)
     binary_goes Equal u v int int t ps e n cu cv =
         goes_typed streams bool t (binary_streams dialect at Equal u v (length streams)) (go_all (λ p. binary_answer dialect at Equal p.0 p.1) ps) e
         (equal_goes int binaries.EqualIntegers u v ps refl cu (equal_integers ps cu.are) (scalars_go binaries.EqualIntegers u v ps cu cv))
     binary_goes Equal u v bool bool t ps e n cu cv =
         goes_typed streams bool t (binary_streams dialect at Equal u v (length streams)) (go_all (λ p. binary_answer dialect at Equal p.0 p.1) ps) e
         (equal_goes bool binaries.EqualTruths u v ps refl cu (equal_truths ps cu.are) (scalars_go binaries.EqualTruths u v ps cu cv))
-    binary_goes Less u v int int t ps e n cu cv = goes_typed streams bool t (binary_streams dialect at Less u v (length streams)) (go_all (λ p. binary_answer dialect at Less p.0 p.1) ps) e (scalars_go binaries.Less u v ps cu cv)
-    binary_goes AtMost u v int int t ps e n cu cv = goes_typed streams bool t (binary_streams dialect at AtMost u v (length streams)) (go_all (λ p. binary_answer dialect at AtMost p.0 p.1) ps) e (scalars_go binaries.AtMost u v ps cu cv)
-    binary_goes Greater u v int int t ps e n cu cv = goes_typed streams bool t (binary_streams dialect at Greater u v (length streams)) (go_all (λ p. binary_answer dialect at Greater p.0 p.1) ps) e (scalars_go binaries.Greater u v ps cu cv)
-    binary_goes AtLeast u v int int t ps e n cu cv = goes_typed streams bool t (binary_streams dialect at AtLeast u v (length streams)) (go_all (λ p. binary_answer dialect at AtLeast p.0 p.1) ps) e (scalars_go binaries.AtLeast u v ps cu cv)
-    binary_goes Add u v int int t ps e n cu cv = goes_typed streams int t (binary_streams dialect at Add u v (length streams)) (go_all (λ p. binary_answer dialect at Add p.0 p.1) ps) e (scalars_go binaries.Add u v ps cu cv)
-    binary_goes Subtract u v int int t ps e n cu cv = goes_typed streams int t (binary_streams dialect at Subtract u v (length streams)) (go_all (λ p. binary_answer dialect at Subtract p.0 p.1) ps) e (scalars_go binaries.Subtract u v ps cu cv)
-    binary_goes Multiply u v int int t ps e n cu cv = goes_typed streams int t (binary_streams dialect at Multiply u v (length streams)) (go_all (λ p. binary_answer dialect at Multiply p.0 p.1) ps) e (scalars_go binaries.Multiply u v ps cu cv)
-    binary_goes Divide u v int int t ps e n cu cv = goes_typed streams int t (binary_streams dialect at Divide u v (length streams)) (go_all (λ p. binary_answer dialect at Divide p.0 p.1) ps) e (scalars_go binaries.Divide u v ps cu cv)
-    binary_goes Remainder u v int int t ps e n cu cv = goes_typed streams int t (binary_streams dialect at Remainder u v (length streams)) (go_all (λ p. binary_answer dialect at Remainder p.0 p.1) ps) e (scalars_go binaries.Remainder u v ps cu cv)
+    binary_goes Less u v int int t ps e n cu cv =
+        goes_typed streams bool t (binary_streams dialect at Less u v (length streams)) (go_all (λ p. binary_answer dialect at Less p.0 p.1) ps) e
+        (scalars_go binaries.Less u v ps cu cv)
+    binary_goes AtMost u v int int t ps e n cu cv =
+        goes_typed streams bool t (binary_streams dialect at AtMost u v (length streams)) (go_all (λ p. binary_answer dialect at AtMost p.0 p.1) ps) e
+        (scalars_go binaries.AtMost u v ps cu cv)
+    binary_goes Greater u v int int t ps e n cu cv =
+        goes_typed streams bool t (binary_streams dialect at Greater u v (length streams)) (go_all (λ p. binary_answer dialect at Greater p.0 p.1) ps) e
+        (scalars_go binaries.Greater u v ps cu cv)
+    binary_goes AtLeast u v int int t ps e n cu cv =
+        goes_typed streams bool t (binary_streams dialect at AtLeast u v (length streams)) (go_all (λ p. binary_answer dialect at AtLeast p.0 p.1) ps) e
+        (scalars_go binaries.AtLeast u v ps cu cv)
+    binary_goes Add u v int int t ps e n cu cv =
+        goes_typed streams int t (binary_streams dialect at Add u v (length streams)) (go_all (λ p. binary_answer dialect at Add p.0 p.1) ps) e
+        (scalars_go binaries.Add u v ps cu cv)
+    binary_goes Subtract u v int int t ps e n cu cv =
+        goes_typed streams int t (binary_streams dialect at Subtract u v (length streams)) (go_all (λ p. binary_answer dialect at Subtract p.0 p.1) ps)
+        e (scalars_go binaries.Subtract u v ps cu cv)
+    binary_goes Multiply u v int int t ps e n cu cv =
+        goes_typed streams int t (binary_streams dialect at Multiply u v (length streams)) (go_all (λ p. binary_answer dialect at Multiply p.0 p.1) ps)
+        e (scalars_go binaries.Multiply u v ps cu cv)
+    binary_goes Divide u v int int t ps e n cu cv =
+        goes_typed streams int t (binary_streams dialect at Divide u v (length streams)) (go_all (λ p. binary_answer dialect at Divide p.0 p.1) ps) e
+        (scalars_go binaries.Divide u v ps cu cv)
+    binary_goes Remainder u v int int t ps e n cu cv =
+        goes_typed streams int t (binary_streams dialect at Remainder u v (length streams))
+        (go_all (λ p. binary_answer dialect at Remainder p.0 p.1) ps) e (scalars_go binaries.Remainder u v ps cu cv)
     binary_goes Index u v (vec item) int t ps e n cu cv =
         goes_typed streams item t (binary_streams dialect at Index u v (length streams)) (go_all (λ p. binary_answer dialect at Index p.0 p.1) ps) e (index_goes dialect at streams u v item ps cu cv)
     binary_goes Append u v s r t ps e n cu cv = absurd (n refl)

@@ -76,7 +76,8 @@ step_either : {B : Type 0} (streams : Columns) (at : ℕ) (operation : Operation
     → streams_at reads streams ≡ Some read → made_by operation read ≡ option_map (λ bs. columns_of_values t (map value bs)) o → Agrees a (option_map (map value) o)
     → ((bs : List B) → o ≡ Some bs → AllAre t (map value bs)) → Goes streams t (stepped at operation reads t (length streams)) a
 step_either streams at operation reads t read value (gives vs) (Some bs) there made h are =
-    subst (λ vs. Makes streams t (stepped at operation reads t (length streams)) vs) (some_same (map value bs) vs h) (stepped_makes streams at operation reads t read (map value bs) there made (are bs refl))
+    subst (λ vs. Makes streams t (stepped at operation reads t (length streams)) vs) (some_same (map value bs) vs h)
+    (stepped_makes streams at operation reads t read (map value bs) there made (are bs refl))
 step_either streams at operation reads t read value (gives vs) None there made h are = absurd (cc)
 step_either streams at operation reads t read value (faults kind place) (Some bs) there made h are = absurd (cc)
 step_either streams at operation reads t read value (faults kind place) None there made h are = stepped_stops streams at operation reads t (length streams) read there made

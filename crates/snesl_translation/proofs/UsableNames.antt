@@ -9,7 +9,9 @@ use Rattle.snesl_values.specs.Inputs.{InputDeclaration}
 use Rattle.snesl_tree.specs.Spelling.{spelling}
 use Rattle.snesl_tree.specs.Tree.{Tree, Trees, Binders, binder, Condition}
 use Rattle.snesl_types.specs.Contexts.{open_to, Context, found, names_context, inside, Signatures}
-use Rattle.snesl_types.specs.Typing.{Types, has_type, Gives, integer_type, truth_type, name_type, binary_type, prefix_type, call_type, apply_type, group_type, pair_type, binding_type, choice_type, literal_type, filter_type, each_type, AllTypes, no_types, more_types, BindersType, no_binders, more_binders, ConditionTypes, no_condition, condition_type}
+use Rattle.snesl_types.specs.Typing.{Types, has_type, Gives, integer_type, truth_type, name_type, binary_type, prefix_type, call_type, apply_type}
+use Rattle.snesl_types.specs.Typing.{group_type, pair_type, binding_type, choice_type, literal_type, filter_type, each_type, AllTypes, no_types}
+use Rattle.snesl_types.specs.Typing.{more_types, BindersType, no_binders, more_binders, ConditionTypes, no_condition, condition_type}
 use Rattle.snesl_translation.specs.FreeNames.{Names, is_among, without, without_binders, free, free_of_all, free_of_sources, free_of_condition}
 use Rattle.snesl_translation.specs.Sources.{without_items}
 use Rattle.snesl_translation.proofs.Borne.{AreOpen, found_outside}
@@ -68,13 +70,16 @@ module _ {dialect : Dialect} {text : List ℕ} {functions : Signatures} where
         let name = spelling text place in
         both_open (free text value) (without name (free text body)) context (free_are_open h) (open_after ((name, s) ∷ []) (free text body) context (free_are_open g))
     form_open (choice_type {context = context} {condition = condition} {positive = positive} {negative = negative} h g k) =
-        both_open (free text condition) (free text positive ++ free text negative) context (free_are_open h) (both_open (free text positive) (free text negative) context (free_are_open g) (free_are_open k))
+        both_open (free text condition) (free text positive ++ free text negative) context (free_are_open h)
+        (both_open (free text positive) (free text negative) context (free_are_open g) (free_are_open k))
     form_open (literal_type h same) = all_open h
     form_open (filter_type {context = context} {item = item} {condition = condition} h g) = both_open (free text condition) (free text item) context (free_are_open g) (free_are_open h)
     form_open (each_type {context = context} {body = body} {place = place} {source = source} {others = others} {condition = condition} {items = items} hb hc h) =
         let p = binder_items hb in
         let names = free_of_condition text condition ++ free text body in
-        let inner : AreOpen names (names_context items ++ inside context) = both_open (free_of_condition text condition) (free text body) (names_context items ++ inside context) (condition_open hc) (free_are_open h) in
+        let inner : AreOpen names (names_context items ++ inside context) =
+        both_open (free_of_condition text condition) (free text body) (names_context items ++ inside context) (condition_open hc) (free_are_open h)
+        in
         let outer : AreOpen (without_items items names) context = outside_open (without_items items names) context (open_after items names (inside context) inner) in
         let same : without_items items names ≡ without_binders text (binder place source others) names = ap (λ l. without_items l names) p.1 ∙ sym (p.2 names) in
         both_open (free_of_sources text (binder place source others)) (without_binders text (binder place source others) names) context (sources_open hb) (subst (λ l. AreOpen l context) same outer)
@@ -83,9 +88,11 @@ module _ {dialect : Dialect} {text : List ℕ} {functions : Signatures} where
     all_open (no_types {context = context}) = none_open context
     all_open (more_types {context = context} {first = first} {others = others} h g) = both_open (free text first) (free_of_all text others) context (free_are_open h) (all_open g)
 
-    sources_open : {context : Context} {earlier all : List InputDeclaration} {binders : Binders} → BindersType dialect text functions context earlier binders all → AreOpen (free_of_sources text binders) context
+    sources_open : {context : Context} {earlier all : List InputDeclaration} {binders : Binders} →
+        BindersType dialect text functions context earlier binders all → AreOpen (free_of_sources text binders) context
     sources_open (no_binders {context = context}) = none_open context
-    sources_open (more_binders {context = context} {source = source} {others = others} h new rest) = both_open (free text source) (free_of_sources text others) context (free_are_open h) (sources_open rest)
+    sources_open (more_binders {context = context} {source = source} {others = others} h new rest) =
+        both_open (free text source) (free_of_sources text others) context (free_are_open h) (sources_open rest)
 
     condition_open : {context : Context} {condition : Condition} {t : Ty} → ConditionTypes dialect text functions context condition t → AreOpen (free_of_condition text condition) context
     condition_open (no_condition {context = context}) = none_open context

@@ -16,8 +16,10 @@ use Rattle.snesl_tree.specs.declared.operator.Operator.TheVariants.{Or, And, Equ
 use Rattle.snesl_tree.specs.declared.operator.Prefix.{Prefix}
 use Rattle.snesl_tree.specs.declared.operator.Prefix.TheVariants.{Negate, Not}
 use Rattle.snesl_tree.specs.Spelling.{spelling}
-use Rattle.snesl_tree.specs.Tree.{Tree, Trees, Binders, integer, truth, name, binary, prefix, call, apply, group, pair, binding, choice, literal, filter, each, none, both, none_bound, binder, always, only_where}
-use Rattle.flow_plans.specs.Plans.{const, unary, binary as binary_step, iota, units_of, scan_add, reduce, length_of, flag_of_bool, same_flags, concat_flags, part_flags, the_check, append_flags, tab, seq_of, index}
+use Rattle.snesl_tree.specs.Tree.{Tree, Trees, Binders, integer, truth, name, binary, prefix, call, apply, group, pair, binding, choice, literal}
+use Rattle.snesl_tree.specs.Tree.{filter, each, none, both, none_bound, binder, always, only_where}
+use Rattle.flow_plans.specs.Plans.{const, unary, binary as binary_step, iota, units_of, scan_add, reduce, length_of, flag_of_bool, same_flags}
+use Rattle.flow_plans.specs.Plans.{concat_flags, part_flags, the_check, append_flags, tab, seq_of, index}
 use Rattle.snesl_translation.specs.Wires.{Wires, wire, two, segments, type_of_wires, numbers_of, stream_of, first_wires, second_wires, item_wires, item_type, Bound}
 use Rattle.snesl_translation.specs.Makings.{Making, done, and_then, stepped, tested}
 use Rattle.snesl_translation.specs.FreeNames.{Names, free, without_binders}

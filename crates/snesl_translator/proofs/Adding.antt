@@ -32,7 +32,8 @@ one_more_made {old = old} {middle = middle} {new = new} one xs x us u made more 
     (then_done middle new (made_all first (x ∷ []) (next_in middle)) (λ vs. us ++ vs) (u ∷ []) single))
 
 -- one more item was refused
-pub one_more_refused : {A B C D : Type 0} (view : C → B) (other : D → List B) {old middle : Steps} (new : Steps) (one : Dialect → A → ℕ → Making B) (xs : List A) (x : A) (ys : List A) (us : List B) (e : Refusal)
+pub one_more_refused : {A B C D : Type 0} (view : C → B) (other : D → List B) {old middle : Steps} (new : Steps) (one : Dialect → A → ℕ → Making B)
+    (xs : List A) (x : A) (ys : List A) (us : List B) (e : Refusal)
     → HasMade old middle (made_all (one (dialect_of_steps old)) xs (next_in old)) us → Adds view middle new (one (dialect_of_steps middle) x (next_in middle)) (Err e)
     → Adds other old new (made_all (one (dialect_of_steps old)) (xs ++ x ∷ ys) (next_in old)) (Err e)
 one_more_refused view other {old = old} {middle = middle} new one xs x ys us e made refused =
@@ -65,7 +66,8 @@ item_made {old = old} {new = new} one view xs i x us more u l is e made later =
     (one_more_made one (take i xs) x (map view us) (view u) made later))
 
 -- the item of this index was refused
-pub item_refused : {A B C D : Type 0} (view : C → B) (other : D → List B) {old middle : Steps} (new : Steps) (one : Dialect → A → ℕ → Making B) (xs : List A) (i : ℕ) (x : A) (us : List B) (e : Refusal)
+pub item_refused : {A B C D : Type 0} (view : C → B) (other : D → List B) {old middle : Steps} (new : Steps) (one : Dialect → A → ℕ → Making B)
+    (xs : List A) (i : ℕ) (x : A) (us : List B) (e : Refusal)
     → i < length xs → x ≡ get_or xs i x
     → HasMade old middle (made_all (one (dialect_of_steps old)) (take i xs) (next_in old)) us → Adds view middle new (one (dialect_of_steps middle) x (next_in middle)) (Err e)
     → Adds other old new (made_all (one (dialect_of_steps old)) xs (next_in old)) (Err e)

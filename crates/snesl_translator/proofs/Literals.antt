@@ -83,7 +83,8 @@ module _ (context : ProgramContext) (scope : Scope) (at control : ℕ) where
       (then_done middle new (last_in dialect all (tree_of x) (next_in middle)) (λ w. w) w last) in
       subst (λ ys. HasMade old new (further_in dialect context scope at u (trees_of ys) control (next_in old)) w) (sym there)
       (subst (λ (m : Making Wires). HasMade old new m w) (sym (after_parted dialect text bodies at (bound_of scope) control u (take i xs) (x ∷ []) (next_in old)))
-      (made_then (λ u. u) old middle new (further_in dialect context scope at u (trees_of (take i xs)) control (next_in old)) (λ w k. further_in dialect context scope at w (trees_of (x ∷ [])) control k) all (Ok w) made more))
+      (made_then (λ u. u) old middle new (further_in dialect context scope at u (trees_of (take i xs)) control (next_in old))
+      (λ w k. further_in dialect context scope at w (trees_of (x ∷ [])) control k) all (Ok w) made more))
 
   -- one more item was refused
   pub item_not_after : {old middle : Steps} (new : Steps) (u all : Wires) (xs : List Expr) (i : ℕ) (x : Expr) (e : Refusal) → i < length xs → x ≡ get_or xs i x
@@ -103,7 +104,8 @@ module _ (context : ProgramContext) (scope : Scope) (at control : ℕ) where
       (refused_first wires_of wires_of middle new new (last_in dialect all (tree_of x) (next_in middle)) (λ w k. further_in dialect context scope at w (trees_of others) control k) e refused') in
       subst (λ ys. Adds wires_of old new (further_in dialect context scope at u (trees_of ys) control (next_in old)) (Err e)) there
       (subst (λ (m : Making Wires). Adds wires_of old new m (Err e)) (sym (after_parted dialect text bodies at (bound_of scope) control u (take i xs) (x ∷ others) (next_in old)))
-      (made_then wires_of old middle new (further_in dialect context scope at u (trees_of (take i xs)) control (next_in old)) (λ w k. further_in dialect context scope at w (trees_of (x ∷ others)) control k) all (Err e) made rest))
+      (made_then wires_of old middle new (further_in dialect context scope at u (trees_of (take i xs)) control (next_in old))
+      (λ w k. further_in dialect context scope at w (trees_of (x ∷ others)) control k) all (Err e) made rest))
 
   -- all items were appended
   pub all_after : {old new : Steps} (u w : Wires) (xs : List Expr) (i : ℕ) → length xs ≤ i

@@ -1,7 +1,9 @@
 -- Arguments, items and binders as lists.
 use Rattle.std.proofs.Common.{◌≡◌, ℕ, Vec, Global, refl, ap, ◌∙◌}
 use mathlib.Core.Former.{Count}
-use Rattle.snesl_tree.specs.declared.expr.Expr.{Expr, Call, Apply, Literal, Call', Apply', Literal', Row_of-Expr, end_of-Expr, more_of-Expr, items-the_row-Expr, Row_of-Binder, end_of-Binder, more_of-Binder, items-the_row-Binder, items_hidden-the_row-Expr-0}
+use Rattle.snesl_tree.specs.declared.expr.Expr.{Expr, Call, Apply, Literal, Call', Apply', Literal', Row_of-Expr, end_of-Expr, more_of-Expr}
+use Rattle.snesl_tree.specs.declared.expr.Expr.{items-the_row-Expr, Row_of-Binder, end_of-Binder, more_of-Binder, items-the_row-Binder}
+use Rattle.snesl_tree.specs.declared.expr.Expr.{items_hidden-the_row-Expr-0}
 use Rattle.snesl_tree.specs.declared.expr.Expr.TheBlock.{hidden-the_row-Binder-1, items_hidden-the_row-Binder-1}
 use Rattle.snesl_tree.specs.declared.expr.Binder.{Binder}
 use Rattle.snesl_tree.specs.declared.operator.Builtin.{Builtin}

@@ -9,7 +9,9 @@ use Rattle.snesl_tree.specs.declared.declaration.Typing.{Typing}
 use Rattle.snesl_tree.specs.declared.declaration.Declaration.{Declaration}
 use Rattle.snesl_tree.specs.declared.declaration.Declaration.TheVariants.{Input, Function as FunctionDeclaration}
 use Rattle.snesl_tree.specs.declared.declaration.Function.{Function}
-use Rattle.snesl_tree.specs.Tree.{Tree, Trees, Binders, Condition, integer, truth, name, binary, prefix, call, apply, group, pair, binding, choice, literal, filter, each, none, both, none_bound, binder, always, only_where, TypeTree, int_type, bool_type, pair_type, vector_type, sequence_type, TypedName, DeclarationTree, declares_input, declares_function}
+use Rattle.snesl_tree.specs.Tree.{Tree, Trees, Binders, Condition, integer, truth, name, binary, prefix, call, apply, group, pair, binding, choice}
+use Rattle.snesl_tree.specs.Tree.{literal, filter, each, none, both, none_bound, binder, always, only_where, TypeTree, int_type, bool_type, pair_type}
+use Rattle.snesl_tree.specs.Tree.{vector_type, sequence_type, TypedName, DeclarationTree, declares_input, declares_function}
 
 abbrev mutual
   pub tree_of : Expr → Tree

@@ -1,5 +1,6 @@
 -- Operators and built-in functions keep types.
-use Rattle.std.proofs.Common.{◌≡◌, ◌≢◌, ℕ, suc, zero, ◌+◌, ◌≤◌, Bool, true, false, List, [], ◌∷◌, ◌++◌, map, length, Option, Some, None, Result, Ok, Err, ℤ, pos, negsuc, ◌+ℤ◌, ◌-ℤ◌, ◌*ℤ◌, refl, sym, subst, arith}
+use Rattle.std.proofs.Common.{◌≡◌, ◌≢◌, ℕ, suc, zero, ◌+◌, ◌≤◌, Bool, true, false, List, [], ◌∷◌, ◌++◌, map, length, Option, Some, None, Result, Ok}
+use Rattle.std.proofs.Common.{Err, ℤ, pos, negsuc, ◌+ℤ◌, ◌-ℤ◌, ◌*ℤ◌, refl, sym, subst, arith}
 use Rattle.std.specs.Prelude.{neg_ℤ, int_div, int_lt, slice_get, if◌then◌else◌}
 use Rattle.std.specs.List.{range_with_len}
 use Rattle.std.proofs.lemmas.Bool.{leb-true, le-leb}
@@ -24,7 +25,9 @@ use Rattle.snesl_tree.specs.declared.operator.Operator.TheVariants.{Or, And, Equ
 use Rattle.snesl_tree.specs.declared.operator.Prefix.{Prefix}
 use Rattle.snesl_tree.specs.declared.operator.Prefix.TheVariants.{Negate, Not}
 use Rattle.snesl_evaluation.specs.Answer.{Answer, gives, faults, go, go_all, go_join, or_fault, answer_at}
-use Rattle.snesl_evaluation.specs.Builtins.{int_at, truth_at, scalar_at, items_at, elements_at, each_at, sequence, seq_answer, scalar_answer, item_answer, append_answer, prefix_answer, binary_answer, numbers_below, iota_answer, reduce_answer, scan_answer, into_first, parts_answer, part_answer, the_answer, applied}
+use Rattle.snesl_evaluation.specs.Builtins.{int_at, truth_at, scalar_at, items_at, elements_at, each_at, sequence, seq_answer, scalar_answer}
+use Rattle.snesl_evaluation.specs.Builtins.{item_answer, append_answer, prefix_answer, binary_answer, numbers_below, iota_answer, reduce_answer}
+use Rattle.snesl_evaluation.specs.Builtins.{scan_answer, into_first, parts_answer, part_answer, the_answer, applied}
 use Rattle.snesl_data.proofs.SameTypes.{same_eq}
 use Rattle.snesl_types.specs.Forms.{operator_result, prefix_result, result_of}
 use Rattle.snesl_types.specs.Soundness.{HaveTypes, Safe}
@@ -202,15 +205,25 @@ module _ (dialect : Dialect) where
           subst (λ s. Safe (λ x. HasType dialect x s) (append_answer at v w)) result (append_safe at v w t hv (subst (λ s. HasType dialect w (seq s)) item hw))
       by_test false same e' = cc
   binary_safe at Add int int r v w e hv hw =
-      rw (let same : int ≡ r = cc in sym same) (ints (λ v w. Safe (λ x. HasType dialect x int) (binary_answer dialect at Add v w)) v w hv hw (λ m n hm hn. integer_safe at (ranged dialect (m +ℤ n)) (ranged_proper (m +ℤ n))))
+      rw (let same : int ≡ r = cc in sym same)
+      (ints (λ v w. Safe (λ x. HasType dialect x int) (binary_answer dialect at Add v w)) v w hv hw
+      (λ m n hm hn. integer_safe at (ranged dialect (m +ℤ n)) (ranged_proper (m +ℤ n))))
   binary_safe at Subtract int int r v w e hv hw =
-      rw (let same : int ≡ r = cc in sym same) (ints (λ v w. Safe (λ x. HasType dialect x int) (binary_answer dialect at Subtract v w)) v w hv hw (λ m n hm hn. integer_safe at (ranged dialect (m -ℤ n)) (ranged_proper (m -ℤ n))))
+      rw (let same : int ≡ r = cc in sym same)
+      (ints (λ v w. Safe (λ x. HasType dialect x int) (binary_answer dialect at Subtract v w)) v w hv hw
+      (λ m n hm hn. integer_safe at (ranged dialect (m -ℤ n)) (ranged_proper (m -ℤ n))))
   binary_safe at Multiply int int r v w e hv hw =
-      rw (let same : int ≡ r = cc in sym same) (ints (λ v w. Safe (λ x. HasType dialect x int) (binary_answer dialect at Multiply v w)) v w hv hw (λ m n hm hn. integer_safe at (ranged dialect (m *ℤ n)) (ranged_proper (m *ℤ n))))
+      rw (let same : int ≡ r = cc in sym same)
+      (ints (λ v w. Safe (λ x. HasType dialect x int) (binary_answer dialect at Multiply v w)) v w hv hw
+      (λ m n hm hn. integer_safe at (ranged dialect (m *ℤ n)) (ranged_proper (m *ℤ n))))
   binary_safe at Over int int r v w e hv hw =
-      rw (let same : int ≡ r = cc in sym same) (ints (λ v w. Safe (λ x. HasType dialect x int) (binary_answer dialect at Over v w)) v w hv hw (λ m n hm hn. integer_safe at (quotient dialect m n) (quotient_proper m n)))
+      rw (let same : int ≡ r = cc in sym same)
+      (ints (λ v w. Safe (λ x. HasType dialect x int) (binary_answer dialect at Over v w)) v w hv hw
+      (λ m n hm hn. integer_safe at (quotient dialect m n) (quotient_proper m n)))
   binary_safe at Remainder int int r v w e hv hw =
-      rw (let same : int ≡ r = cc in sym same) (ints (λ v w. Safe (λ x. HasType dialect x int) (binary_answer dialect at Remainder v w)) v w hv hw (λ m n hm hn. integer_safe at (remainder m n) (remainder_proper m n hm)))
+      rw (let same : int ≡ r = cc in sym same)
+      (ints (λ v w. Safe (λ x. HasType dialect x int) (binary_answer dialect at Remainder v w)) v w hv hw
+      (λ m n hm hn. integer_safe at (remainder m n) (remainder_proper m n hm)))
   binary_safe at Index (vec t) int r v w e hv hw =
       let same : t ≡ r = cc in
       subst (λ s. Safe (λ x. HasType dialect x s) (binary_answer dialect at Index v w)) same (index_safe at v w t hv hw)
@@ -219,7 +232,9 @@ module _ (dialect : Dialect) where
   pub prefix_safe : (at : ℕ) (operator : Prefix) (t r : Ty) (v : Value) → prefix_result operator t ≡ Some r → HasType dialect v t
       → Safe (λ x. HasType dialect x r) (prefix_answer dialect at operator v)
   prefix_safe at Negate int r v e hv =
-      rw (let same : int ≡ r = cc in sym same) (int_is (λ v. Safe (λ x. HasType dialect x int) (prefix_answer dialect at Negate v)) v hv (λ n hn. integer_safe at (ranged dialect (neg_ℤ n)) (ranged_proper (neg_ℤ n))))
+      rw (let same : int ≡ r = cc in sym same)
+      (int_is (λ v. Safe (λ x. HasType dialect x int) (prefix_answer dialect at Negate v)) v hv
+      (λ n hn. integer_safe at (ranged dialect (neg_ℤ n)) (ranged_proper (neg_ℤ n))))
   prefix_safe at Not bool r v e hv =
       rw (let same : bool ≡ r = cc in sym same) (bool_is (λ v. Safe (λ x. HasType dialect x bool) (prefix_answer dialect at Not v)) v hv (λ b. tt))
   prefix_safe at _ _ r v e hv = no_result e
@@ -331,8 +346,10 @@ module _ (dialect : Dialect) where
 
   scan_safe : (at : ℕ) (v : Value) → HasType dialect v (seq int) → Safe (λ x. HasType dialect x (seq int)) (scan_answer dialect at v)
   scan_safe at v hv =
-      go_safe AllIntegers (λ x. HasType dialect x (seq int)) (each_at int_at at v) (λ ns. go (answer_at at (scan_of dialect ns)) (λ sums. gives (sequence (map an_int sums)))) (each_int_safe at v hv) (λ ns hns.
-      go_safe AllIntegers (λ x. HasType dialect x (seq int)) (answer_at at (scan_of dialect ns)) (λ sums. gives (sequence (map an_int sums))) (answer_at_safe AllIntegers at (scan_of dialect ns) (scanned_sure ns (pos 0) (nothing_range dialect Sum))) (λ sums hsums.
+      go_safe AllIntegers (λ x. HasType dialect x (seq int)) (each_at int_at at v)
+      (λ ns. go (answer_at at (scan_of dialect ns)) (λ sums. gives (sequence (map an_int sums)))) (each_int_safe at v hv) (λ ns hns.
+      go_safe AllIntegers (λ x. HasType dialect x (seq int)) (answer_at at (scan_of dialect ns)) (λ sums. gives (sequence (map an_int sums)))
+      (answer_at_safe AllIntegers at (scan_of dialect ns) (scanned_sure ns (pos 0) (nothing_range dialect Sum))) (λ sums hsums.
       unlisted (map an_int sums) int (integers_listed sums hsums)))
 
   less_fits : (m n : ℕ) → m ≤ n → IsInteger dialect (pos n) → IsInteger dialect (pos m)
@@ -383,8 +400,11 @@ module _ (dialect : Dialect) where
 
   part_safe : (at : ℕ) (v w : Value) (t : Ty) → HasType dialect v (seq t) → HasType dialect w (seq bool) → Safe (λ x. HasType dialect x (seq (seq t))) (part_answer at v w)
   part_safe at v w t hv hw =
-      go_safe (λ vs. AllOf vs t) (λ x. HasType dialect x (seq (seq t))) (items_at at v) (λ vs. go (each_at truth_at at w) (λ flags. go (parts_answer at vs flags) (λ parts. gives (sequence (map sequence parts))))) (items_safe at v t hv) (λ vs hvs.
-      go_safe (λ flags. Unit {0}) (λ x. HasType dialect x (seq (seq t))) (each_at truth_at at w) (λ flags. go (parts_answer at vs flags) (λ parts. gives (sequence (map sequence parts)))) (each_truth_safe at w hw) (λ flags hf.
+      go_safe (λ vs. AllOf vs t) (λ x. HasType dialect x (seq (seq t))) (items_at at v)
+      (λ vs. go (each_at truth_at at w) (λ flags. go (parts_answer at vs flags) (λ parts. gives (sequence (map sequence parts)))))
+      (items_safe at v t hv) (λ vs hvs.
+      go_safe (λ flags. Unit {0}) (λ x. HasType dialect x (seq (seq t))) (each_at truth_at at w)
+      (λ flags. go (parts_answer at vs flags) (λ parts. gives (sequence (map sequence parts)))) (each_truth_safe at w hw) (λ flags hf.
       go_safe (λ parts. PartsOf parts t) (λ x. HasType dialect x (seq (seq t))) (parts_answer at vs flags) (λ parts. gives (sequence (map sequence parts))) (parts_safe at vs flags t hvs) (λ parts hp.
       unlisted (map sequence parts) (seq t) (parts_listed parts t hp))))
 
@@ -410,7 +430,8 @@ module _ (dialect : Dialect) where
   length_safe : (at : ℕ) (v : Value) (t : Ty) → HasType dialect v (seq t) → Safe (λ x. HasType dialect x int) (applied dialect at Length (v ∷ []))
   length_safe at v t h =
       go_safe (λ vs. AllOf vs t) (λ x. HasType dialect x int) (items_at at v) (λ vs. go (answer_at at (ranged dialect (pos (length vs)))) (λ n. gives (an_int n))) (items_safe at v t h) (λ vs hvs.
-      go_safe (IsInteger dialect) (λ x. HasType dialect x int) (answer_at at (ranged dialect (pos (length vs)))) (λ n. gives (an_int n)) (answer_at_safe (IsInteger dialect) at (ranged dialect (pos (length vs))) (ranged_sure (pos (length vs)))) (λ n hn. hn))
+      go_safe (IsInteger dialect) (λ x. HasType dialect x int) (answer_at at (ranged dialect (pos (length vs)))) (λ n. gives (an_int n))
+      (answer_at_safe (IsInteger dialect) at (ranged dialect (pos (length vs))) (ranged_sure (pos (length vs)))) (λ n hn. hn))
 
   concat_all_safe : (at : ℕ) (v : Value) (t : Ty) → HasType dialect v (seq (seq t)) → Safe (λ x. HasType dialect x (seq t)) (applied dialect at Concat (v ∷ []))
   concat_all_safe at v t h =
@@ -424,10 +445,18 @@ module _ (dialect : Dialect) where
       subst (λ s. Safe (λ x. HasType dialect x s) (applied dialect at Iota (v ∷ []))) (let same : seq int ≡ r = cc in same)
       (go_safe (IsInteger dialect) (λ x. HasType dialect x (seq int)) (int_at at v) (iota_answer at) (int_safe at v h) (iota_safe at))
   one_safe at ScanAdd (seq int) r v e h = subst (λ s. Safe (λ x. HasType dialect x s) (applied dialect at ScanAdd (v ∷ []))) (let same : seq int ≡ r = cc in same) (scan_safe at v h)
-  one_safe at ReduceAdd (seq int) r v e h = subst (λ s. Safe (λ x. HasType dialect x s) (applied dialect at ReduceAdd (v ∷ []))) (let same : int ≡ r = cc in same) (reduce_safe at Sum int v (int_scalar_safe at) (nothing_range dialect Sum) h)
-  one_safe at ReduceMax (seq int) r v e h = subst (λ s. Safe (λ x. HasType dialect x s) (applied dialect at ReduceMax (v ∷ []))) (let same : int ≡ r = cc in same) (reduce_safe at Max int v (int_scalar_safe at) tt h)
-  one_safe at ReduceAnd (seq bool) r v e h = subst (λ s. Safe (λ x. HasType dialect x s) (applied dialect at ReduceAnd (v ∷ []))) (let same : bool ≡ r = cc in same) (reduce_safe at All bool v (bool_scalar_safe at) tt h)
-  one_safe at ReduceOr (seq bool) r v e h = subst (λ s. Safe (λ x. HasType dialect x s) (applied dialect at ReduceOr (v ∷ []))) (let same : bool ≡ r = cc in same) (reduce_safe at Any bool v (bool_scalar_safe at) tt h)
+  one_safe at ReduceAdd (seq int) r v e h =
+      subst (λ s. Safe (λ x. HasType dialect x s) (applied dialect at ReduceAdd (v ∷ []))) (let same : int ≡ r = cc in same)
+      (reduce_safe at Sum int v (int_scalar_safe at) (nothing_range dialect Sum) h)
+  one_safe at ReduceMax (seq int) r v e h =
+      subst (λ s. Safe (λ x. HasType dialect x s) (applied dialect at ReduceMax (v ∷ []))) (let same : int ≡ r = cc in same)
+      (reduce_safe at Max int v (int_scalar_safe at) tt h)
+  one_safe at ReduceAnd (seq bool) r v e h =
+      subst (λ s. Safe (λ x. HasType dialect x s) (applied dialect at ReduceAnd (v ∷ []))) (let same : bool ≡ r = cc in same)
+      (reduce_safe at All bool v (bool_scalar_safe at) tt h)
+  one_safe at ReduceOr (seq bool) r v e h =
+      subst (λ s. Safe (λ x. HasType dialect x s) (applied dialect at ReduceOr (v ∷ []))) (let same : bool ≡ r = cc in same)
+      (reduce_safe at Any bool v (bool_scalar_safe at) tt h)
   one_safe at Length (seq t) r v e h = subst (λ s. Safe (λ x. HasType dialect x s) (applied dialect at Length (v ∷ []))) (let same : int ≡ r = cc in same) (length_safe at v t h)
   one_safe at Concat (seq (seq t)) r v e h = subst (λ s. Safe (λ x. HasType dialect x s) (applied dialect at Concat (v ∷ []))) (let same : seq t ≡ r = cc in same) (concat_all_safe at v t h)
   one_safe at The (seq t) r v e h =

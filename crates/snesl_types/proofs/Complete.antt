@@ -15,9 +15,18 @@ use Rattle.snesl_types.specs.Contexts.{Context, names_context, inside, Signature
 use Rattle.snesl_types.specs.Forms.{result_of, tabs_streamed}
 use Rattle.snesl_types.specs.Sizes.{is_small}
 use Rattle.snesl_types.specs.Programs.{small_type, and_then}
-use Rattle.snesl_types.specs.Typing.{Types, Gives, AllTypes, BindersType, ConditionTypes, AllAre, has_type, integer_type, truth_type, name_type, binary_type, prefix_type, call_type, apply_type, group_type, pair_type, binding_type, choice_type, literal_type, filter_type, each_type, no_types, more_types, no_binders, more_binders, no_condition, condition_type}
-use Rattle.snesl_types.specs.Violations.{AreOneType, Violates, AnyViolates, BindersViolate, big_type, unbound, streamed, left_violates, right_violates, operands_mismatch, operand_violates, operand_mismatch, argument_violates, arguments_mismatch, tab_streamed, call_violates, call_unbound, call_mismatch, inner_violates, first_part_violates, second_part_violates, value_violates, binding_violates, choice_violates, positive_violates, negative_violates, choice_mismatch, item_violates, items_mismatch, filtered_violates, filter_violates, filter_mismatch, binder_violates, condition_violates, body_violates, condition_mismatch, binder_missing, first_violates, later_violates, source_violates, bound_twice, binder_mismatch, later_binder_violates}
-use Rattle.snesl_types.specs.Verdicts.{sized, rule, verdict, verdicts, binders_verdict, condition_verdict, of_binding, or_refused, of_builtin, of_function, of_items, of_choice, of_filter, of_each, of_binder, both_of}
+use Rattle.snesl_types.specs.Typing.{Types, Gives, AllTypes, BindersType, ConditionTypes, AllAre, has_type, integer_type, truth_type, name_type}
+use Rattle.snesl_types.specs.Typing.{binary_type, prefix_type, call_type, apply_type, group_type, pair_type, binding_type, choice_type, literal_type}
+use Rattle.snesl_types.specs.Typing.{filter_type, each_type, no_types, more_types, no_binders, more_binders, no_condition, condition_type}
+use Rattle.snesl_types.specs.Violations.{AreOneType, Violates, AnyViolates, BindersViolate, big_type, unbound, streamed, left_violates}
+use Rattle.snesl_types.specs.Violations.{right_violates, operands_mismatch, operand_violates, operand_mismatch, argument_violates, arguments_mismatch}
+use Rattle.snesl_types.specs.Violations.{tab_streamed, call_violates, call_unbound, call_mismatch, inner_violates, first_part_violates}
+use Rattle.snesl_types.specs.Violations.{second_part_violates, value_violates, binding_violates, choice_violates, positive_violates}
+use Rattle.snesl_types.specs.Violations.{negative_violates, choice_mismatch, item_violates, items_mismatch, filtered_violates, filter_violates}
+use Rattle.snesl_types.specs.Violations.{filter_mismatch, binder_violates, condition_violates, body_violates, condition_mismatch, binder_missing}
+use Rattle.snesl_types.specs.Violations.{first_violates, later_violates, source_violates, bound_twice, binder_mismatch, later_binder_violates}
+use Rattle.snesl_types.specs.Verdicts.{sized, rule, verdict, verdicts, binders_verdict, condition_verdict, of_binding, or_refused, of_builtin}
+use Rattle.snesl_types.specs.Verdicts.{of_function, of_items, of_choice, of_filter, of_each, of_binder, both_of}
 use Rattle.snesl_types.proofs.Outcomes.{then_ok, then_err, both_ok, left_err, right_err}
 use Rattle.snesl_data.proofs.SameTypes.{and_left, and_right, same_self, same_eq}
 use Rattle.snesl_types.proofs.Same.{not_true, are_same_self, are_same_eq, all_same_of, all_same_are}
@@ -177,7 +186,8 @@ mutual
   violates_complete (body_violates bs c v) = ap sized (then_ok _ (binders_complete bs) (then_err _ (right_err (condition_complete c) (violates_complete v))))
   violates_complete (condition_mismatch {at = at} {binders = binders} {t = t} {u = u} bs c b n) =
       ap sized (then_ok _ (binders_complete bs) (then_ok _ (both_ok (condition_complete c) (type_complete b)) (each_err at binders u t n)))
-  violates_complete {dialect = dialect} {text = text} {functions = functions} (binder_missing {context = context} {at = at} {body = body} {condition = condition} {items = items} {t = t} {u = u} bs c b) =
+  violates_complete {dialect = dialect} {text = text} {functions = functions}
+      (binder_missing {context = context} {at = at} {body = body} {condition = condition} {items = items} {t = t} {u = u} bs c b) =
       ap sized (no_binder_err dialect text functions context at body condition items t u (binders_complete bs) (condition_complete c) (type_complete b))
 
   any_complete : {dialect : Dialect} {text : List ℕ} {functions : Signatures} {context : Context} {trees : Trees} {refusal : Refusal} (earlier : List Ty)

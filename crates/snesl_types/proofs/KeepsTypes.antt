@@ -16,7 +16,9 @@ use Rattle.snesl_evaluation.specs.Builtins.{truth_at, items_at, seq_answer, pref
 use Rattle.snesl_evaluation.specs.Eval.{Calls, value_named, kept, BoundItems, height, beside, rows_of, in_step, eval, eval_all, eval_binders}
 use Rattle.snesl_types.specs.Contexts.{Binding, open_to, shut, Context, names_context, found, shut_if_streamed, inside, Signatures}
 use Rattle.snesl_types.specs.Soundness.{FitsBinding, Holds, HaveTypes, Safe, CallsHold, TypedExpressionsAreSound}
-use Rattle.snesl_types.specs.Typing.{AllAre, Types, has_type, Gives, integer_type, truth_type, name_type, binary_type, prefix_type, call_type, apply_type, group_type, pair_type, binding_type, choice_type, literal_type, filter_type, each_type, AllTypes, no_types, more_types, BindersType, no_binders, more_binders, no_condition, condition_type}
+use Rattle.snesl_types.specs.Typing.{AllAre, Types, has_type, Gives, integer_type, truth_type, name_type, binary_type, prefix_type, call_type}
+use Rattle.snesl_types.specs.Typing.{apply_type, group_type, pair_type, binding_type, choice_type, literal_type, filter_type, each_type, AllTypes}
+use Rattle.snesl_types.specs.Typing.{no_types, more_types, BindersType, no_binders, more_binders, no_condition, condition_type}
 use Rattle.snesl_types.proofs.BuiltinsKeepTypes.{AllOf, joined_of, go_safe, truth_safe, items_safe, seq_answer_safe, binary_safe, prefix_safe, applied_safe}
 
 module _ (dialect : Dialect) where
@@ -151,7 +153,8 @@ module _ (dialect : Dialect) where
       gives_sound {context = context} (name_type {place = place} {t = t} e) environment holds =
           named_safe place.at (spelling text place) context environment t e holds
       gives_sound (binary_type {at = at} {operator = operator} {left = left} {right = right} {t = t} {u = u} {v = r} d1 d2 e) environment holds =
-          go_safe (λ v. HasType dialect v t) (λ v. HasType dialect v r) (eval dialect left text calls environment) (λ v. go (eval dialect right text calls environment) (λ w. binary_answer dialect at operator v w)) (sound d1 environment holds) (λ v hv.
+          go_safe (λ v. HasType dialect v t) (λ v. HasType dialect v r) (eval dialect left text calls environment)
+          (λ v. go (eval dialect right text calls environment) (λ w. binary_answer dialect at operator v w)) (sound d1 environment holds) (λ v hv.
           go_safe (λ v. HasType dialect v u) (λ v. HasType dialect v r) (eval dialect right text calls environment) (λ w. binary_answer dialect at operator v w) (sound d2 environment holds) (λ w hw.
           binary_safe dialect at operator t u r v w e hv hw))
       gives_sound (prefix_type {at = at} {operator = operator} {operand = operand} {t = t} {u = r} d e) environment holds =
@@ -161,14 +164,17 @@ module _ (dialect : Dialect) where
           go_safe (λ vs. HaveTypes dialect vs ts) (λ v. HasType dialect v t) (eval_all dialect arguments text calls environment) (applied dialect at function) (sound_all ds environment holds) (λ vs h.
           applied_safe dialect at function ts t vs e h)
       gives_sound (apply_type {place = place} {arguments = arguments} {signature = signature} ds e) environment holds =
-          go_safe (λ vs. HaveTypes dialect vs signature.parameters) (λ v. HasType dialect v signature.result) (eval_all dialect arguments text calls environment) (calls place.at (spelling text place)) (sound_all ds environment holds) (λ vs h.
+          go_safe (λ vs. HaveTypes dialect vs signature.parameters) (λ v. HasType dialect v signature.result)
+          (eval_all dialect arguments text calls environment) (calls place.at (spelling text place)) (sound_all ds environment holds) (λ vs h.
           hold place.at (spelling text place) signature vs e h)
       gives_sound (group_type d) environment holds = sound d environment holds
       gives_sound (pair_type {first = first} {second = second} {t = t} {u = u} d1 d2) environment holds =
-          go_safe (λ v. HasType dialect v t) (λ v. HasType dialect v (pair t u)) (eval dialect first text calls environment) (λ v. go (eval dialect second text calls environment) (λ w. gives (a_pair v w))) (sound d1 environment holds) (λ v hv.
+          go_safe (λ v. HasType dialect v t) (λ v. HasType dialect v (pair t u)) (eval dialect first text calls environment)
+          (λ v. go (eval dialect second text calls environment) (λ w. gives (a_pair v w))) (sound d1 environment holds) (λ v hv.
           go_safe (λ v. HasType dialect v u) (λ v. HasType dialect v (pair t u)) (eval dialect second text calls environment) (λ w. gives (a_pair v w)) (sound d2 environment holds) (λ w hw. (hv, hw)))
       gives_sound (binding_type {place = place} {value = value} {body = body} {t = t} {u = u} d1 d2) environment holds =
-          go_safe (λ v. HasType dialect v t) (λ v. HasType dialect v u) (eval dialect value text calls environment) (λ v. eval dialect body text calls ((spelling text place, v) ∷ environment)) (sound d1 environment holds) (λ v hv.
+          go_safe (λ v. HasType dialect v t) (λ v. HasType dialect v u) (eval dialect value text calls environment)
+          (λ v. eval dialect body text calls ((spelling text place, v) ∷ environment)) (sound d1 environment holds) (λ v hv.
           sound d2 ((spelling text place, v) ∷ environment) (refl, hv, holds))
       gives_sound (choice_type {at = at} {condition = condition} {positive = positive} {negative = negative} {t = t} d1 d2 d3) environment holds =
           let rest : Bool → Answer Value = λ b. if b then eval dialect positive text calls environment else eval dialect negative text calls environment in
@@ -186,18 +192,27 @@ module _ (dialect : Dialect) where
       gives_sound {context = context} (each_type {at = at} {body = body} {place = place} {source = source} {others = others} {items = items} {t = t} db no_condition d) environment holds =
           let binders : Binders = binder place source others in
           let f : Environment → Answer Value = λ row. eval dialect body text calls (row ++ environment) in
-          go_safe (ColumnsFit items) (λ v. HasType dialect v (seq t)) (eval_binders dialect binders text calls environment) (λ columns. go (in_step at columns) (λ rows. seq_answer (go_all f rows))) (columns_of (eval_binders dialect binders text calls environment) (binders_sound db environment holds)) (λ columns hc.
+          go_safe (ColumnsFit items) (λ v. HasType dialect v (seq t)) (eval_binders dialect binders text calls environment)
+          (λ columns. go (in_step at columns) (λ rows. seq_answer (go_all f rows)))
+          (columns_of (eval_binders dialect binders text calls environment) (binders_sound db environment holds)) (λ columns hc.
           go_safe (RowsFit items) (λ v. HasType dialect v (seq t)) (in_step at columns) (λ rows. seq_answer (go_all f rows)) (in_step_safe at items columns hc) (λ rows hr.
-          seq_answer_safe dialect (go_all f rows) t (body_all items t f (λ row hrow. sound d (row ++ environment) (opened_holds items row (inside context) environment hrow (inside_holds context environment holds))) rows hr)))
-      gives_sound {context = context} (each_type {at = at} {body = body} {place = place} {source = source} {others = others} {items = items} {t = t} db (condition_type {condition = condition} dc) d) environment holds =
+          seq_answer_safe dialect (go_all f rows) t
+          (body_all items t f (λ row hrow. sound d (row ++ environment)
+          (opened_holds items row (inside context) environment hrow (inside_holds context environment holds))) rows hr)))
+      gives_sound {context = context}
+          (each_type {at = at} {body = body} {place = place} {source = source} {others = others} {items = items} {t = t} db
+          (condition_type {condition = condition} dc) d) environment holds =
           let binders : Binders = binder place source others in
           let rest : Environment → Bool → Answer (List Value) = λ row b. kept b (eval dialect body text calls (row ++ environment)) in
           let f : Environment → Answer (List Value) = λ row. go (eval dialect condition text calls (row ++ environment)) (λ v. go (truth_at at v) (rest row)) in
-          go_safe (ColumnsFit items) (λ v. HasType dialect v (seq t)) (eval_binders dialect binders text calls environment) (λ columns. go (in_step at columns) (λ rows. seq_answer (go_join f rows))) (columns_of (eval_binders dialect binders text calls environment) (binders_sound db environment holds)) (λ columns hc.
+          go_safe (ColumnsFit items) (λ v. HasType dialect v (seq t)) (eval_binders dialect binders text calls environment)
+          (λ columns. go (in_step at columns) (λ rows. seq_answer (go_join f rows)))
+          (columns_of (eval_binders dialect binders text calls environment) (binders_sound db environment holds)) (λ columns hc.
           go_safe (RowsFit items) (λ v. HasType dialect v (seq t)) (in_step at columns) (λ rows. seq_answer (go_join f rows)) (in_step_safe at items columns hc) (λ rows hr.
           seq_answer_safe dialect (go_join f rows) t (body_join items t f (λ row hrow.
           let inner = opened_holds items row (inside context) environment hrow (inside_holds context environment holds) in
-          go_safe (λ v. HasType dialect v bool) (λ vs. AllOf dialect vs t) (eval dialect condition text calls (row ++ environment)) (λ v. go (truth_at at v) (rest row)) (sound dc (row ++ environment) inner) (λ v hv.
+          go_safe (λ v. HasType dialect v bool) (λ vs. AllOf dialect vs t) (eval dialect condition text calls (row ++ environment))
+          (λ v. go (truth_at at v) (rest row)) (sound dc (row ++ environment) inner) (λ v hv.
           go_safe (λ b. Unit {0}) (λ vs. AllOf dialect vs t) (truth_at at v) (rest row) (truth_safe dialect at v hv) (λ b hb.
           kept_safe b (eval dialect body text calls (row ++ environment)) t (sound d (row ++ environment) inner)))) rows hr)))
 
@@ -205,8 +220,10 @@ module _ (dialect : Dialect) where
           → Holds dialect context environment → Safe (λ vs. HaveTypes dialect vs ts) (eval_all dialect trees text calls environment)
       sound_all no_types environment holds = tt
       sound_all (more_types {first = first} {others = others} {t = t} {ts = ts} d ds) environment holds =
-          go_safe (λ v. HasType dialect v t) (λ vs. HaveTypes dialect vs (t ∷ ts)) (eval dialect first text calls environment) (λ v. go (eval_all dialect others text calls environment) (λ vs. gives (v ∷ vs))) (sound d environment holds) (λ v hv.
-          go_safe (λ vs. HaveTypes dialect vs ts) (λ vs. HaveTypes dialect vs (t ∷ ts)) (eval_all dialect others text calls environment) (λ vs. gives (v ∷ vs)) (sound_all ds environment holds) (λ vs hvs. (hv, hvs)))
+          go_safe (λ v. HasType dialect v t) (λ vs. HaveTypes dialect vs (t ∷ ts)) (eval dialect first text calls environment)
+          (λ v. go (eval_all dialect others text calls environment) (λ vs. gives (v ∷ vs))) (sound d environment holds) (λ v hv.
+          go_safe (λ vs. HaveTypes dialect vs ts) (λ vs. HaveTypes dialect vs (t ∷ ts)) (eval_all dialect others text calls environment)
+          (λ vs. gives (v ∷ vs)) (sound_all ds environment holds) (λ vs hvs. (hv, hvs)))
 
       binders_sound : {context : Context} {earlier all : List InputDeclaration} {binders : Binders} → BindersType dialect text functions context earlier binders all → (environment : Environment)
           → Holds dialect context environment → BindersSafe earlier all (eval_binders dialect binders text calls environment)
@@ -219,8 +236,11 @@ module _ (dialect : Dialect) where
             new = item ∷ later.new;
             same = later.same ∙ append_assoc earlier (item ∷ []) later.new;
             safe =
-                go_safe (λ v. HasType dialect v (seq t)) (ColumnsFit (item ∷ later.new)) (eval dialect source text calls environment) (λ v. go (items_at place.at v) (λ vs. go (eval_binders dialect others text calls environment) (last vs))) (sound d environment holds) (λ v hv.
-                go_safe (λ vs. AllOf dialect vs t) (ColumnsFit (item ∷ later.new)) (items_at place.at v) (λ vs. go (eval_binders dialect others text calls environment) (last vs)) (items_safe dialect place.at v t hv) (λ vs hvs.
+                go_safe (λ v. HasType dialect v (seq t)) (ColumnsFit (item ∷ later.new)) (eval dialect source text calls environment)
+                (λ v. go (items_at place.at v) (λ vs. go (eval_binders dialect others text calls environment) (last vs)))
+                (sound d environment holds) (λ v hv.
+                go_safe (λ vs. AllOf dialect vs t) (ColumnsFit (item ∷ later.new)) (items_at place.at v)
+                (λ vs. go (eval_binders dialect others text calls environment) (last vs)) (items_safe dialect place.at v t hv) (λ vs hvs.
                 go_safe (ColumnsFit later.new) (ColumnsFit (item ∷ later.new)) (eval_binders dialect others text calls environment) (last vs) later.safe (λ columns hc. (refl, hvs, hc))));
           }
 

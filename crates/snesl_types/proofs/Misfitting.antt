@@ -1,5 +1,6 @@
 -- What the checker's answers say of the types that do not fit.
-use Rattle.std.proofs.Common.{◌≡◌, ℕ, zero, suc, ◌<◌, inl, inr, Bool, true, false, ◌&&◌, cond, List, [], ◌∷◌, ◌++◌, map, take, drop, length, get_or, Option, Some, None, Result, Ok, Err, refl, sym, ap, subst, ◌∙◌, arith}
+use Rattle.std.proofs.Common.{◌≡◌, ℕ, zero, suc, ◌<◌, inl, inr, Bool, true, false, ◌&&◌, cond, List, [], ◌∷◌, ◌++◌, map, take, drop, length, get_or}
+use Rattle.std.proofs.Common.{Option, Some, None, Result, Ok, Err, refl, sym, ap, subst, ◌∙◌, arith}
 use Rattle.std.specs.Prelude.{IfOk, IsSome}
 use Rattle.std.specs.declared.alloc.AllocError.{AllocError}
 use Rattle.snesl_data.specs.declared.dialect.Dialect.{Dialect}
@@ -18,7 +19,8 @@ use Rattle.snesl_tree.specs.declared.expr.Binder.{Binder}
 use Rattle.snesl_tree.specs.View.{tree_of, trees_of, binders_of, declaration_of}
 use Rattle.snesl_tree.specs.declared.declaration.Declaration.{Declaration as Written}
 use Rattle.snesl_tree.specs.Spelling.{spelling}
-use Rattle.snesl_tree.specs.Tree.{Tree, Trees, Binders, Condition, binary, prefix, call, apply, choice, literal, filter, binding, each, always, only_where, both, none, TypeTree, TypedName, DeclarationTree, declares_function, offset}
+use Rattle.snesl_tree.specs.Tree.{Tree, Trees, Binders, Condition, binary, prefix, call, apply, choice, literal, filter, binding, each, always}
+use Rattle.snesl_tree.specs.Tree.{only_where, both, none, TypeTree, TypedName, DeclarationTree, declares_function, offset}
 use Rattle.snesl_types.specs.declared.clashes.Clash.{Clash as Told}
 use Rattle.snesl_types.specs.declared.names.Scope.{Scope}
 use Rattle.snesl_types.specs.Contexts.{Context, bound, names_context, inside, Signature, Signatures, function_named}
@@ -28,8 +30,14 @@ use Rattle.snesl_types.specs.Typing.{Types}
 use Rattle.snesl_types.specs.Violations.{AreOneType}
 use Rattle.snesl_types.specs.Programs.{Declared, written_type, nothing_declared, DeclarationsType, NamesType}
 use Rattle.snesl_types.specs.Verdicts.{IsVerdict, or_refused, of_builtin, of_items, are_same, declarations_verdict, names_verdict}
-use Rattle.snesl_types.specs.Clashes.{Clash, clash_of, operands, operand, arguments, parameters, branches, items, condition, source, operands_misfit, operand_misfits, arguments_misfit, call_misfits, branches_misfit, items_misfit, filter_misfits, condition_misfits, this_source, later_source, Clashes, first_clashes, later_clashes, in_condition, in_body, in_bound, in_part, in_binder, itself, body, seen_parts, within_body, body_misfits, FunctionClashes, ProgramClashes, in_expression, in_function, IsFound, sources}
-use Rattle.snesl_types.specs.Misfitting.{IsMismatch, functions_in, context_names, TypesIn, AllTypeIn, BindersTypeIn, MisfitsIn, ConditionMisfitsIn, SourceMisfitsIn, IsNoSequence, ClashesIn, AnyClashesIn, ConditionClashesIn, BoundClashesIn, ExpressionClashes, DeclarationClashes, IsOfAnotherType, BodyMisfits, is_sequence}
+use Rattle.snesl_types.specs.Clashes.{Clash, clash_of, operands, operand, arguments, parameters, branches, items, condition, source, operands_misfit}
+use Rattle.snesl_types.specs.Clashes.{operand_misfits, arguments_misfit, call_misfits, branches_misfit, items_misfit, filter_misfits}
+use Rattle.snesl_types.specs.Clashes.{condition_misfits, this_source, later_source, Clashes, first_clashes, later_clashes, in_condition, in_body}
+use Rattle.snesl_types.specs.Clashes.{in_bound, in_part, in_binder, itself, body, seen_parts, within_body, body_misfits, FunctionClashes}
+use Rattle.snesl_types.specs.Clashes.{ProgramClashes, in_expression, in_function, IsFound, sources}
+use Rattle.snesl_types.specs.Misfitting.{IsMismatch, functions_in, context_names, TypesIn, AllTypeIn, BindersTypeIn, MisfitsIn, ConditionMisfitsIn}
+use Rattle.snesl_types.specs.Misfitting.{SourceMisfitsIn, IsNoSequence, ClashesIn, AnyClashesIn, ConditionClashesIn, BoundClashesIn}
+use Rattle.snesl_types.specs.Misfitting.{ExpressionClashes, DeclarationClashes, IsOfAnotherType, BodyMisfits, is_sequence}
 use Rattle.snesl_types.proofs.Outcomes.{Outcome, given}
 use Rattle.snesl_types.proofs.Sound.{tree_sound, all_sound, binders_sound}
 use Rattle.snesl_types.proofs.ProgramAnswers.{capped_all}
@@ -203,13 +211,17 @@ module _ (inner scope : Scope) (at : ℕ) (r : Result (Option Told) AllocError) 
       → Within inner scope (names_context all ++ inside (context_names scope)) → binders_typed_in scope [] binders ≡ Ok all
       → IsFound (ClashesIn inner at within) r → IsFound (ClashesIn scope at (each place within binders cond)) r
   in_each_body place within binders cond all w bs h =
-      found_as (ClashesIn inner at within) (ClashesIn scope at (each place within binders cond)) r (λ clash k. in_body {place = place} {cond = cond} (types_of_binders scope binders all bs) (clashes_within inner scope (names_context all ++ inside (context_names scope)) w at within clash k)) h
+      found_as (ClashesIn inner at within) (ClashesIn scope at (each place within binders cond)) r
+      (λ clash k. in_body {place = place} {cond = cond} (types_of_binders scope binders all bs)
+      (clashes_within inner scope (names_context all ++ inside (context_names scope)) w at within clash k)) h
 
   pub in_let : (name : Span) (value within : Tree) (t : Ty)
       → Within inner scope (bound (spelling scope.text.now name) t ∷ context_names scope) → typed_in scope value ≡ Ok t
       → IsFound (ClashesIn inner at within) r → IsFound (BoundClashesIn scope at name value within) r
   in_let name value within t w e h =
-      found_as (ClashesIn inner at within) (BoundClashesIn scope at name value within) r (λ clash k. λ start. in_bound {start = start} (types_of_tree scope value t e) (clashes_within inner scope (bound (spelling scope.text.now name) t ∷ context_names scope) w at within clash k)) h
+      found_as (ClashesIn inner at within) (BoundClashesIn scope at name value within) r
+      (λ clash k. λ start. in_bound {start = start} (types_of_tree scope value t e)
+      (clashes_within inner scope (bound (spelling scope.text.now name) t ∷ context_names scope) w at within clash k)) h
 
 pub in_one : (scope : Scope) (at : ℕ) (all : Trees) (part : Tree) (r : Result (Option Told) AllocError) → all ≡ both part none
     → IsFound (ClashesIn scope at part) r → IsFound (AnyClashesIn scope at all) r
@@ -228,7 +240,9 @@ pub final_in : (dialect : Dialect) (text : List ℕ) (declarations : List Declar
     → IsFound (ProgramClashes text (record { dialect = dialect; declarations = declarations; expression = tree }) at) r
 final_in dialect text declarations tree found at r e h =
     let all = declared_by dialect text declarations found e in
-    found_as (ExpressionClashes dialect text found at tree) (ProgramClashes text (record { dialect = dialect; declarations = declarations; expression = tree }) at) r (λ clash k. in_expression all.1 (subst (λ d. ExpressionClashes dialect text d at tree clash) all.2 k)) h
+    found_as (ExpressionClashes dialect text found at tree)
+    (ProgramClashes text (record { dialect = dialect; declarations = declarations; expression = tree }) at) r
+    (λ clash k. in_expression all.1 (subst (λ d. ExpressionClashes dialect text d at tree clash) all.2 k)) h
 
 pub function_in : (dialect : Dialect) (text : List ℕ) (before after all : List DeclarationTree) (found : Declared) (place : Span) (written : List TypedName) (result : TypeTree) (within : Tree)
     (at : ℕ) (r : Result (Option Told) AllocError)

@@ -29,7 +29,8 @@ outcome_is_sound typed environment (Ok datum) fits e = subst (Safe (λ v. HasTyp
 outcome_is_sound typed environment (Err fault) fits e = subst (Safe (λ v. HasType (typed_dialect typed) v (typed_ty typed))) e (typed_is_safe typed environment fits)
 
 -- the program as `plain` reads it
-pub result_is_sound : (typed : TypedProgram) (environment : Environment) (program : Program) (result : Result (Result Datum Fault) AllocError) → FitDeclarations (typed_dialect typed) (typed_inputs typed) environment
+pub result_is_sound : (typed : TypedProgram) (environment : Environment) (program : Program) (result : Result (Result Datum Fault) AllocError) →
+    FitDeclarations (typed_dialect typed) (typed_inputs typed) environment
     → program ≡ program_of typed → IfOk result (λ outcome. IsAnswer outcome (program_value program.text.items (tree_of_program program) environment))
     → IfOk result (TypesAllow (typed_dialect typed) (typed_ty typed))
 result_is_sound typed environment program (Ok outcome) fits same e =

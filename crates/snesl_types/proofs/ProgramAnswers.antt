@@ -10,11 +10,19 @@ use Rattle.snesl_values.specs.Inputs.{InputDeclaration}
 use Rattle.snesl_data.specs.Types.{Ty}
 use Rattle.snesl_tree.specs.declared.span.Span.{Span}
 use Rattle.snesl_tree.specs.Spelling.{spelling}
-use Rattle.snesl_tree.specs.Tree.{Tree, Trees, Binders, Condition, integer, truth, name, binary, prefix, call, apply, group, pair as pair_tree, binding, choice, literal, filter, each, none, both, none_bound, binder, always, only_where, TypeTree, TypedName, DeclarationTree, ProgramTree}
+use Rattle.snesl_tree.specs.Tree.{Tree, Trees, Binders, Condition, integer, truth, name, binary, prefix, call, apply, group, pair as pair_tree}
+use Rattle.snesl_tree.specs.Tree.{binding, choice, literal, filter, each, none, both, none_bound, binder, always, only_where, TypeTree, TypedName}
+use Rattle.snesl_tree.specs.Tree.{DeclarationTree, ProgramTree}
 use Rattle.snesl_types.specs.Contexts.{type_in, Signature, Signatures}
 use Rattle.snesl_types.specs.Sizes.{BodySizes, body_size, size, size_of_all, size_of_binders, size_of_condition, greatest_size}
-use Rattle.snesl_types.specs.Programs.{and_then, written_type, Declared, with_function, typed_name, NamesType, no_names, more_names, NamesViolate, named_twice, type_refused, later_names_violate, signature_of, FunctionTypes, function_type, FunctionViolates, function_twice, parameter_violates, result_refused, function_body_violates, function_mismatch, DeclarationsType, no_declarations, input_declared, function_declared, DeclarationsViolate, input_violates, function_violates, after_input_violates, after_function_violates, nothing_declared, ProgramTypes, ProgramViolates, many_declarations, declaration_violates, expression_violates, big_expression}
-use Rattle.snesl_types.specs.Verdicts.{new_name, name_verdict, names_verdict, of_body, function_verdict, capped, with_capped_function, declarations_verdict, of_expression, expression_verdict, program_verdict}
+use Rattle.snesl_types.specs.Programs.{and_then, written_type, Declared, with_function, typed_name, NamesType, no_names, more_names, NamesViolate}
+use Rattle.snesl_types.specs.Programs.{named_twice, type_refused, later_names_violate, signature_of, FunctionTypes, function_type, FunctionViolates}
+use Rattle.snesl_types.specs.Programs.{function_twice, parameter_violates, result_refused, function_body_violates, function_mismatch}
+use Rattle.snesl_types.specs.Programs.{DeclarationsType, no_declarations, input_declared, function_declared, DeclarationsViolate, input_violates}
+use Rattle.snesl_types.specs.Programs.{function_violates, after_input_violates, after_function_violates, nothing_declared, ProgramTypes}
+use Rattle.snesl_types.specs.Programs.{ProgramViolates, many_declarations, declaration_violates, expression_violates, big_expression}
+use Rattle.snesl_types.specs.Verdicts.{new_name, name_verdict, names_verdict, of_body, function_verdict, capped, with_capped_function}
+use Rattle.snesl_types.specs.Verdicts.{declarations_verdict, of_expression, expression_verdict, program_verdict}
 use Rattle.snesl_data.proofs.SameTypes.{same_eq, same_of}
 use Rattle.snesl_types.proofs.Same.{not_true}
 use Rattle.snesl_types.proofs.Outcomes.{then_ok, then_err}

@@ -14,8 +14,15 @@ use Rattle.snesl_types.specs.Contexts.{names_context, type_in, Signature, Signat
 use Rattle.snesl_types.specs.Sizes.{size, greatest_size}
 use Rattle.snesl_types.specs.Ranges.{IsInRange, DeclarationsInRange, ProgramInRange}
 use Rattle.snesl_types.specs.Typing.{Types}
-use Rattle.snesl_types.specs.Programs.{and_then, written_type, Declared, with_inputs, with_function, typed_name, NamesType, no_names, more_names, NamesViolate, named_twice, type_refused, later_names_violate, signature_of, FunctionTypes, function_type, FunctionViolates, function_twice, parameter_violates, result_refused, function_body_violates, function_mismatch, DeclarationsType, no_declarations, input_declared, function_declared, DeclarationsViolate, input_violates, function_violates, after_input_violates, after_function_violates, are_few, nothing_declared, ProgramTypes, ProgramViolates, many_declarations, declaration_violates, expression_violates, big_expression, HasTyping, HaveOneTyping, HaveSomeTyping, IsFirstViolation, IsMemoryIfTyped}
-use Rattle.snesl_types.specs.Verdicts.{verdict, new_name, name_verdict, names_verdict, of_body, function_verdict, capped, with_capped_function, declarations_verdict, expression_verdict, program_verdict}
+use Rattle.snesl_types.specs.Programs.{and_then, written_type, Declared, with_inputs, with_function, typed_name, NamesType, no_names, more_names}
+use Rattle.snesl_types.specs.Programs.{NamesViolate, named_twice, type_refused, later_names_violate, signature_of, FunctionTypes, function_type}
+use Rattle.snesl_types.specs.Programs.{FunctionViolates, function_twice, parameter_violates, result_refused, function_body_violates}
+use Rattle.snesl_types.specs.Programs.{function_mismatch, DeclarationsType, no_declarations, input_declared, function_declared, DeclarationsViolate}
+use Rattle.snesl_types.specs.Programs.{input_violates, function_violates, after_input_violates, after_function_violates, are_few, nothing_declared}
+use Rattle.snesl_types.specs.Programs.{ProgramTypes, ProgramViolates, many_declarations, declaration_violates, expression_violates, big_expression}
+use Rattle.snesl_types.specs.Programs.{HasTyping, HaveOneTyping, HaveSomeTyping, IsFirstViolation, IsMemoryIfTyped}
+use Rattle.snesl_types.specs.Verdicts.{verdict, new_name, name_verdict, names_verdict, of_body, function_verdict, capped, with_capped_function}
+use Rattle.snesl_types.specs.Verdicts.{declarations_verdict, expression_verdict, program_verdict}
 use Rattle.snesl_data.proofs.SameTypes.{same_eq, same_of}
 use Rattle.snesl_types.proofs.Outcomes.{Outcome, given, violated, out_of_range, then_outcome}
 use Rattle.snesl_types.proofs.Sound.{tree_sound}
@@ -26,7 +33,8 @@ module _ (dialect : Dialect) (text : List ℕ) where
   OfNames earlier written r = Outcome (NamesType text earlier written) (NamesViolate text earlier written) (Unit {0}) r
 
   -- one name, and what others after it give
-  name_outcome : (earlier : List InputDeclaration) (first : TypedName) (others : List TypedName) {B : Type 0} {G : B → Type 0} {V : Refusal → Type 0} {R : Type 0} (next : InputDeclaration → Result B Refusal)
+  name_outcome : (earlier : List InputDeclaration) (first : TypedName) (others : List TypedName) {B : Type 0} {G : B → Type 0} {V : Refusal → Type 0}
+      {R : Type 0} (next : InputDeclaration → Result B Refusal)
       → ((r : Refusal) → NamesViolate text earlier (first ∷ []) r → V r)
       → ((t : Ty) → type_in (spelling text first.place) earlier ≡ None → written_type first.written ≡ Ok t → Outcome G V R (next (typed_name text first t)))
       → Outcome G V R (and_then (name_verdict text earlier first) next)
@@ -133,7 +141,8 @@ module _ (dialect : Dialect) (text : List ℕ) where
       go_on signature f (out_of_range n) = out_of_range (λ h. n h.1)
 
       of_function : ((signature : Signature) → OfDeclarations (with_function text earlier signature body) others
-          (declarations_verdict dialect text (capped_all (with_function text earlier signature body)) others)) → {r : Result Signature Refusal} → OfFunction earlier.functions place written result body r
+          (declarations_verdict dialect text (capped_all (with_function text earlier signature body)) others)) → {r : Result Signature Refusal} →
+          OfFunction earlier.functions place written result body r
           → OfDeclarations earlier (declares_function place written result body ∷ others)
           (and_then (and_then r (λ signature. Ok (with_capped_function text (capped_all earlier) signature body))) (λ declared. declarations_verdict dialect text declared others))
       of_function behind (given {x = signature} f) =
@@ -159,7 +168,8 @@ module _ (text : List ℕ) (program : ProgramTree) where
       violated (big_expression few d e (let above : 65536 < capped n = leb-false (capped n) 65536 le in omega arith))
 
   of_few : (b : Bool) → are_few program.declarations ≡ b
-      → OfProgram (cond b (and_then (declarations_verdict program.dialect text nothing_declared program.declarations) (λ declared. expression_verdict program.dialect text declared program.expression)) (Err TooBig))
+      → OfProgram (cond b (and_then (declarations_verdict program.dialect text nothing_declared program.declarations)
+      (λ declared. expression_verdict program.dialect text declared program.expression)) (Err TooBig))
   of_few false few = violated (many_declarations few)
   of_few true few =
       then_outcome _ (declarations_sound program.dialect text nothing_declared program.declarations) (λ r v. declaration_violates few v) (λ h. h.declarations)

@@ -62,7 +62,9 @@ module _ (dialect : Dialect) where
           → HaveTypes dialect vs (t ∷ map (λ parameter. parameter.1) later.new)
           → Safe (FitDeclarations dialect (typed_name text first t ∷ later.new)) (parameters_with at text (first ∷ others) vs)
       more later at (v ∷ vs) h =
-          go_safe (FitDeclarations dialect later.new) (FitDeclarations dialect (typed_name text first t ∷ later.new)) (parameters_with at text others vs) (λ environment. gives ((spelling text first.place, v) ∷ environment)) (later.safe at vs h.1) (λ environment he. (refl, h.0, he))
+          go_safe (FitDeclarations dialect later.new) (FitDeclarations dialect (typed_name text first t ∷ later.new))
+          (parameters_with at text others vs) (λ environment. gives ((spelling text first.place, v) ∷ environment)) (later.safe at vs h.1)
+          (λ environment he. (refl, h.0, he))
       more later at [] h = absurd h
 
   -- a function's calls give values of its declared type
@@ -114,7 +116,8 @@ module _ (dialect : Dialect) where
 
 pub programs_are_sound : TypedProgramsAreSound
 programs_are_sound text program declared t environment types fits =
-    sound program.dialect (calls_after program.dialect text no_calls program.declarations) (declarations_hold program.dialect types.declarations no_calls (λ at bytes signature vs e h. absurd (let never : ⊥ = cc in never)))
+    sound program.dialect (calls_after program.dialect text no_calls program.declarations)
+    (declarations_hold program.dialect types.declarations no_calls (λ at bytes signature vs e h. absurd (let never : ⊥ = cc in never)))
     types.expression environment
     (subst (λ c. Holds program.dialect c environment) (append-nil (names_context declared.inputs))
     (subst (λ r. Holds program.dialect (names_context declared.inputs ++ []) r) (append-nil environment) (opened_holds program.dialect declared.inputs environment [] [] fits tt)))

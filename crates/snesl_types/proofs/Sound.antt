@@ -12,15 +12,25 @@ use Rattle.snesl_tree.specs.declared.operator.Operator.{Operator}
 use Rattle.snesl_tree.specs.declared.operator.Prefix.{Prefix}
 use Rattle.snesl_tree.specs.declared.span.Span.{Span}
 use Rattle.snesl_tree.specs.Spelling.{spelling}
-use Rattle.snesl_tree.specs.Tree.{Tree, Trees, Binders, Condition, integer, truth, name, binary, prefix, call, apply, group, pair as pair_tree, binding, choice, literal, filter, each, none, both, none_bound, binder, always, only_where}
+use Rattle.snesl_tree.specs.Tree.{Tree, Trees, Binders, Condition, integer, truth, name, binary, prefix, call, apply, group, pair as pair_tree}
+use Rattle.snesl_tree.specs.Tree.{binding, choice, literal, filter, each, none, both, none_bound, binder, always, only_where}
 use Rattle.snesl_types.specs.Contexts.{Binding, open_to, shut, Context, bound, names_context, found, inside, type_in, Signature, Signatures, function_named}
 use Rattle.snesl_types.specs.Forms.{operator_result, prefix_result, result_of, tabs_streamed}
 use Rattle.snesl_types.specs.Sizes.{is_small}
 use Rattle.snesl_types.specs.Ranges.{IsInRange, AreInRange, BindersInRange, ConditionInRange}
 use Rattle.snesl_types.specs.Programs.{and_then}
-use Rattle.snesl_types.specs.Typing.{Types, Gives, AllTypes, BindersType, ConditionTypes, has_type, integer_type, truth_type, name_type, binary_type, prefix_type, call_type, apply_type, group_type, pair_type, binding_type, choice_type, literal_type, filter_type, each_type, no_types, more_types, no_binders, more_binders, no_condition, condition_type}
-use Rattle.snesl_types.specs.Violations.{Violates, AnyViolates, BindersViolate, big_type, unbound, streamed, left_violates, right_violates, operands_mismatch, operand_violates, operand_mismatch, argument_violates, arguments_mismatch, tab_streamed, call_violates, call_unbound, call_mismatch, inner_violates, first_part_violates, second_part_violates, value_violates, binding_violates, choice_violates, positive_violates, negative_violates, choice_mismatch, item_violates, items_mismatch, filtered_violates, filter_violates, filter_mismatch, binder_violates, condition_violates, body_violates, condition_mismatch, binder_missing, first_violates, later_violates, source_violates, bound_twice, binder_mismatch, later_binder_violates}
-use Rattle.snesl_types.specs.Verdicts.{sized, rule, verdict, verdicts, binders_verdict, condition_verdict, of_binding, or_refused, of_builtin, of_function, of_items, of_each, of_binder, are_same, all_same}
+use Rattle.snesl_types.specs.Typing.{Types, Gives, AllTypes, BindersType, ConditionTypes, has_type, integer_type, truth_type, name_type, binary_type}
+use Rattle.snesl_types.specs.Typing.{prefix_type, call_type, apply_type, group_type, pair_type, binding_type, choice_type, literal_type, filter_type}
+use Rattle.snesl_types.specs.Typing.{each_type, no_types, more_types, no_binders, more_binders, no_condition, condition_type}
+use Rattle.snesl_types.specs.Violations.{Violates, AnyViolates, BindersViolate, big_type, unbound, streamed, left_violates, right_violates}
+use Rattle.snesl_types.specs.Violations.{operands_mismatch, operand_violates, operand_mismatch, argument_violates, arguments_mismatch, tab_streamed}
+use Rattle.snesl_types.specs.Violations.{call_violates, call_unbound, call_mismatch, inner_violates, first_part_violates, second_part_violates}
+use Rattle.snesl_types.specs.Violations.{value_violates, binding_violates, choice_violates, positive_violates, negative_violates, choice_mismatch}
+use Rattle.snesl_types.specs.Violations.{item_violates, items_mismatch, filtered_violates, filter_violates, filter_mismatch, binder_violates}
+use Rattle.snesl_types.specs.Violations.{condition_violates, body_violates, condition_mismatch, binder_missing, first_violates, later_violates}
+use Rattle.snesl_types.specs.Violations.{source_violates, bound_twice, binder_mismatch, later_binder_violates}
+use Rattle.snesl_types.specs.Verdicts.{sized, rule, verdict, verdicts, binders_verdict, condition_verdict, of_binding, or_refused, of_builtin}
+use Rattle.snesl_types.specs.Verdicts.{of_function, of_items, of_each, of_binder, are_same, all_same}
 use Rattle.snesl_types.proofs.Outcomes.{Outcome, given, violated, out_of_range, then_outcome, both_outcome}
 use Rattle.snesl_data.proofs.SameTypes.{and_true, and_left, and_right, same_eq, same_of}
 use Rattle.snesl_types.proofs.Same.{are_same_self, are_same_eq, all_same_of, all_same_are}
@@ -147,12 +157,14 @@ OfCondition dialect text functions context condition r =
     Outcome (ConditionTypes dialect text functions context condition) (ConditionViolates dialect text functions context condition) (ConditionInRange dialect condition) r
 
 mutual
-  pub form_sound : (dialect : Dialect) (text : List ℕ) (functions : Signatures) (context : Context) (tree : Tree) → OfForm dialect text functions context tree (rule dialect text functions context tree)
+  pub form_sound : (dialect : Dialect) (text : List ℕ) (functions : Signatures) (context : Context) (tree : Tree) →
+      OfForm dialect text functions context tree (rule dialect text functions context tree)
   form_sound dialect text functions context (integer at value) = of_integer dialect text functions context at value (is_integer dialect value) refl
   form_sound dialect text functions context (truth at value) = given truth_type
   form_sound dialect text functions context (name place) = of_name dialect text functions context place (found (spelling text place) context) refl
   form_sound dialect text functions context (binary at operator left right) =
-      both_outcome _ (sized_outcome dialect text functions context left (form_sound dialect text functions context left)) (sized_outcome dialect text functions context right (form_sound dialect text functions context right))
+      both_outcome _ (sized_outcome dialect text functions context left (form_sound dialect text functions context left))
+      (sized_outcome dialect text functions context right (form_sound dialect text functions context right))
       (λ r v. left_violates v) (λ h. h.0) (λ t a r v. right_violates a v) (λ h. h.1)
       (λ t u a b. of_operands dialect text functions context at operator left right t u a b (operator_result operator t u) refl)
   form_sound dialect text functions context (prefix at operator operand) =
@@ -173,7 +185,8 @@ mutual
       of_group at inner (violated v) = violated (inner_violates v)
       of_group at inner (out_of_range n) = out_of_range n
   form_sound dialect text functions context (pair_tree at first second) =
-      both_outcome _ (sized_outcome dialect text functions context first (form_sound dialect text functions context first)) (sized_outcome dialect text functions context second (form_sound dialect text functions context second))
+      both_outcome _ (sized_outcome dialect text functions context first (form_sound dialect text functions context first))
+      (sized_outcome dialect text functions context second (form_sound dialect text functions context second))
       (λ r v. first_part_violates v) (λ h. h.0) (λ t a r v. second_part_violates a v) (λ h. h.1) (λ t u a b. given (pair_type a b))
   form_sound dialect text functions context (binding at place value body) =
       then_outcome _ (sized_outcome dialect text functions context value (form_sound dialect text functions context value)) (λ r v. value_violates v) (λ h. h.0)
@@ -186,14 +199,16 @@ mutual
       of_let t a (out_of_range n) = out_of_range (λ h. n h.1)
   form_sound dialect text functions context (choice at condition positive negative) =
       then_outcome _ (sized_outcome dialect text functions context condition (form_sound dialect text functions context condition)) (λ r v. choice_violates v) (λ h. h.0)
-      (λ t a. both_outcome _ (sized_outcome dialect text functions context positive (form_sound dialect text functions context positive)) (sized_outcome dialect text functions context negative (form_sound dialect text functions context negative))
+      (λ t a. both_outcome _ (sized_outcome dialect text functions context positive (form_sound dialect text functions context positive))
+      (sized_outcome dialect text functions context negative (form_sound dialect text functions context negative))
       (λ r v. positive_violates a v) (λ h. h.1) (λ u b r v. negative_violates a b v) (λ h. h.2)
       (λ u v b c. of_branches dialect text functions context at condition positive negative t u v a b c (is_same t bool && is_same u v) refl))
   form_sound dialect text functions context (literal at items) =
       then_outcome _ (all_sound dialect text functions context [] items) (λ r v. item_violates v) (λ h. h)
       (λ ts all. subst (λ us. OfForm dialect text functions context (literal at items) (of_items at us)) (sym all.2) (of_literal dialect text functions context at items all.0 all.1))
   form_sound dialect text functions context (filter at item condition) =
-      both_outcome _ (sized_outcome dialect text functions context item (form_sound dialect text functions context item)) (sized_outcome dialect text functions context condition (form_sound dialect text functions context condition))
+      both_outcome _ (sized_outcome dialect text functions context item (form_sound dialect text functions context item))
+      (sized_outcome dialect text functions context condition (form_sound dialect text functions context condition))
       (λ r v. filtered_violates v) (λ h. h.0) (λ t a r v. filter_violates a v) (λ h. h.1)
       (λ t u a b. of_condition dialect text functions context at item condition t u a b (is_same u bool) refl)
   form_sound dialect text functions context (each at body binders condition) =
@@ -259,5 +274,6 @@ mutual
       of_only (violated v) = violated v
       of_only (out_of_range n) = out_of_range n
 
-pub tree_sound : (dialect : Dialect) (text : List ℕ) (functions : Signatures) (context : Context) (tree : Tree) → OfTree dialect text functions context tree (verdict dialect text functions context tree)
+pub tree_sound : (dialect : Dialect) (text : List ℕ) (functions : Signatures) (context : Context) (tree : Tree) →
+    OfTree dialect text functions context tree (verdict dialect text functions context tree)
 tree_sound dialect text functions context tree = sized_outcome dialect text functions context tree (form_sound dialect text functions context tree)

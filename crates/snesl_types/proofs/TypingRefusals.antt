@@ -10,8 +10,18 @@ use Rattle.snesl_tree.specs.declared.span.Span.{Span}
 use Rattle.snesl_tree.specs.Tree.{Tree, Trees, Binders, TypeTree, int_type, bool_type, pair_type, vector_type, sequence_type, TypedName, DeclarationTree, ProgramTree}
 use Rattle.snesl_types.specs.Contexts.{Context, Signatures}
 use Rattle.snesl_types.specs.Sizes.{is_small}
-use Rattle.snesl_types.specs.Programs.{Declared, small_type, and_then, written_type, NamesViolate, FunctionViolates, DeclarationsViolate, ProgramViolates, named_twice, type_refused, later_names_violate, function_twice, parameter_violates, result_refused, function_body_violates, function_mismatch, input_violates, function_violates, after_input_violates, after_function_violates, many_declarations, declaration_violates, expression_violates, big_expression}
-use Rattle.snesl_types.specs.Violations.{Violates, AnyViolates, BindersViolate, big_type, unbound, streamed, left_violates, right_violates, operands_mismatch, operand_violates, operand_mismatch, argument_violates, arguments_mismatch, tab_streamed, call_violates, call_unbound, call_mismatch, inner_violates, first_part_violates, second_part_violates, value_violates, binding_violates, choice_violates, positive_violates, negative_violates, choice_mismatch, item_violates, items_mismatch, filtered_violates, filter_violates, filter_mismatch, binder_violates, condition_violates, body_violates, condition_mismatch, binder_missing, first_violates, later_violates, source_violates, bound_twice, binder_mismatch, later_binder_violates}
+use Rattle.snesl_types.specs.Programs.{Declared, small_type, and_then, written_type, NamesViolate, FunctionViolates, DeclarationsViolate}
+use Rattle.snesl_types.specs.Programs.{ProgramViolates, named_twice, type_refused, later_names_violate, function_twice, parameter_violates}
+use Rattle.snesl_types.specs.Programs.{result_refused, function_body_violates, function_mismatch, input_violates, function_violates}
+use Rattle.snesl_types.specs.Programs.{after_input_violates, after_function_violates, many_declarations, declaration_violates, expression_violates}
+use Rattle.snesl_types.specs.Programs.{big_expression}
+use Rattle.snesl_types.specs.Violations.{Violates, AnyViolates, BindersViolate, big_type, unbound, streamed, left_violates, right_violates}
+use Rattle.snesl_types.specs.Violations.{operands_mismatch, operand_violates, operand_mismatch, argument_violates, arguments_mismatch, tab_streamed}
+use Rattle.snesl_types.specs.Violations.{call_violates, call_unbound, call_mismatch, inner_violates, first_part_violates, second_part_violates}
+use Rattle.snesl_types.specs.Violations.{value_violates, binding_violates, choice_violates, positive_violates, negative_violates, choice_mismatch}
+use Rattle.snesl_types.specs.Violations.{item_violates, items_mismatch, filtered_violates, filter_violates, filter_mismatch, binder_violates}
+use Rattle.snesl_types.specs.Violations.{condition_violates, body_violates, condition_mismatch, binder_missing, first_violates, later_violates}
+use Rattle.snesl_types.specs.Violations.{source_violates, bound_twice, binder_mismatch, later_binder_violates}
 
 -- a name, a mismatch, a streamed type, or a size
 abbrev pub IsOfTyping : Refusal → Type 0
@@ -57,7 +67,8 @@ written_of_typing written refusal e = let h = type_of_typing written in by_resul
     by_result (Err other) h e' = let same : other ≡ refusal = cc in rw same at h
 
 mutual
-  of_typing : {dialect : Dialect} {text : List ℕ} {functions : Signatures} {context : Context} {tree : Tree} {refusal : Refusal} → Violates dialect text functions context tree refusal → IsOfTyping refusal
+  of_typing : {dialect : Dialect} {text : List ℕ} {functions : Signatures} {context : Context} {tree : Tree} {refusal : Refusal} →
+      Violates dialect text functions context tree refusal → IsOfTyping refusal
   of_typing (big_type _ _) = tt
   of_typing (unbound _) = tt
   of_typing (streamed _) = tt
@@ -92,11 +103,13 @@ mutual
   of_typing (condition_mismatch _ _ _ _) = tt
   of_typing (binder_missing _ _ _) = tt
 
-  any_of_typing : {dialect : Dialect} {text : List ℕ} {functions : Signatures} {context : Context} {trees : Trees} {refusal : Refusal} → AnyViolates dialect text functions context trees refusal → IsOfTyping refusal
+  any_of_typing : {dialect : Dialect} {text : List ℕ} {functions : Signatures} {context : Context} {trees : Trees} {refusal : Refusal} →
+      AnyViolates dialect text functions context trees refusal → IsOfTyping refusal
   any_of_typing (first_violates v) = of_typing v
   any_of_typing (later_violates _ v) = any_of_typing v
 
-  binders_of_typing : {dialect : Dialect} {text : List ℕ} {functions : Signatures} {context : Context} {earlier : List InputDeclaration} {binders : Binders} {refusal : Refusal} → BindersViolate dialect text functions context earlier binders refusal → IsOfTyping refusal
+  binders_of_typing : {dialect : Dialect} {text : List ℕ} {functions : Signatures} {context : Context} {earlier : List InputDeclaration}
+      {binders : Binders} {refusal : Refusal} → BindersViolate dialect text functions context earlier binders refusal → IsOfTyping refusal
   binders_of_typing (source_violates v) = of_typing v
   binders_of_typing (bound_twice _ _) = tt
   binders_of_typing (binder_mismatch _ _ _) = tt
@@ -107,14 +120,16 @@ names_of_typing (named_twice _) = tt
 names_of_typing (type_refused {first = first} {refusal = refusal} _ e) = written_of_typing first.written refusal e
 names_of_typing (later_names_violate _ _ v) = names_of_typing v
 
-function_of_typing : {dialect : Dialect} {text : List ℕ} {functions : Signatures} {place : Span} {written : List TypedName} {result : TypeTree} {body : Tree} {refusal : Refusal} → FunctionViolates dialect text functions place written result body refusal → IsOfTyping refusal
+function_of_typing : {dialect : Dialect} {text : List ℕ} {functions : Signatures} {place : Span} {written : List TypedName} {result : TypeTree}
+    {body : Tree} {refusal : Refusal} → FunctionViolates dialect text functions place written result body refusal → IsOfTyping refusal
 function_of_typing (function_twice _) = tt
 function_of_typing (parameter_violates _ v) = names_of_typing v
 function_of_typing (result_refused {result = result} {refusal = refusal} _ _ e) = written_of_typing result refusal e
 function_of_typing (function_body_violates _ _ _ v) = of_typing v
 function_of_typing (function_mismatch _ _ _ _ _) = tt
 
-declarations_of_typing : {dialect : Dialect} {text : List ℕ} {earlier : Declared} {declarations : List DeclarationTree} {refusal : Refusal} → DeclarationsViolate dialect text earlier declarations refusal → IsOfTyping refusal
+declarations_of_typing : {dialect : Dialect} {text : List ℕ} {earlier : Declared} {declarations : List DeclarationTree} {refusal : Refusal} →
+    DeclarationsViolate dialect text earlier declarations refusal → IsOfTyping refusal
 declarations_of_typing (input_violates v) = names_of_typing v
 declarations_of_typing (function_violates v) = function_of_typing v
 declarations_of_typing (after_input_violates _ v) = declarations_of_typing v

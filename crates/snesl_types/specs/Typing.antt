@@ -9,7 +9,8 @@ use Rattle.snesl_tree.specs.declared.operator.Operator.{Operator}
 use Rattle.snesl_tree.specs.declared.operator.Prefix.{Prefix}
 use Rattle.snesl_tree.specs.declared.span.Span.{Span}
 use Rattle.snesl_tree.specs.Spelling.{spelling}
-use Rattle.snesl_tree.specs.Tree.{Tree, Trees, Binders, Condition, integer, truth, name, binary, prefix, call, apply, group, pair as pair_tree, binding, choice, literal, filter, each, none, both, none_bound, binder, always, only_where}
+use Rattle.snesl_tree.specs.Tree.{Tree, Trees, Binders, Condition, integer, truth, name, binary, prefix, call, apply, group, pair as pair_tree}
+use Rattle.snesl_tree.specs.Tree.{binding, choice, literal, filter, each, none, both, none_bound, binder, always, only_where}
 use Rattle.snesl_types.specs.Contexts.{open_to, Context, bound, names_context, found, inside, type_in, Signature, Signatures, function_named}
 use Rattle.snesl_types.specs.Forms.{operator_result, prefix_result, result_of}
 use Rattle.snesl_types.specs.Sizes.{is_small}

@@ -13,7 +13,9 @@ use Rattle.snesl_tree.specs.declared.operator.Operator.{Operator}
 use Rattle.snesl_tree.specs.declared.operator.Prefix.{Prefix}
 use Rattle.snesl_tree.specs.declared.span.Span.{Span}
 use Rattle.snesl_tree.specs.Spelling.{spelling}
-use Rattle.snesl_tree.specs.Tree.{Tree, Trees, Binders, Condition, integer, truth, name, binary, prefix, call, apply, group, pair as pair_tree, binding, choice, literal, filter, each, none, both, none_bound, binder, always, only_where, TypeTree, TypedName, DeclarationTree, declares_input, declares_function, ProgramTree}
+use Rattle.snesl_tree.specs.Tree.{Tree, Trees, Binders, Condition, integer, truth, name, binary, prefix, call, apply, group, pair as pair_tree}
+use Rattle.snesl_tree.specs.Tree.{binding, choice, literal, filter, each, none, both, none_bound, binder, always, only_where, TypeTree, TypedName}
+use Rattle.snesl_tree.specs.Tree.{DeclarationTree, declares_input, declares_function, ProgramTree}
 use Rattle.snesl_types.specs.Contexts.{Binding, open_to, shut, Context, bound, names_context, found, inside, type_in, Signature, Signatures, function_named}
 use Rattle.snesl_types.specs.Forms.{operator_result, prefix_result, result_of, tabs_streamed}
 use Rattle.snesl_types.specs.Sizes.{size, greatest_size}

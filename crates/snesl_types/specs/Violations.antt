@@ -10,7 +10,8 @@ use Rattle.snesl_tree.specs.declared.operator.Operator.{Operator}
 use Rattle.snesl_tree.specs.declared.operator.Prefix.{Prefix}
 use Rattle.snesl_tree.specs.declared.span.Span.{Span}
 use Rattle.snesl_tree.specs.Spelling.{spelling}
-use Rattle.snesl_tree.specs.Tree.{Tree, Trees, Binders, Condition, name, binary, prefix, call, apply, group, pair as pair_tree, binding, choice, literal, filter, each, both, none_bound, binder, only_where}
+use Rattle.snesl_tree.specs.Tree.{Tree, Trees, Binders, Condition, name, binary, prefix, call, apply, group, pair as pair_tree, binding, choice}
+use Rattle.snesl_tree.specs.Tree.{literal, filter, each, both, none_bound, binder, only_where}
 use Rattle.snesl_types.specs.Contexts.{shut, Context, bound, names_context, found, inside, type_in, Signature, Signatures, function_named}
 use Rattle.snesl_types.specs.Forms.{operator_result, prefix_result, result_of, tabs_streamed}
 use Rattle.snesl_types.specs.Sizes.{is_small}

@@ -16,7 +16,8 @@ use Rattle.snesl_values.specs.Declarations.{InputDeclaration}
 use Rattle.snesl_values.specs.Entries.{entry_from, environment_at, ComesBy, Comes, IsSpelledAt, AreSpelledAt}
 
 -- the value that was read from a place on is the one that the text tells there
-pub told : (dialect : Dialect) (text : List ℕ) (place : ℕ) (t : Ty) (end : ℕ) → place ≤ length text → (v : Value) × IsValueRead dialect text place t v end → IsValueRead dialect text place t (value_at text place) end
+pub told : (dialect : Dialect) (text : List ℕ) (place : ℕ) (t : Ty) (end : ℕ) → place ≤ length text → (v : Value)
+    × IsValueRead dialect text place t v end → IsValueRead dialect text place t (value_at text place) end
 told dialect text place t end inside w =
     subst (λ v. IsValueRead dialect text place t v end) (sym (value_at-tells dialect text t place end w.0 w.1.has_type inside w.1.reads)) w.1
 
@@ -24,7 +25,8 @@ pub entries-push : (text : List ℕ) (all : List InputPlace) (placed : InputPlac
 entries-push text [] placed = refl
 entries-push text (x ∷ all) placed = ap (λ l. entry_from text x ∷ l) (entries-push text all placed)
 
-pub placed-push : (dialect : Dialect) (text : List ℕ) (ds : List InputDeclaration) (all : List InputPlace) (d : InputDeclaration) (placed : InputPlace) → AreSpelledAt dialect text ds all → IsSpelledAt dialect text d.1 placed.place
+pub placed-push : (dialect : Dialect) (text : List ℕ) (ds : List InputDeclaration) (all : List InputPlace) (d : InputDeclaration)
+    (placed : InputPlace) → AreSpelledAt dialect text ds all → IsSpelledAt dialect text d.1 placed.place
     → AreSpelledAt dialect text (ds ++ d ∷ []) (all ++ placed ∷ [])
 placed-push dialect text [] [] d placed h k = (k, tt)
 placed-push dialect text (e ∷ ds) (x ∷ all) d placed h k = (h.0, placed-push dialect text ds all d placed h.1 k)
@@ -42,7 +44,8 @@ pub reads_of : {text : List ℕ} (tokens : List Token) (at : ℕ) → Comes text
 reads_of [] at h = (at, none)
 reads_of {text = text} (t ∷ tokens) at h = by_next (next_lexeme text at) refl h (λ behind k. reads_of tokens behind k)
   where
-    by_next : (o : Option SizedToken) → next_lexeme text at ≡ o → ComesBy (λ behind. Comes text behind tokens) t (next_at text at) o → ((behind : ℕ) → Comes text behind tokens → (end : ℕ) × HasTokens text behind tokens end) → (end : ℕ) × HasTokens text at (t ∷ tokens) end
+    by_next : (o : Option SizedToken) → next_lexeme text at ≡ o → ComesBy (λ behind. Comes text behind tokens) t (next_at text at) o →
+        ((behind : ℕ) → Comes text behind tokens → (end : ℕ) × HasTokens text behind tokens end) → (end : ℕ) × HasTokens text at (t ∷ tokens) end
     by_next None e h rest = absurd h
     by_next (Some l) e h rest =
         let r = rest (next_at text at + l.1) h.1 in

@@ -13,7 +13,8 @@ use Rattle.snesl_values.proofs.InputMeanings.{one_meaning}
 abbrev pub IsRight : Dialect → List InputDeclaration → List ℕ → InputError → Type 0
 IsRight dialect ds text error = (error ≡ NoMemory) ⊎ ((at : ℕ) × (error ≡ Bad at) × InputMeans dialect ds text (refused_at at))
 
-pub right_stop : (dialect : Dialect) → (ds : List InputDeclaration) (text : List ℕ) (error : InputError) → length text ≤ greatest_input_length → IsStopOf dialect ds text error → IsRight dialect ds text error
+pub right_stop : (dialect : Dialect) → (ds : List InputDeclaration) (text : List ℕ) (error : InputError) → length text ≤ greatest_input_length →
+    IsStopOf dialect ds text error → IsRight dialect ds text error
 right_stop dialect ds text (Bad at) fits s = inr (at, refl, unlawful fits s)
 right_stop dialect ds text NoMemory fits s = inl refl
 
@@ -29,7 +30,8 @@ pub not_refused : (dialect : Dialect) → (ds : List InputDeclaration) (text : L
     → InputMeans dialect ds text (refused_at at) → ⊥
 not_refused dialect ds text environment at spelled means = let same = one_meaning dialect ds text (spells environment) (refused_at at) spelled means in cc
 
-pub unlawful_answered : (dialect : Dialect) → (ds : List InputDeclaration) (text : List ℕ) (r : Result Inputs InputError) → IfOk r (λ inputs. InputMeans dialect ds text (spells (environment_of inputs)))
+pub unlawful_answered : (dialect : Dialect) → (ds : List InputDeclaration) (text : List ℕ) (r : Result Inputs InputError) →
+    IfOk r (λ inputs. InputMeans dialect ds text (spells (environment_of inputs)))
     → IfErr r (IsRight dialect ds text) → (at : ℕ) → InputMeans dialect ds text (refused_at at) → (r ≡ Err (Bad at)) ⊎ (r ≡ Err NoMemory)
 unlawful_answered dialect ds text (Ok inputs) spelled right at means = absurd (not_refused dialect ds text (environment_of inputs) at spelled means)
 unlawful_answered dialect ds text (Err error) spelled (inl is) at means = inr (ap (λ e. Err e) is)

@@ -1,9 +1,12 @@
 -- Declared inputs in an input text.
-use Rattle.std.proofs.Common.{◌≡◌, ℕ, suc, ◌+◌, ◌-◌, ◌≤◌, ◌<◌, Vec, Global, take, take_all, get_or, drop-cons, length-drop, length-append, add-one, List, [], ◌∷◌, ◌++◌, length, drop, Option, Some, None, ◌⊎◌, inl, inr, refl, sym, ap, ◌∙◌, subst, append_assoc, append-nil, arith}
+use Rattle.std.proofs.Common.{◌≡◌, ℕ, suc, ◌+◌, ◌-◌, ◌≤◌, ◌<◌, Vec, Global, take, take_all, get_or, drop-cons, length-drop, length-append, add-one}
+use Rattle.std.proofs.Common.{List, [], ◌∷◌, ◌++◌, length, drop, Option, Some, None, ◌⊎◌, inl, inr, refl, sym, ap, ◌∙◌, subst, append_assoc}
+use Rattle.std.proofs.Common.{append-nil, arith}
 use Rattle.snesl_data.specs.declared.dialect.Dialect.{Dialect}
 use Rattle.snesl_data.specs.Values.{Value, HasType}
 use Rattle.snesl_values.specs.InputTokens.{Token, word, next_at, next_token, HasTokens, none, IsNextToken}
-use Rattle.snesl_values.specs.Inputs.{InputDeclaration, Environment, FitDeclarations, equals, semicolon, value_tokens, entry_tokens, further_entries, environment_tokens, AreEntries, SpellsEnvironment, MayFollow, StopsAt, declared, declaration_of}
+use Rattle.snesl_values.specs.Inputs.{InputDeclaration, Environment, FitDeclarations, equals, semicolon, value_tokens, entry_tokens, further_entries}
+use Rattle.snesl_values.specs.Inputs.{environment_tokens, AreEntries, SpellsEnvironment, MayFollow, StopsAt, declared, declaration_of}
 use Rattle.snesl_data.specs.declared.ty.Ty.{Ty as TyTree}
 use Rattle.snesl_values.specs.Wants.{ToCome, one, perhaps, a_value, Fills, entry_wants, further_wants, wants_of, IsEntry, AllRead, IsStop, IsStopOf}
 use Rattle.snesl_values.specs.declared.inputs.InputError.{InputError}
@@ -192,7 +195,9 @@ first_so_far dialect text d ds entry end read = record {
   stops = λ n s. after_entry dialect text d (further_wants ds) entry 0 end n read s;
 }
 
-pub next_so_far : (dialect : Dialect) → (text : List ℕ) (ds : List InputDeclaration) (d : InputDeclaration) (left : List InputDeclaration) (es : Environment) (entry : List ℕ × Value) (at start end : ℕ)
+pub next_so_far : (dialect : Dialect) →
+    (text : List ℕ) (ds : List InputDeclaration) (d : InputDeclaration) (left : List InputDeclaration) (es : Environment) (entry : List ℕ × Value)
+    (at start end : ℕ)
     → SoFar dialect text ds (d ∷ left) es at → IsNextToken text at semicolon start → IsEntry dialect text start d entry end → SoFar dialect text ds left (es ++ entry ∷ []) end
 next_so_far dialect text ds d left es entry at start end s parting read = record {
   within = read.within;

@@ -3,7 +3,9 @@ use Rattle.std.proofs.Common.{◌≡◌, ℕ, ◌+◌, List, [], ◌∷◌, ◌+
 use Rattle.snesl_data.specs.declared.dialect.Dialect.{Dialect}
 use Rattle.snesl_data.specs.Values.{Value}
 use Rattle.snesl_values.specs.InputTokens.{Token, SizedToken, word, next_at, next_token, HasTokens, none, more}
-use Rattle.snesl_values.specs.Inputs.{InputDeclaration, Environment, FitDeclarations, equals, semicolon, entry_tokens, further_entries, environment_tokens, AreEntries, Spells, SpellsEnvironment, MayFollow, StopsAt, InputAnswer, spells, refused_at, InputMeans, too_long, lawful, unlawful}
+use Rattle.snesl_values.specs.Inputs.{InputDeclaration, Environment, FitDeclarations, equals, semicolon, entry_tokens, further_entries}
+use Rattle.snesl_values.specs.Inputs.{environment_tokens, AreEntries, Spells, SpellsEnvironment, MayFollow, StopsAt, InputAnswer, spells, refused_at}
+use Rattle.snesl_values.specs.Inputs.{InputMeans, too_long, lawful, unlawful}
 use Rattle.snesl_values.proofs.InputReads.{first_next}
 use Rattle.snesl_values.proofs.InputWants.{one_value, after_head}
 

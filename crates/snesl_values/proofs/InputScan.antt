@@ -1,5 +1,7 @@
 -- What stands first in bytes, and single tokens of an input text.
-use Rattle.std.proofs.Common.{◌≡◌, ℕ, suc, ℤ, pos, ◌+◌, ◌-◌, ◌*◌, ◌≤◌, ◌<◌, Bool, true, false, cond, eqb, List, [], ◌∷◌, length, take, drop, get_or, IsTrue, Option, Some, None, option_map, IfSome, IfNone, refl, sym, ap, ◌∙◌, subst, arith, drop-cons, length-drop, take_all, ⊎_elim, ◌⊎◌, inl, inr, leb, one-add, add-one}
+use Rattle.std.proofs.Common.{◌≡◌, ℕ, suc, ℤ, pos, ◌+◌, ◌-◌, ◌*◌, ◌≤◌, ◌<◌, Bool, true, false, cond, eqb, List, [], ◌∷◌, length, take, drop, get_or}
+use Rattle.std.proofs.Common.{IsTrue, Option, Some, None, option_map, IfSome, IfNone, refl, sym, ap, ◌∙◌, subst, arith, drop-cons, length-drop}
+use Rattle.std.proofs.Common.{take_all, ⊎_elim, ◌⊎◌, inl, inr, leb, one-add, add-one}
 use Rattle.std.proofs.lemmas.Bool.{lt-leb, cond-true, cond-false, eqb-true, cases_lt}
 use Rattle.std.specs.List.{AllByRecursion, prefix_len, take_while}
 use Rattle.std.proofs.lemmas.List.Sums.{prefix_len-le-length}
@@ -11,7 +13,8 @@ use Rattle.snesl_data.specs.declared.dialect.Dialect.{Dialect}
 use Rattle.snesl_data.specs.declared.dialect.Dialect.TheVariants.{Two}
 use Rattle.snesl_data.specs.Integers.{greatest_integer, IsInteger}
 use Rattle.snesl_data.specs.Characters.{is_word, value_from}
-use Rattle.snesl_values.specs.InputTokens.{Token, SizedToken, word, integer, sign, bad, is_sign, negated, minus_lexeme, first, next_lexeme, next_at, next_token, HasTokens, none, more, IsNextToken, digits_at, number_of, IsNumber}
+use Rattle.snesl_values.specs.InputTokens.{Token, SizedToken, word, integer, sign, bad, is_sign, negated, minus_lexeme, first, next_lexeme, next_at}
+use Rattle.snesl_values.specs.InputTokens.{next_token, HasTokens, none, more, IsNextToken, digits_at, number_of, IsNumber}
 
 abbrev pub rest_of : List ℕ → ℕ → List ℕ
 rest_of text at = take (length text - at) (drop at text)

@@ -135,7 +135,8 @@ one_in dialect t wants us f = (t ∷ [], us, refl, refl, f)
 pub one_out : (dialect : Dialect) → (t : Token) (wants : List ToCome) (us : List Token) → Fills dialect (one t ∷ wants) us → (rest : List Token) × (us ≡ t ∷ rest) × Fills dialect wants rest
 one_out dialect t wants us (these, rest, e, m, f) = (rest, e ∙ ap (λ l. l ++ rest) m, f)
 
-pub value_in : (dialect : Dialect) → (t : Ty) (v : Value) (wants : List ToCome) (us : List Token) → HasType dialect v t → Fills dialect wants us → Fills dialect (a_value t ∷ wants) (value_tokens v ++ us)
+pub value_in : (dialect : Dialect) → (t : Ty) (v : Value) (wants : List ToCome) (us : List Token) → HasType dialect v t → Fills dialect wants us →
+    Fills dialect (a_value t ∷ wants) (value_tokens v ++ us)
 value_in dialect t v wants us h f = (value_tokens v, us, refl, (v, h, refl), f)
 
 pub value_out : (dialect : Dialect) → (t : Ty) (wants : List ToCome) (us : List Token) → Fills dialect (a_value t ∷ wants) us
@@ -171,7 +172,8 @@ another_one dialect text t wants from another =
     (λ u e same. another (e ∙ ap (λ x. Some x) same))
 
 -- where an integer was wanted
-int_opens : (dialect : Dialect) → (v : Value) (rest : List Token) → HasType dialect v int → (t : Token) × (others : List Token) × (value_tokens v ++ rest ≡ t ∷ others) × ((n : ℤ) × IsInteger dialect n × (t ≡ integer n))
+int_opens : (dialect : Dialect) → (v : Value) (rest : List Token) → HasType dialect v int → (t : Token) × (others : List Token)
+    × (value_tokens v ++ rest ≡ t ∷ others) × ((n : ℤ) × IsInteger dialect n × (t ≡ integer n))
 int_opens dialect (an_int n) rest h = (integer n, rest, refl, (n, h, refl))
 int_opens dialect (a_bool b) rest h = absurd h
 int_opens dialect (a_pair v w) rest h = absurd h

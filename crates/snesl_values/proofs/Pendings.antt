@@ -72,7 +72,8 @@ spots_unfound text at e = by_next (next_lexeme text at) refl e
     by_next (Some l) is e = absurd (cc)
 
 -- what is spelled, token by token
-pub spells_on : (text : List ℕ) (at : ℕ) (f : Found) (frames : List OpenPart) (value : Option Value) (r : Reading) → at ≤ length text → Some f ≡ found_from (next_at text at) (next_lexeme text at) → after_token value frames f.mark ≡ r
+pub spells_on : (text : List ℕ) (at : ℕ) (f : Found) (frames : List OpenPart) (value : Option Value) (r : Reading) → at ≤ length text → Some f
+    ≡ found_from (next_at text at) (next_lexeme text at) → after_token value frames f.mark ≡ r
     → spelled frames value (spots text at) ≡ spelled r.0 r.1 (spots text f.end)
 spells_on text at f frames value r within e step =
     ap (spelled frames value) (spots_found text at f within e) ∙ ap (λ (r : Reading). spelled r.0 r.1 (spots text f.end)) step
@@ -82,12 +83,14 @@ spelled_whole v [] = refl
 spelled_whole v (x ∷ rest) = spelled_whole v rest
 
 -- where a value is whole and nothing is open, it is what is spelled
-pub spells_whole : (text : List ℕ) (at : ℕ) (all : List Pending) (value : Option Value) (v : Value) → length all ≡ 0 → value ≡ Some v → spelled (frames_of all) value (spots text at) ≡ read_value (frames_of all) value
+pub spells_whole : (text : List ℕ) (at : ℕ) (all : List Pending) (value : Option Value) (v : Value) → length all ≡ 0 → value ≡ Some v →
+    spelled (frames_of all) value (spots text at) ≡ read_value (frames_of all) value
 unfolding frames_of
 spells_whole text at [] value v none is = ap (λ o. spelled [] o (spots text at)) is ∙ spelled_whole v (spots text at) ∙ ap (read_value []) (sym is)
 spells_whole text at (x ∷ all) value v none is = absurd (omega arith)
 
-pub spells_end : (text : List ℕ) (at : ℕ) (frames : List OpenPart) (value : Option Value) → None ≡ found_from (next_at text at) (next_lexeme text at) → spelled frames value (spots text at) ≡ read_value frames value
+pub spells_end : (text : List ℕ) (at : ℕ) (frames : List OpenPart) (value : Option Value) → None ≡ found_from (next_at text at) (next_lexeme text at)
+    → spelled frames value (spots text at) ≡ read_value frames value
 spells_end text at frames value e = ap (spelled frames value) (spots_unfound text at e)
 
 -- the beginning

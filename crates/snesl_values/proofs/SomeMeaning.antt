@@ -8,7 +8,9 @@ use Rattle.snesl_data.specs.Integers.{is_integer, IsInteger}
 use Rattle.snesl_data.specs.Types.{Ty, int, bool, pair, vec, seq}
 use Rattle.snesl_data.specs.Values.{Value, an_int, a_bool, a_pair, a_vec, a_seq, Values, values_of, AllHaveType}
 use Rattle.snesl_values.specs.InputTokens.{Token, word, integer, sign, bad, next_at, next_token, HasTokens, none, IsNextToken}
-use Rattle.snesl_values.specs.Inputs.{greatest_input_length, InputDeclaration, Environment, equals, semicolon, comma, left_paren, right_paren, left_bracket, left_brace, StopsAt, SpellsEnvironment, InputAnswer, spells, refused_at, InputMeans, too_long, lawful, unlawful}
+use Rattle.snesl_values.specs.Inputs.{greatest_input_length, InputDeclaration, Environment, equals, semicolon, comma, left_paren, right_paren}
+use Rattle.snesl_values.specs.Inputs.{left_bracket, left_brace, StopsAt, SpellsEnvironment, InputAnswer, spells, refused_at, InputMeans, too_long}
+use Rattle.snesl_values.specs.Inputs.{lawful, unlawful}
 use Rattle.snesl_values.specs.Wants.{ToCome, one, a_value, items, further_items, Fills, entry_wants, further_wants, IsValueRead, AreRead, IsEntry, AllRead}
 use Rattle.snesl_values.proofs.InputScan.{Coming, nothing_comes, comes, coming}
 use Rattle.snesl_values.proofs.InputReads.{reads-append, first_next}
@@ -311,7 +313,8 @@ next_entry dialect text ds d left es at sofar later = by_semicolon (one_sign dia
     by_semicolon (stopped n s) = stopped_at n (stops_lawful dialect text ds n (sofar.stops n (s (entry_wants d (further_wants left)))))
 
 -- the inputs that are left
-more_entries : (dialect : Dialect) → (left : List InputDeclaration) (text : List ℕ) (ds : List InputDeclaration) (es : Environment) (at : ℕ) → SoFar dialect text ds left es at → WholeReading dialect text ds
+more_entries : (dialect : Dialect) → (left : List InputDeclaration) (text : List ℕ) (ds : List InputDeclaration) (es : Environment) (at : ℕ) →
+    SoFar dialect text ds left es at → WholeReading dialect text ds
 more_entries dialect [] text ds es at sofar = no_entries dialect text ds es at sofar
 more_entries dialect (d ∷ left) text ds es at sofar = next_entry dialect text ds d left es at sofar (λ news end further. more_entries dialect left text ds news end further)
 

@@ -22,7 +22,8 @@ pub data Next (text : List ℕ) (at : ℕ) : Option SizedToken → Type 0 where
   lexeme : (l : SizedToken) → Comes text at l → Next text at (Some l)
 
 -- the first of tokens that were read, and those after it
-pub uncons : {text : List ℕ} {from end : ℕ} {t : Token} {ts : List Token} → HasTokens text from (t ∷ ts) end → (len : ℕ) × (next_lexeme text from ≡ Some (t, len)) × HasTokens text (next_at text from + len) ts end
+pub uncons : {text : List ℕ} {from end : ℕ} {t : Token} {ts : List Token} → HasTokens text from (t ∷ ts) end → (len : ℕ)
+    × (next_lexeme text from ≡ Some (t, len)) × HasTokens text (next_at text from + len) ts end
 uncons (more t len e h) = (len, e, h)
 
 pub unread : {text : List ℕ} {from end : ℕ} → HasTokens text from [] end → from ≡ end
@@ -72,7 +73,8 @@ pub spots_some : (text : List ℕ) (at : ℕ) (l : SizedToken) → at ≤ length
 unfolding spots
 spots_some text at l within e = by_next (next_lexeme text at) (next_is text at within) e
   where
-    by_next : (o : Option SizedToken) → Next text at o → o ≡ Some l → spots_in (length text - at) text at ≡ (mark_of l.0, at) ∷ spots_in (length text - (next_at text at + l.1)) text (next_at text at + l.1)
+    by_next : (o : Option SizedToken) → Next text at o → o ≡ Some l → spots_in (length text - at) text at ≡ (mark_of l.0, at)
+        ∷ spots_in (length text - (next_at text at + l.1)) text (next_at text at + l.1)
     by_next None nothing f = absurd (cc)
     by_next (Some x) (lexeme _ there) f =
         let same : x ≡ l = cc in

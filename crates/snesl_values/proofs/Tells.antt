@@ -30,7 +30,8 @@ wide Two n h = h
 abbrev spells : List ℕ → ℕ → Reading → Value
 spells text at r = spelled r.0 r.1 (spots text at)
 
-then_read : {text : List ℕ} {from end : ℕ} {t : Token} {ts : List Token} (frames : List OpenPart) (value : Option Value) (r : Reading) (w : Read text from t ts end) → after_token value frames (mark_of t) ≡ r
+then_read : {text : List ℕ} {from end : ℕ} {t : Token} {ts : List Token} (frames : List OpenPart) (value : Option Value) (r : Reading)
+    (w : Read text from t ts end) → after_token value frames (mark_of t) ≡ r
     → spells text from (frames, value) ≡ spells text (next_at text from + w.len) r
 then_read {text = text} {from = from} frames value r w e = ap (spelled frames value) w.spot ∙ ap (λ (r : Reading). spelled r.0 r.1 (spots text (next_at text from + w.len))) e
 
@@ -73,7 +74,8 @@ mutual
       ∙ ap (λ all. spells text end (frames, Some (a_seq all))) (values_again vs)
   value_read dialect v t typed frames inside r = absurd typed
 
-  items_read : {text : List ℕ} (dialect : Dialect) (b : Bracket) (closer : Token) → mark_of closer ≡ Close b → (vs : Values) (t : Ty) → AllHaveType dialect vs t → (frames : List OpenPart) {from end : ℕ} → from ≤ length text → HasTokens text from (items_tokens vs ++ closer ∷ []) end
+  items_read : {text : List ℕ} (dialect : Dialect) (b : Bracket) (closer : Token) → mark_of closer ≡ Close b → (vs : Values) (t : Ty) →
+      AllHaveType dialect vs t → (frames : List OpenPart) {from end : ℕ} → from ≤ length text → HasTokens text from (items_tokens vs ++ closer ∷ []) end
       → spells text from (in_items b [] ∷ frames, None) ≡ spells text end (frames, Some (bracket_value b (list_of vs)))
   items_read {text = text} dialect b closer e no_values t typed frames inside r =
       let w = read inside r in
@@ -84,15 +86,19 @@ mutual
       value_read dialect v t typed.0 (in_items b [] ∷ frames) inside first.1
       ∙ further_read dialect b closer e vs t typed.1 [] v frames (ends_inside (value_tokens v) inside first.1) first.2
 
-  further_read : {text : List ℕ} (dialect : Dialect) (b : Bracket) (closer : Token) → mark_of closer ≡ Close b → (vs : Values) (t : Ty) → AllHaveType dialect vs t → (before : List Value) (last : Value) (frames : List OpenPart) {from end : ℕ} → from ≤ length text
-      → HasTokens text from (further_tokens vs ++ closer ∷ []) end → spells text from (in_items b before ∷ frames, Some last) ≡ spells text end (frames, Some (bracket_value b (before ++ last ∷ list_of vs)))
+  further_read : {text : List ℕ} (dialect : Dialect) (b : Bracket) (closer : Token) → mark_of closer ≡ Close b → (vs : Values) (t : Ty) →
+      AllHaveType dialect vs t → (before : List Value) (last : Value) (frames : List OpenPart) {from end : ℕ} → from ≤ length text
+      → HasTokens text from (further_tokens vs ++ closer ∷ []) end → spells text from (in_items b before ∷ frames, Some last)
+      ≡ spells text end (frames, Some (bracket_value b (before ++ last ∷ list_of vs)))
   further_read {text = text} dialect b closer e no_values t typed before last frames inside r =
       let w = read inside r in
       then_read (in_items b before ∷ frames) (Some last) (frames, Some (bracket_value b (before ++ last ∷ []))) w (ap (after_token (Some last) (in_items b before ∷ frames)) e)
       ∙ ap (λ at. spells text at (frames, Some (bracket_value b (before ++ last ∷ [])))) (unread w.rest)
   further_read {text = text} dialect b closer e (more_values v vs) t typed before last frames {from = from} {end = end} inside r =
       let parting = read inside r in
-      let first = reads-split (value_tokens v) (further_tokens vs ++ closer ∷ []) (subst (λ ts. HasTokens text (next_at text from + parting.len) ts end) (append_assoc (value_tokens v) (further_tokens vs) (closer ∷ [])) parting.rest) in
+      let first = reads-split (value_tokens v) (further_tokens vs ++ closer ∷ [])
+      (subst (λ ts. HasTokens text (next_at text from + parting.len) ts end) (append_assoc (value_tokens v) (further_tokens vs) (closer ∷ []))
+      parting.rest) in
       then_read (in_items b before ∷ frames) (Some last) (in_items b (before ++ last ∷ []) ∷ frames, None) parting refl
       ∙ value_read dialect v t typed.0 (in_items b (before ++ last ∷ []) ∷ frames) parting.inside first.1
       ∙ further_read dialect b closer e vs t typed.1 (before ++ last ∷ []) v frames (ends_inside (value_tokens v) parting.inside first.1) first.2
@@ -102,6 +108,7 @@ read_on : (v : Value) (rest : List Spot) → spelled [] (Some v) rest ≡ v
 read_on v [] = refl
 read_on v (x ∷ rest) = read_on v rest
 
-pub value_at-tells : (dialect : Dialect) (text : List ℕ) (t : Ty) (from end : ℕ) (v : Value) → HasType dialect v t → from ≤ length text → HasTokens text from (value_tokens v) end → value_at text from ≡ v
+pub value_at-tells : (dialect : Dialect) (text : List ℕ) (t : Ty) (from end : ℕ) (v : Value) → HasType dialect v t → from ≤ length text →
+    HasTokens text from (value_tokens v) end → value_at text from ≡ v
 unfolding value_at
 value_at-tells dialect text t from end v typed inside r = value_read dialect v t typed [] inside r ∙ read_on v (spots text end)

@@ -63,7 +63,8 @@ bears_with {kinds = kinds} {bound = bound} {context = context} names name w s fi
 -- moved names
 
 -- of the names after an entry
-behind : {kinds : List Kind} {bound : Bound} {names : Names} {context : Context} (entry : List ℕ × Wires) → Bears kinds (entry ∷ bound) names context → Bears kinds bound (without entry.0 names) context
+behind : {kinds : List Kind} {bound : Bound} {names : Names} {context : Context} (entry : List ℕ × Wires) → Bears kinds (entry ∷ bound) names context
+    → Bears kinds bound (without entry.0 names) context
 behind {kinds = kinds} {bound = bound} {names = names} entry h = record {
   fits = λ bytes t among is.
       subst (Fits kinds t) (wires_after bytes entry bound (stay_other bytes entry.0 names among)) (h.fits bytes t (stay_among bytes entry.0 names among) is);
@@ -83,7 +84,8 @@ joined {kinds = kinds} {bound = bound} {context = context} names name w s here f
     by_test bytes t among is false e = h.fits bytes t (others_stay bytes name names e among) is
 
 module _ (flag : ℕ) (move : Wires → ℕ → Making Wires) (context : Context)
-    (moves : (kinds : List Kind) (w : Wires) (bytes : List ℕ) (t : Ty) → Stream kinds flag BoolKind → found bytes context ≡ Some (open_to t) → Fits kinds t w → Makes kinds t (move w (length kinds))) where
+    (moves : (kinds : List Kind) (w : Wires) (bytes : List ℕ) (t : Ty) → Stream kinds flag BoolKind → found bytes context ≡ Some (open_to t) →
+    Fits kinds t w → Makes kinds t (move w (length kinds))) where
   -- where wires of the types of names are moved so, the names stand for streams of these types
   pub all_moved_made : (names : Names) (bound : Bound) (kinds : List Kind) → AreOpen names context → Stream kinds flag BoolKind → Bears kinds bound names context
       → IsMade kinds (all_moved move names bound (length kinds)) (λ on given. Bears on given names context)

@@ -70,7 +70,8 @@ module _ (dialect : Dialect) (at : ℕ) where
       (stepped_made item (more_reads (stream_fits hu tt) (more_reads (stream_fits hv tt) no_reads)) refl))
   binary_made _ _ _ t e hu hv = absurd (cc)
 
-  pub prefix_made : {kinds : List Kind} {u : Wires} (operator : Prefix) (s t : Ty) → prefix_result operator s ≡ Some t → Fits kinds s u → Makes kinds t (prefix_streams dialect at operator u (length kinds))
+  pub prefix_made : {kinds : List Kind} {u : Wires} (operator : Prefix) (s t : Ty) → prefix_result operator s ≡ Some t → Fits kinds s u →
+      Makes kinds t (prefix_streams dialect at operator u (length kinds))
   prefix_made Negate int t e h = typed e (stepped_made int (more_reads (stream_fits h tt) no_reads) refl)
   prefix_made Not bool t e h = typed e (stepped_made bool (more_reads (stream_fits h tt) no_reads) refl)
   prefix_made _ _ t e h = absurd (cc)
@@ -83,10 +84,12 @@ module _ (dialect : Dialect) (at : ℕ) where
       typed e (subst (λ s. Makes kinds (vec item) (stepped at (tab s) (numbers_of u) (vec s) (length kinds))) (sym (fits_type (items_fit h))) (stepped_made (vec item) (numbers_read h) refl))
   tab_made item t false is e h = absurd (cc)
 
-  pub call_made : {kinds : List Kind} {u : Wires} (function : Builtin) (s t : Ty) → result_of function (s ∷ []) ≡ Some t → Fits kinds s u → Makes kinds t (call_streams dialect at function (u ∷ []) (length kinds))
+  pub call_made : {kinds : List Kind} {u : Wires} (function : Builtin) (s t : Ty) → result_of function (s ∷ []) ≡ Some t → Fits kinds s u →
+      Makes kinds t (call_streams dialect at function (u ∷ []) (length kinds))
   call_made Iota int t e h = typed e (stepped_made (seq int) (more_reads (stream_fits h tt) no_reads) refl)
   call_made ScanAdd (seq int) t e h =
-      typed e (then_made _ (stepped_made int (more_reads (flags_fit h) (more_reads (stream_fits (items_fit h) tt) no_reads)) refl) (λ on more sums fs. done_made (fits_segments (stream_on more (flags_fit h)) fs)))
+      typed e (then_made _ (stepped_made int (more_reads (flags_fit h) (more_reads (stream_fits (items_fit h) tt) no_reads)) refl)
+      (λ on more sums fs. done_made (fits_segments (stream_on more (flags_fit h)) fs)))
   call_made ReduceAdd (seq int) t e h = typed e (stepped_made int (more_reads (flags_fit h) (more_reads (stream_fits (items_fit h) tt) no_reads)) refl)
   call_made ReduceMax (seq int) t e h = typed e (stepped_made int (more_reads (flags_fit h) (more_reads (stream_fits (items_fit h) tt) no_reads)) refl)
   call_made ReduceAnd (seq bool) t e h = typed e (stepped_made bool (more_reads (flags_fit h) (more_reads (stream_fits (items_fit h) tt) no_reads)) refl)

@@ -27,13 +27,15 @@ module _ (context : Context) where
       then_made _ (g on bound control (bears_on more (bears_right names others bears)) (stream_on more units)) (λ last more' v fv.
       made last u v (fits_on more' fu) fv))
 
-  pub let_made : (names others : Names) (name : List ℕ) (s t : Ty) (value body : Bound → ℕ → ℕ → Making Wires) → AlwaysMakes value names context s → AlwaysMakes body others (bound_to name s ∷ context) t
+  pub let_made : (names others : Names) (name : List ℕ) (s t : Ty) (value body : Bound → ℕ → ℕ → Making Wires) → AlwaysMakes value names context s →
+      AlwaysMakes body others (bound_to name s ∷ context) t
       → AlwaysMakes (λ bound control next. and_then (value bound control next) (λ u k. body ((name, u) ∷ bound) control k)) (names ++ without name others) context t
   let_made names others name s t value body h g kinds bound control bears units =
       then_made _ (h kinds bound control (bears_left names (without name others) bears) units) (λ on more u fu.
       g on ((name, u) ∷ bound) control (bears_with others name u s fu (bears_on more (bears_right names (without name others) bears))) (stream_on more units))
 
-  pub choice_made : (dialect : Dialect) (at : ℕ) (t : Ty) (conditions names others : Names) (condition positive negative : Bound → ℕ → ℕ → Making Wires) → AreOpen names context → AreOpen others context
+  pub choice_made : (dialect : Dialect) (at : ℕ) (t : Ty) (conditions names others : Names)
+      (condition positive negative : Bound → ℕ → ℕ → Making Wires) → AreOpen names context → AreOpen others context
       → AlwaysMakes condition conditions context bool → AlwaysMakes positive names context t → AlwaysMakes negative others context t
       → AlwaysMakes (λ bound control next.
       and_then (condition bound control next) (λ d k.
@@ -46,6 +48,7 @@ module _ (context : Context) where
       then_made _ (c kinds bound control (bears_left conditions (names ++ others) bears) units) (λ on more d fd.
       then_made _ (filtered_made at context names t positive usable h on bound (stream_of d) (bears_on more (bears_left names others branches)) (stream_fits fd tt)) (λ on' more' u fu.
       then_made _ (prefix_made dialect at Not bool bool refl (fits_on more' fd)) (λ on'' more'' e fe.
-      then_made _ (filtered_made at context others t negative usable' g on'' bound (stream_of e) (bears_on (further (further more more') more'') (bears_right names others branches)) (stream_fits fe tt)) (λ on''' more''' v fv.
+      then_made _ (filtered_made at context others t negative usable' g on'' bound (stream_of e)
+      (bears_on (further (further more more') more'') (bears_right names others branches)) (stream_fits fe tt)) (λ on''' more''' v fv.
       then_made _ (appended_made at u v (fits_on (further more'' more''') fu) fv) (λ last _ w fw.
       tested_made (more_reads (flags_fit fw) no_reads) refl (items_fit fw))))))

@@ -9,7 +9,9 @@ use Rattle.snesl_tree.specs.declared.span.Span.{Span}
 use Rattle.snesl_tree.specs.Spelling.{spelling}
 use Rattle.snesl_tree.specs.Tree.{Tree, Trees, both, Binders, binder}
 use Rattle.snesl_types.specs.Contexts.{Context, names_context, inside, Signature, Signatures, function_named}
-use Rattle.snesl_types.specs.Typing.{Types, has_type, Gives, integer_type, truth_type, name_type, binary_type, prefix_type, call_type, apply_type, group_type, pair_type, binding_type, choice_type, literal_type, filter_type, each_type, AllTypes, no_types, more_types, BindersType, no_binders, more_binders, no_condition, condition_type, AllAre}
+use Rattle.snesl_types.specs.Typing.{Types, has_type, Gives, integer_type, truth_type, name_type, binary_type, prefix_type, call_type, apply_type}
+use Rattle.snesl_types.specs.Typing.{group_type, pair_type, binding_type, choice_type, literal_type, filter_type, each_type, AllTypes, no_types}
+use Rattle.snesl_types.specs.Typing.{more_types, BindersType, no_binders, more_binders, no_condition, condition_type, AllAre}
 use Rattle.flow_messages.specs.declared.message.Kind.{Kind}
 use Rattle.flow_messages.specs.declared.message.Kind.TheVariants.{Unit as UnitKind, Bool as BoolKind}
 use Rattle.snesl_translation.specs.Wires.{Wires, two, segments, stream_of, Bound}
@@ -37,7 +39,8 @@ among_one : (bytes : List ℕ) → is_among bytes (bytes ∷ []) ≡ true
 among_one bytes = ap (λ b. b || false) ((bytes_eq-Decides bytes bytes).1 refl)
 
 -- where there is a binder, the first source has flags
-first_flagged : {dialect : Dialect} {text : List ℕ} {functions : Signatures} {context : Context} {earlier all : List InputDeclaration} {place : Span} {source : Tree} {others : Binders} {kinds : List Kind} {us : Sources}
+first_flagged : {dialect : Dialect} {text : List ℕ} {functions : Signatures} {context : Context} {earlier all : List InputDeclaration} {place : Span}
+    {source : Tree} {others : Binders} {kinds : List Kind} {us : Sources}
     (h : BindersType dialect text functions context earlier (binder place source others) all) → SourcesFit kinds us (binder_items h).0 → Stream kinds (first_flags us) BoolKind
 first_flagged (more_binders h new rest) (more_sources fit fits) = flags_fit fit
 
@@ -57,7 +60,9 @@ module _ (dialect : Dialect) (text : List ℕ) (functions : Signatures) (bodies 
     form_made truth_type = λ kinds bound control bears units. stepped_made bool (more_reads units no_reads) refl
     form_made (name_type {place = place} {t = t} is) = λ kinds bound control bears units. done_made (bears.fits (spelling text place) t (among_one (spelling text place)) is)
     form_made (binary_type {context = context} {at = at} {operator = operator} {left = left} {right = right} {t = s} {u = r} {v = t} h g is) =
-        two_made context (free text left) (free text right) s r t (tr dialect text bodies left) (tr dialect text bodies right) (λ u v k. binary_streams dialect at operator u v k) (typed_made h) (typed_made g) (λ kinds u v fu fv. binary_made dialect at operator s r t is fu fv)
+        two_made context (free text left) (free text right) s r t (tr dialect text bodies left) (tr dialect text bodies right)
+        (λ u v k. binary_streams dialect at operator u v k) (typed_made h) (typed_made g)
+        (λ kinds u v fu fv. binary_made dialect at operator s r t is fu fv)
     form_made (prefix_type {at = at} {operator = operator} {t = s} {u = t} h is) = λ kinds bound control bears units.
         then_made _ (typed_made h kinds bound control bears units) (λ on more u fu. prefix_made dialect at operator s t is fu)
     form_made (call_type {at = at} {function = function} {ts = ts} {t = t} h is) = λ kinds bound control bears units.
@@ -66,16 +71,19 @@ module _ (dialect : Dialect) (text : List ℕ) (functions : Signatures) (bodies 
         then_made _ (all_made h kinds bound control bears units) (λ on more us fits. calls on place.at (spelling text place) signature us control is fits (stream_on more units))
     form_made (group_type h) = typed_made h
     form_made (pair_type {context = context} {first = first} {second = second} {t = s} {u = t} h g) =
-        two_made context (free text first) (free text second) s t (pair s t) (tr dialect text bodies first) (tr dialect text bodies second) (λ u v k. done (two u v) k) (typed_made h) (typed_made g) (λ kinds u v fu fv. done_made (fits_two fu fv))
+        two_made context (free text first) (free text second) s t (pair s t) (tr dialect text bodies first) (tr dialect text bodies second)
+        (λ u v k. done (two u v) k) (typed_made h) (typed_made g) (λ kinds u v fu fv. done_made (fits_two fu fv))
     form_made (binding_type {context = context} {place = place} {value = value} {body = body} {t = s} {u = t} h g) =
         let_made context (free text value) (free text body) (spelling text place) s t (tr dialect text bodies value) (tr dialect text bodies body) (typed_made h) (typed_made g)
     form_made (choice_type {context = context} {at = at} {condition = condition} {positive = positive} {negative = negative} {t = t} h g k) =
-        choice_made context dialect at t (free text condition) (free text positive) (free text negative) (tr dialect text bodies condition) (tr dialect text bodies positive) (tr dialect text bodies negative)
+        choice_made context dialect at t (free text condition) (free text positive) (free text negative) (tr dialect text bodies condition)
+        (tr dialect text bodies positive) (tr dialect text bodies negative)
         (free_are_open g) (free_are_open k) (typed_made h) (typed_made g) (typed_made k)
     form_made (literal_type {at = at} h same) = items_made at h same
     form_made (filter_type {context = context} {at = at} {item = item} {condition = condition} {t = t} h g) = λ kinds bound control bears units.
         then_made _ (typed_made g kinds bound control (bears_left (free text condition) (free text item) bears) units) (λ on more d fd.
-        filtered_made at context (free text item) t (tr dialect text bodies item) (free_are_open h) (typed_made h) on bound (stream_of d) (bears_on more (bears_right (free text condition) (free text item) bears)) (stream_fits fd tt))
+        filtered_made at context (free text item) t (tr dialect text bodies item) (free_are_open h) (typed_made h) on bound (stream_of d)
+        (bears_on more (bears_right (free text condition) (free text item) bears)) (stream_fits fd tt))
     form_made (each_type {context = context} {at = at} {body = body} {place = place} {source = source} {others = others} {t = t} hb no_condition h) =
         let p = binder_items hb in
         let binders = binder place source others in
@@ -93,12 +101,15 @@ module _ (dialect : Dialect) (text : List ℕ) (functions : Signatures) (bodies 
         let inner : TreeMakes within body t = subst (λ l. TreeMakes (names_context l ++ inside context) body t) p.1 (typed_made h) in
         let usable : AreOpen (free text body) within = subst (λ l. AreOpen (free text body) (names_context l ++ inside context)) p.1 (free_are_open h) in
         comprehension_made at context p.0 (free_of_sources text binders) (without_binders text binders names) names (seq t) (tr_binders dialect text bodies binders)
-        (λ f b c k. and_then (tr dialect text bodies condition b c k) (λ d k. and_then (filtered at (free text body) (tr dialect text bodies body) b (stream_of d) k) (λ w k. concatenated at (segments f w) k)))
-        (subst (λ l. AreOpen names (names_context l ++ inside context)) p.1 (both_open (free text condition) (free text body) (names_context items ++ inside context) (free_are_open hc) (free_are_open h)))
+        (λ f b c k. and_then (tr dialect text bodies condition b c k)
+        (λ d k. and_then (filtered at (free text body) (tr dialect text bodies body) b (stream_of d) k) (λ w k. concatenated at (segments f w) k)))
+        (subst (λ l. AreOpen names (names_context l ++ inside context)) p.1
+        (both_open (free text condition) (free text body) (names_context items ++ inside context) (free_are_open hc) (free_are_open h)))
         (p.2 names) (sources_made hb) (λ kinds us fit. first_flagged hb fit)
         (λ f kinds b c there bears units.
         then_made _ (tests kinds b c (bears_left (free text condition) (free text body) bears) units) (λ on more d fd.
-        then_made _ (filtered_made at within (free text body) t (tr dialect text bodies body) usable inner on b (stream_of d) (bears_on more (bears_right (free text condition) (free text body) bears)) (stream_fits fd tt)) (λ last more' w fw.
+        then_made _ (filtered_made at within (free text body) t (tr dialect text bodies body) usable inner on b (stream_of d)
+        (bears_on more (bears_right (free text condition) (free text body) bears)) (stream_fits fd tt)) (λ last more' w fw.
         concatenated_made at (segments f w) (fits_segments (stream_on (further more more') there) fw))))
 
     items_made : {context : Context} {trees : Trees} {t : Ty} {ts : List Ty} (at : ℕ) → AllTypes dialect text functions context trees (t ∷ ts) → AllAre t ts → ItemsMake context at trees t

@@ -19,7 +19,8 @@ module _ (at : ℕ) where
   pub appended_made : {kinds : List Kind} {t : Ty} (u v : Wires) → Fits kinds (seq t) u → Fits kinds (seq t) v → Makes kinds (seq t) (appended at u v (length kinds))
   appended_made u v hu hv =
       then_made _ (stepped_made bool (more_reads (flags_fit hu) (more_reads (flags_fit hv) no_reads)) refl) (λ on more flags fh.
-      then_made _ (mixed_made at (stream_of u) (stream_of v) (item_wires u) (item_wires v) (stream_on more (flags_fit hu)) (stream_on more (flags_fit hv)) (fits_on more (items_fit hu)) (fits_on more (items_fit hv)))
+      then_made _ (mixed_made at (stream_of u) (stream_of v) (item_wires u) (item_wires v) (stream_on more (flags_fit hu))
+      (stream_on more (flags_fit hv)) (fits_on more (items_fit hu)) (fits_on more (items_fit hv)))
       (λ last more' w fw. done_made (fits_segments (stream_on more' (stream_fits fh tt)) fw)))
 
   pub concatenated_made : {kinds : List Kind} {t : Ty} (u : Wires) → Fits kinds (seq (seq t)) u → Makes kinds (seq t) (concatenated at u (length kinds))
@@ -40,11 +41,13 @@ module _ (at : ℕ) where
     pub filtered_made : (kinds : List Kind) (bound : Bound) (d : ℕ) → Bears kinds bound names context → Stream kinds d BoolKind → Makes kinds (seq t) (filtered at names item bound d (length kinds))
     filtered_made kinds bound d h truths =
         then_made _ (stepped_made bool (more_reads truths no_reads) refl) (λ on more flags ff.
-        then_made _ (all_moved_made d (kept at d) context (λ kinds w bytes s there is fit. kept_made at d w there fit) names bound on usable (stream_on more truths) (bears_on more h)) (λ on' more' inner fi.
+        then_made _ (all_moved_made d (kept at d) context (λ kinds w bytes s there is fit. kept_made at d w there fit) names bound on usable
+        (stream_on more truths) (bears_on more h)) (λ on' more' inner fi.
         then_made _ (units_made (stream_of flags) (stream_on more' (stream_fits ff tt))) (λ on'' more'' control fc.
         then_made _ (makes on'' inner (stream_of control) (bears_on more'' fi) fc) (λ last more''' w fw.
         done_made (fits_segments (stream_on (further (further more' more'') more''') (stream_fits ff tt)) fw)))))
 
-    pub single_made : (kinds : List Kind) (bound : Bound) (control : ℕ) → Bears kinds bound names context → Stream kinds control UnitKind → Makes kinds (seq t) (single at names item bound control (length kinds))
+    pub single_made : (kinds : List Kind) (bound : Bound) (control : ℕ) → Bears kinds bound names context → Stream kinds control UnitKind →
+        Makes kinds (seq t) (single at names item bound control (length kinds))
     single_made kinds bound control h units =
         then_made _ (stepped_made bool (more_reads units no_reads) refl) (λ on more d fd. filtered_made on bound (stream_of d) (bears_on more h) (stream_fits fd tt))

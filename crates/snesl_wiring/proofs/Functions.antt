@@ -10,7 +10,8 @@ use Rattle.snesl_tree.specs.declared.span.Span.{Span}
 use Rattle.snesl_tree.specs.Spelling.{spelling}
 use Rattle.snesl_tree.specs.Tree.{Tree, TypedName, TypeTree, DeclarationTree, declares_input, declares_function}
 use Rattle.snesl_types.specs.Contexts.{names_context, Signature, Signatures, function_named}
-use Rattle.snesl_types.specs.Programs.{Declared, with_inputs, with_function, typed_name, signature_of, NamesType, no_names, more_names, FunctionTypes, function_type, DeclarationsType, no_declarations, input_declared, function_declared}
+use Rattle.snesl_types.specs.Programs.{Declared, with_inputs, with_function, typed_name, signature_of, NamesType, no_names, more_names, FunctionTypes}
+use Rattle.snesl_types.specs.Programs.{function_type, DeclarationsType, no_declarations, input_declared, function_declared}
 use Rattle.flow_messages.specs.declared.message.Kind.{Kind}
 use Rattle.snesl_translation.specs.Wires.{Wires}
 use Rattle.snesl_translation.specs.FreeNames.{Names, without, free}
@@ -59,7 +60,8 @@ last_named bytes (first ∷ functions) signature called none same is = by_case (
     by_case true none is rest = absurd (cc)
     by_case false none is rest = rest none is
 
-earlier_named : (bytes : List ℕ) (functions : Signatures) (signature : Signature) → bytes_eq bytes signature.bytes ≡ false → function_named bytes (functions ++ (signature ∷ [])) ≡ function_named bytes functions
+earlier_named : (bytes : List ℕ) (functions : Signatures) (signature : Signature) → bytes_eq bytes signature.bytes ≡ false →
+    function_named bytes (functions ++ (signature ∷ [])) ≡ function_named bytes functions
 earlier_named bytes [] signature other = ap (λ b. if b then Some signature else None) other
 earlier_named bytes (first ∷ functions) signature other = ap (λ o. if bytes_eq bytes first.bytes then Some first else o) (earlier_named bytes functions signature other)
 

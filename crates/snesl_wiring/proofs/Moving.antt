@@ -7,7 +7,8 @@ use Rattle.flow_messages.specs.declared.message.Kind.TheVariants.{Bool as BoolKi
 use Rattle.flow_values.specs.laws.Kinds.{both_true}
 use Rattle.snesl_translation.specs.Wires.{Wires, wire, two, segments, stream_of, first_wires, second_wires, item_wires}
 use Rattle.snesl_translation.specs.Moving.{distributed, kept, mixed}
-use Rattle.snesl_wiring.proofs.Fitting.{Stream, stream_on, further, no_reads, more_reads, Fits, fits_wire, fits_two, fits_segments, fits_on, first_fits, second_fits, items_fit, flags_fit, stream_fits, single_kinds}
+use Rattle.snesl_wiring.proofs.Fitting.{Stream, stream_on, further, no_reads, more_reads, Fits, fits_wire, fits_two, fits_segments, fits_on}
+use Rattle.snesl_wiring.proofs.Fitting.{first_fits, second_fits, items_fit, flags_fit, stream_fits, single_kinds}
 use Rattle.snesl_wiring.proofs.Making.{Makes, done_made, then_made, stepped_made}
 
 module _ (at : ℕ) where
@@ -48,5 +49,6 @@ module _ (at : ℕ) where
       let two_more = further more more' in
       then_made _ (stepped_made bool (more_reads (stream_on two_more hg) (more_reads (stream_on two_more hq) no_reads)) refl) (λ on'' more'' inner' fj.
       let all_more = further two_more more'' in
-      then_made _ (mixed_made (stream_of inner) (stream_of inner') items (item_wires other) (stream_on more'' (stream_fits fi tt)) (stream_fits fj tt) (fits_on all_more hi) (fits_on all_more (items_fit k))) (λ last more''' u fu.
+      then_made _ (mixed_made (stream_of inner) (stream_of inner') items (item_wires other) (stream_on more'' (stream_fits fi tt)) (stream_fits fj tt)
+      (fits_on all_more hi) (fits_on all_more (items_fit k))) (λ last more''' u fu.
       done_made (fits_segments (stream_on (further (further more' more'') more''') (stream_fits fg tt)) fu)))))

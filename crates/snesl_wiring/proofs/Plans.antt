@@ -55,14 +55,16 @@ control_made at = record { wired = (refl, tt); counted = refl; holds = record { 
 no_calls_make : CallsMake [] no_bodies
 no_calls_make kinds at bytes signature us control is fits units = absurd (cc)
 
-plan_made : (text : List ℕ) (program : ProgramTree) (declared : Declared) (t : Ty) (cells : ℕ → List Cell) → ProgramTypes text program declared t → Makes [] t (program_plan text program declared.inputs cells)
+plan_made : (text : List ℕ) (program : ProgramTree) (declared : Declared) (t : Ty) (cells : ℕ → List Cell) → ProgramTypes text program declared t →
+    Makes [] t (program_plan text program declared.inputs cells)
 plan_made text program declared t cells typed =
     let at = first_offset program.expression in
     let bodies = bodies_of program.dialect text program.declarations in
     let calls : CallsMake declared.functions bodies = functions_made program.dialect text nothing_declared declared no_bodies program.declarations no_calls_make typed.declarations in
     then_made _ (control_made at) (λ on more control units.
     then_made _ (inputs_made at cells declared.inputs on) (λ on' more' bound bears.
-    then_made _ (typed_made program.dialect text declared.functions bodies calls typed.expression on' bound control (bears (free text program.expression)) (stream_on more' units)) (λ last more'' w fit.
+    then_made _ (typed_made program.dialect text declared.functions bodies calls typed.expression on' bound control
+    (bears (free text program.expression)) (stream_on more' units)) (λ last more'' w fit.
     tested_made (subst (λ s. Reads last (numbers_of w) (kinds_of s)) (sym (fits_type fit)) (numbers_read fit)) refl fit)))
 
 pub plans_are_wired : PlansAreWired

@@ -6,7 +6,8 @@ use Rattle.snesl_data.specs.declared.dialect.Dialect.TheVariants.{One}
 use Rattle.snesl_data.specs.Integers.{IsInteger}
 use Rattle.snesl_data.specs.Types.{Ty, int, seq}
 use Rattle.snesl_data.specs.Values.{Value, a_seq, no_values}
-use Rattle.snesl_values.specs.Inputs.{greatest_input_length, InputDeclaration, Environment, FitDeclarations, AreEntries, equals, comma, left_brace, right_brace, StopsAt, SpellsEnvironment, InputMeans, spells, refused_at, lawful, unlawful}
+use Rattle.snesl_values.specs.Inputs.{greatest_input_length, InputDeclaration, Environment, FitDeclarations, AreEntries, equals, comma, left_brace}
+use Rattle.snesl_values.specs.Inputs.{right_brace, StopsAt, SpellsEnvironment, InputMeans, spells, refused_at, lawful, unlawful}
 use Rattle.snesl_values.specs.InputTokens.{Token, SizedToken, word, integer, first, next_lexeme, next_at, next_token, HasTokens, none, more}
 use Rattle.snesl_values.specs.Wants.{ToCome, one, perhaps, a_value, items, further_items, further_wants}
 use Rattle.snesl_values.proofs.InputWants.{after_one, after_value, another_one, no_integer, seq_stops, first_item, later_item}

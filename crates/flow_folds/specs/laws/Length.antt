@@ -35,8 +35,21 @@ ended_any dialect n = go (is_integer dialect (pos n))
     go false = tt
 
 sound : (dialect : Dialect) (s : Count) → SoundAt length_machine dialect s (length_move dialect s)
-sound dialect (Counting zero) = (refl, (omega arith, refl, λ _. (tt, ended_any dialect zero), own_read length_in_range dialect (Counting zero) (length_counts dialect zero) (λ _. (tt, ended_fits dialect zero))))
-sound dialect (Counting (suc n)) = (omega arith, refl, λ _. (tt, ended_any dialect (suc n)), own_read length_in_range dialect (Counting (suc n)) (length_counts dialect (suc n)) (λ _. (tt, ended_fits dialect (suc n))))
+sound dialect (Counting zero) = (
+  refl,
+  (
+    omega arith,
+    refl,
+    λ _. (tt, ended_any dialect zero),
+    own_read length_in_range dialect (Counting zero) (length_counts dialect zero) (λ _. (tt, ended_fits dialect zero)),
+  ),
+)
+sound dialect (Counting (suc n)) = (
+  omega arith,
+  refl,
+  λ _. (tt, ended_any dialect (suc n)),
+  own_read length_in_range dialect (Counting (suc n)) (length_counts dialect (suc n)) (λ _. (tt, ended_fits dialect (suc n))),
+)
 sound dialect (Due number) = (omega arith, omega arith, λ _. (refl, tt), own_write length_in_range dialect (Due number) (Counting zero) (int number) (λ h. (h, tt)))
 
 -- a segment ends where its number lies in the range, and nowhere else
@@ -61,7 +74,9 @@ counted_back : (n more total top : ℕ) → suc (min n top) + more ≡ total →
 counted_back n more total top e most = omega arith
 
 -- a flag is read after n elements, in an instance or where one begins
-flag_read : (dialect : Dialect) (n k : ℕ) (i o : Columns) → At 0 i (λ x r. OnNext (state_after_item (length_counts dialect n) x) (λ s. Run length_machine dialect k s r o)) → Run length_machine dialect (suc k) (Counting n) i o
+flag_read : (dialect : Dialect) (n k : ℕ) (i o : Columns) →
+    At 0 i (λ x r. OnNext (state_after_item (length_counts dialect n) x) (λ s. Run length_machine dialect k s r o)) →
+    Run length_machine dialect (suc k) (Counting n) i o
 flag_read dialect zero k i o h = h
 flag_read dialect (suc n) k i o h = h
 
@@ -69,10 +84,15 @@ abbrev Does : Dialect → Count → List Cell → List Cell → Type 0
 Does dialect s f r = Runs length_machine dialect s (f ∷ []) (r ∷ [])
 
 -- the elements that are left of a segment, and then a run, are a run
-counts : (dialect : Dialect) (n more total : ℕ) → n + more ≡ total → IsInteger dialect (pos total) → {f r : List Cell} → Does dialect (Counting zero) f r → Does dialect (Counting n) (elements more (T ∷ f)) (int (pos total) ∷ r)
+counts : (dialect : Dialect) (n more total : ℕ) → n + more ≡ total → IsInteger dialect (pos total) → {f r : List Cell} →
+    Does dialect (Counting zero) f r → Does dialect (Counting n) (elements more (T ∷ f)) (int (pos total) ∷ r)
 counts dialect n zero total e fits {f = f} {r = r} run =
-    let same : total ≡ n = omega arith in
-    (suc (suc run.0), flag_read dialect n (suc run.0) ((T ∷ f) ∷ []) ((int (pos total) ∷ r) ∷ []) (ended_on dialect n (λ s. Run length_machine dialect (suc run.0) s (f ∷ []) ((int (pos total) ∷ r) ∷ [])) (subst (λ k. IsInteger dialect (pos k)) same fits) (ap (λ k. int (pos k)) same, run.1)))
+    let same : total ≡ n = omega arith in (
+      suc (suc run.0),
+      flag_read dialect n (suc run.0) ((T ∷ f) ∷ []) ((int (pos total) ∷ r) ∷ [])
+          (ended_on dialect n (λ s. Run length_machine dialect (suc run.0) s (f ∷ []) ((int (pos total) ∷ r) ∷ []))
+          (subst (λ k. IsInteger dialect (pos k)) same fits) (ap (λ k. int (pos k)) same, run.1)),
+    )
 counts dialect n (suc more) total e fits {f = f} {r = r} run =
     let g = counts dialect (one_element_more dialect n) more total (counted_on n more total (greatest_integer dialect) e (at_most dialect total fits)) fits run in
     (suc g.0, flag_read dialect n g.0 (elements (suc more) (T ∷ f) ∷ []) ((int (pos total) ∷ r) ∷ []) g.1)
@@ -107,7 +127,8 @@ before_end dialect (suc n) _ _ fits (due _ (start ns h)) = counted n zero (suc n
 ended : (dialect : Dialect) (n : ℕ) (i o : Columns) → OnNext (length_at_end dialect n) (λ next. Owes dialect next i o) → Owes dialect (Counting n) (push_column 0 T i) o
 ended dialect n i o h = let g = ended_from dialect n (λ next. Owes dialect next i o) h in before_end dialect n i o g.0 g.1
 
-earlier : (dialect : Dialect) (s : Count) (x : Cell) (i o : Columns) → Then (λ next. Owes dialect next i o) (length_move dialect s) x → Owes dialect s (reading (length_move dialect s) x i) (writing (length_move dialect s) o)
+earlier : (dialect : Dialect) (s : Count) (x : Cell) (i o : Columns) → Then (λ next. Owes dialect next i o) (length_move dialect s) x →
+    Owes dialect s (reading (length_move dialect s) x i) (writing (length_move dialect s) o)
 earlier dialect (Counting zero) (flag false) i o h = before_element dialect zero i o h
 earlier dialect (Counting zero) (flag true) i o h = ended dialect zero i o h
 earlier dialect (Counting (suc n)) (flag false) i o h = before_element dialect (suc n) i o h

@@ -41,7 +41,8 @@ first_sum dialect so_far x (y ∷ xs) sums e = go (ranged dialect (so_far +ℤ x
     go (Err kind) e = absurd (cc)
 
 -- the sums after the first are those after the next sum
-sums_behind : (dialect : Dialect) (so_far : ℤ) (sum : Result ℤ FaultKind) (xs sums : List ℤ) → and_then sum (λ next. and_sums so_far (scan_from dialect next xs)) ≡ Ok (so_far ∷ sums) → sums_after dialect sum xs ≡ Ok sums
+sums_behind : (dialect : Dialect) (so_far : ℤ) (sum : Result ℤ FaultKind) (xs sums : List ℤ) →
+    and_then sum (λ next. and_sums so_far (scan_from dialect next xs)) ≡ Ok (so_far ∷ sums) → sums_after dialect sum xs ≡ Ok sums
 sums_behind dialect so_far (Ok sum) xs sums e = go (scan_from dialect sum xs) e
   where
     go : (others : Result (List ℤ) FaultKind) → and_sums so_far others ≡ Ok (so_far ∷ sums) → others ≡ Ok sums
@@ -50,7 +51,8 @@ sums_behind dialect so_far (Ok sum) xs sums e = go (scan_from dialect sum xs) e
 sums_behind dialect so_far (Err kind) xs sums e = absurd (cc)
 
 -- and with the first in front
-sums_before : (dialect : Dialect) (so_far : ℤ) (sum : Result ℤ FaultKind) (xs sums : List ℤ) → sums_after dialect sum xs ≡ Ok sums → and_then sum (λ next. and_sums so_far (scan_from dialect next xs)) ≡ Ok (so_far ∷ sums)
+sums_before : (dialect : Dialect) (so_far : ℤ) (sum : Result ℤ FaultKind) (xs sums : List ℤ) → sums_after dialect sum xs ≡ Ok sums →
+    and_then sum (λ next. and_sums so_far (scan_from dialect next xs)) ≡ Ok (so_far ∷ sums)
 sums_before dialect so_far (Ok sum) xs sums e = ap (and_sums so_far) e
 sums_before dialect so_far (Err kind) xs sums e = absurd (cc)
 
@@ -71,14 +73,24 @@ zero_sum Two = refl
 
 -- the table keeps to its laws
 sound : (dialect : Dialect) (s : Stage) → SoundAt scan_add_machine dialect s (scan_add_move dialect s)
-sound dialect Start = (refl, (omega arith, refl, λ _. (tt, tt), own_read scan_add_in_range dialect Start (on_flag (Ok (Element (pos 0) (pos 0))) (Ok Start)) (λ _. ((zero_integer dialect, zero_integer dialect), tt))))
+sound dialect Start = (
+  refl,
+  (
+    omega arith,
+    refl,
+    λ _. (tt, tt),
+    own_read scan_add_in_range dialect Start (on_flag (Ok (Element (pos 0) (pos 0))) (Ok Start))
+        (λ _. ((zero_integer dialect, zero_integer dialect), tt)),
+  ),
+)
 sound dialect (Flag before last) = (omega arith, refl, λ _. (tt, tt), own_read scan_add_in_range dialect (Flag before last) (on_flag (Ok (Element before last)) (Ok Start)) (λ h. (h, tt)))
 sound dialect (Element before last) =
     let sum = ranged_integer dialect (before +ℤ last) in (
       omega arith,
       refl,
       λ _ n. after (λ _. Unit {0}) (IsInteger dialect) (ranged dialect (before +ℤ last)) n sum (λ _ _. tt),
-      own_read scan_add_in_range dialect (Element before last) (on_int (after_sum (ranged dialect (before +ℤ last)))) (λ _ n h. after (scan_add_in_range dialect) (IsInteger dialect) (ranged dialect (before +ℤ last)) n sum (λ _ g. (g, h))),
+      own_read scan_add_in_range dialect (Element before last) (on_int (after_sum (ranged dialect (before +ℤ last))))
+          (λ _ n h. after (scan_add_in_range dialect) (IsInteger dialect) (ranged dialect (before +ℤ last)) n sum (λ _ g. (g, h))),
     )
 sound dialect (Write before last) = (omega arith, omega arith, λ _. (refl, tt), own_write scan_add_in_range dialect (Write before last) (Flag before last) (int before) (λ h. (h.0, h)))
 
@@ -88,14 +100,18 @@ Does dialect s f a r = Runs scan_add_machine dialect s (f ∷ a ∷ []) (r ∷ [
 
 -- at a flag within a segment, these elements that are left, and then what comes after the segment, are a run
 abbrev FlagRuns : Dialect → List Cell → List Cell → List Cell → List ℤ → Type 0
-FlagRuns dialect f a r xs = (before last : ℤ) (sums : List ℤ) → scan_from dialect before (last ∷ xs) ≡ Ok (before ∷ sums) → Does dialect (Flag before last) (elements (length xs) (T ∷ f)) (map int xs ++ a) (map int sums ++ r)
+FlagRuns dialect f a r xs = (before last : ℤ) (sums : List ℤ) → scan_from dialect before (last ∷ xs) ≡ Ok (before ∷ sums) →
+    Does dialect (Flag before last) (elements (length xs) (T ∷ f)) (map int xs ++ a) (map int sums ++ r)
 
 -- so they are with an element before them
-element_runs : (dialect : Dialect) (x : ℤ) (xs : List ℤ) (f a r : List Cell) → FlagRuns dialect f a r xs → (before last : ℤ) (sums : List ℤ) → sums_after dialect (ranged dialect (before +ℤ last)) (x ∷ xs) ≡ Ok sums →
+element_runs : (dialect : Dialect) (x : ℤ) (xs : List ℤ) (f a r : List Cell) → FlagRuns dialect f a r xs → (before last : ℤ) (sums : List ℤ) →
+    sums_after dialect (ranged dialect (before +ℤ last)) (x ∷ xs) ≡ Ok sums →
     Does dialect (Element before last) (elements (length xs) (T ∷ f)) (int x ∷ (map int xs ++ a)) (map int sums ++ r)
 element_runs dialect x xs f a r others before last sums e = let k = go (ranged dialect (before +ℤ last)) e in (suc k.0, k.1)
   where
-    go : (sum : Result ℤ FaultKind) → sums_after dialect sum (x ∷ xs) ≡ Ok sums → (n : ℕ) × OnNext (after_sum sum x) (λ s. Run scan_add_machine dialect n s (elements (length xs) (T ∷ f) ∷ (map int xs ++ a) ∷ []) ((map int sums ++ r) ∷ []))
+    go : (sum : Result ℤ FaultKind) → sums_after dialect sum (x ∷ xs) ≡ Ok sums → (n : ℕ)
+        × OnNext (after_sum sum x)
+        (λ s. Run scan_add_machine dialect n s (elements (length xs) (T ∷ f) ∷ (map int xs ++ a) ∷ []) ((map int sums ++ r) ∷ []))
     go (Ok sum) e =
         let first = first_sum dialect sum x xs sums e in
         let k = others sum x first.0 (e ∙ ap Ok first.1) in
@@ -104,7 +120,9 @@ element_runs dialect x xs f a r others before last sums e = let k = go (ranged d
 
 flag_runs : (dialect : Dialect) (xs : List ℤ) (f a r : List Cell) → Does dialect Start f a r → FlagRuns dialect f a r xs
 flag_runs dialect [] f a r run = λ before last sums e. let none : [] ≡ sums = cc in subst (λ l. Does dialect (Flag before last) (T ∷ f) a (map int l ++ r)) none (suc run.0, run.1)
-flag_runs dialect (x ∷ xs) f a r run = λ before last sums e. let k = element_runs dialect x xs f a r (flag_runs dialect xs f a r run) before last sums (sums_behind dialect before (ranged dialect (before +ℤ last)) (x ∷ xs) sums e) in (suc k.0, k.1)
+flag_runs dialect (x ∷ xs) f a r run = λ before last sums e. let k =
+    element_runs dialect x xs f a r (flag_runs dialect xs f a r run) before last sums
+    (sums_behind dialect before (ranged dialect (before +ℤ last)) (x ∷ xs) sums e) in (suc k.0, k.1)
 
 -- the flags, the integers and the sums of these groups
 abbrev flags_of : (dialect : Dialect) → List (Scanned dialect) → List Cell
@@ -124,7 +142,9 @@ runs dialect (([], sums, e) ∷ groups) =
     let run = runs dialect groups in
     subst (λ l. Does dialect Start (T ∷ flags_of dialect groups) (integers_of dialect groups) (map int l ++ sums_of dialect groups)) none (suc run.0, run.1)
 runs dialect ((x ∷ xs, sums, e) ∷ groups) =
-    let k = element_runs dialect x xs (flags_of dialect groups) (integers_of dialect groups) (sums_of dialect groups) (flag_runs dialect xs (flags_of dialect groups) (integers_of dialect groups) (sums_of dialect groups) (runs dialect groups)) (pos 0) (pos 0) sums (ap (λ z. sums_after dialect z (x ∷ xs)) (zero_sum dialect) ∙ e) in
+    let k = element_runs dialect x xs (flags_of dialect groups) (integers_of dialect groups) (sums_of dialect groups)
+    (flag_runs dialect xs (flags_of dialect groups) (integers_of dialect groups) (sums_of dialect groups) (runs dialect groups)) (pos 0) (pos 0)
+    sums (ap (λ z. sums_after dialect z (x ∷ xs)) (zero_sum dialect) ∙ e) in
     (suc k.0, k.1)
 
 -- what a run reads and writes
@@ -133,19 +153,24 @@ data Owes (dialect : Dialect) : Stage → Columns → Columns → Type 0 where
   flagged : (before last : ℤ) (xs sums : List ℤ) → scan_from dialect before (last ∷ xs) ≡ Ok (before ∷ sums) → (groups : List (Scanned dialect)) →
       Owes dialect (Flag before last) (elements (length xs) (T ∷ flags_of dialect groups) ∷ (map int xs ++ integers_of dialect groups) ∷ []) ((map int sums ++ sums_of dialect groups) ∷ [])
   element : (before last x : ℤ) (xs sums : List ℤ) → sums_after dialect (ranged dialect (before +ℤ last)) (x ∷ xs) ≡ Ok sums → (groups : List (Scanned dialect)) →
-      Owes dialect (Element before last) (elements (length xs) (T ∷ flags_of dialect groups) ∷ (int x ∷ (map int xs ++ integers_of dialect groups)) ∷ []) ((map int sums ++ sums_of dialect groups) ∷ [])
+      Owes dialect (Element before last)
+      (elements (length xs) (T ∷ flags_of dialect groups) ∷ (int x ∷ (map int xs ++ integers_of dialect groups)) ∷ [])
+      ((map int sums ++ sums_of dialect groups) ∷ [])
   written : (before last : ℤ) {i o : Columns} → Owes dialect (Flag before last) i o → Owes dialect (Write before last) i (push_column 0 (int before) o)
 
 -- an element, and what is owed after its sum
-one_more : (dialect : Dialect) (before last n : ℤ) (sum : Result ℤ FaultKind) → ranged dialect (before +ℤ last) ≡ sum → (i o : Columns) → OnNext (after_sum sum n) (λ next. Owes dialect next i o) → Owes dialect (Element before last) (push_column 1 (int n) i) o
+one_more : (dialect : Dialect) (before last n : ℤ) (sum : Result ℤ FaultKind) → ranged dialect (before +ℤ last) ≡ sum → (i o : Columns) →
+    OnNext (after_sum sum n) (λ next. Owes dialect next i o) → Owes dialect (Element before last) (push_column 1 (int n) i) o
 one_more dialect before last n (Ok sum) is _ _ (written _ _ (flagged _ _ xs sums e groups)) = element before last n xs (sum ∷ sums) (ap (λ z. sums_after dialect z (n ∷ xs)) is ∙ e) groups
 one_more dialect before last n (Err kind) is i o h = absurd h
 
 -- what the next state owes, and the step before it
-earlier : (dialect : Dialect) (s : Stage) (x : Cell) (i o : Columns) → Then (λ next. Owes dialect next i o) (scan_add_move dialect s) x → Owes dialect s (reading (scan_add_move dialect s) x i) (writing (scan_add_move dialect s) o)
+earlier : (dialect : Dialect) (s : Stage) (x : Cell) (i o : Columns) → Then (λ next. Owes dialect next i o) (scan_add_move dialect s) x →
+    Owes dialect s (reading (scan_add_move dialect s) x i) (writing (scan_add_move dialect s) o)
 earlier dialect Start (flag false) _ _ (element _ _ x xs sums e groups) = start ((x ∷ xs, sums, ap (λ z. sums_after dialect z (x ∷ xs)) (sym (zero_sum dialect)) ∙ e) ∷ groups)
 earlier dialect Start (flag true) _ _ (start groups) = start (([], [], refl) ∷ groups)
-earlier dialect (Flag before last) (flag false) _ _ (element _ _ x xs sums e groups) = flagged before last (x ∷ xs) sums (sums_before dialect before (ranged dialect (before +ℤ last)) (x ∷ xs) sums e) groups
+earlier dialect (Flag before last) (flag false) _ _ (element _ _ x xs sums e groups) =
+    flagged before last (x ∷ xs) sums (sums_before dialect before (ranged dialect (before +ℤ last)) (x ∷ xs) sums e) groups
 earlier dialect (Flag before last) (flag true) _ _ (start groups) = flagged before last [] [] refl groups
 earlier dialect (Element before last) (int n) i o h = one_more dialect before last n (ranged dialect (before +ℤ last)) refl i o h
 earlier dialect (Write before last) _ _ _ h = written before last h
@@ -162,5 +187,6 @@ scan_add_laws = record {
   sound = sound;
   begins_at_start = λ _. refl;
   starts_of_kind = λ _. tt;
-  rows = λ dialect. rows_from (scan_add_reads dialect) (scan_add_writes dialect) (Runs scan_add_machine dialect Start) (runs dialect) (λ i o r. whole (run_is scan_add_machine dialect (Owes dialect) (sound dialect) (start []) (earlier dialect) Start i o r)) 2 1;
+  rows = λ dialect. rows_from (scan_add_reads dialect) (scan_add_writes dialect) (Runs scan_add_machine dialect Start) (runs dialect)
+      (λ i o r. whole (run_is scan_add_machine dialect (Owes dialect) (sound dialect) (start []) (earlier dialect) Start i o r)) 2 1;
 }

@@ -28,16 +28,24 @@ sound dialect op Start = (
     omega arith,
     refl,
     λ _. operand_of_kind (binary_operand op) (λ a. Ok (Left a)) (binary_of_kind op) (λ a type. type),
-    own_read binary_in_range dialect Start (on_operand (binary_operand op) (λ a. Ok (Left a))) (λ _. operand_of_range dialect (binary_operand op) (λ a. Ok (Left a)) (binary_in_range dialect) (λ a h. h)),
+    own_read binary_in_range dialect Start (on_operand (binary_operand op) (λ a. Ok (Left a)))
+        (λ _. operand_of_range dialect (binary_operand op) (λ a. Ok (Left a)) (binary_in_range dialect) (λ a h. h)),
   ),
 )
 sound dialect op (Left a) = (
   omega arith,
   refl,
   λ _. operand_of_kind (binary_operand op) (binary_next dialect op a) (binary_of_kind op) (λ b _. value_of (binary_value dialect op a b) Value (binary_of_kind op) (binary_type dialect op a b)),
-  own_read binary_in_range dialect (Left a) (on_operand (binary_operand op) (binary_next dialect op a)) (λ h. operand_of_range dialect (binary_operand op) (binary_next dialect op a) (binary_in_range dialect) (λ b g. value_of (binary_value dialect op a b) Value (binary_in_range dialect) (binary_range dialect op a b h g))),
+  own_read binary_in_range dialect (Left a) (on_operand (binary_operand op) (binary_next dialect op a))
+      (λ h. operand_of_range dialect (binary_operand op) (binary_next dialect op a) (binary_in_range dialect)
+      (λ b g. value_of (binary_value dialect op a b) Value (binary_in_range dialect) (binary_range dialect op a b h g))),
 )
-sound dialect op (Value v) = (omega arith, omega arith, λ h. (is_of-cell v (binary_result op) h, tt), own_write binary_in_range dialect (Value v) Start (cell_of_scalar v) (λ h. (cell_in_range dialect v h, tt)))
+sound dialect op (Value v) = (
+  omega arith,
+  omega arith,
+  λ h. (is_of-cell v (binary_result op) h, tt),
+  own_write binary_in_range dialect (Value v) Start (cell_of_scalar v) (λ h. (cell_in_range dialect v h, tt)),
+)
 
 runs : (dialect : Dialect) (op : BinaryOperator) (xs : List (BinaryCase dialect op)) → Runs binary_machine (dialect, op) Start (binary_reads dialect op xs) (binary_writes dialect op xs)
 runs dialect op [] = (zero, (refl, refl))
@@ -45,24 +53,34 @@ runs dialect op (x ∷ xs) =
     let g = runs dialect op xs in
     let types = binary_operand_types dialect op x.0 x.1 x.2 x.3 in
     let right : Progress → Type 0 = λ s. Run binary_machine (dialect, op) (suc g.0) s (binary_reads dialect op xs) (binary_writes dialect op (x ∷ xs)) in
-    let left : Progress → Type 0 = λ s. Run binary_machine (dialect, op) (suc (suc g.0)) s (map (λ x. cell_of_scalar x.0) xs ∷ map (λ x. cell_of_scalar x.1) (x ∷ xs) ∷ []) (binary_writes dialect op (x ∷ xs)) in
+    let left : Progress → Type 0 =
+    λ s. Run binary_machine (dialect, op) (suc (suc g.0)) s (map (λ x. cell_of_scalar x.0) xs ∷ map (λ x. cell_of_scalar x.1) (x ∷ xs) ∷ [])
+    (binary_writes dialect op (x ∷ xs)) in
     let valued = operand_leads (binary_operand op) (binary_next dialect op x.0) x.1 right types.1 (value_leads (binary_value dialect op x.0 x.1) Value x.2 right x.3 (refl, g.1)) in
     (suc (suc (suc g.0)), operand_leads (binary_operand op) (λ a. Ok (Left a)) x.0 left types.0 valued)
 
 -- what a run reads and writes
 data Owes (dialect : Dialect) (op : BinaryOperator) : Progress → Columns → Columns → Type 0 where
   start : (xs : List (BinaryCase dialect op)) → Owes dialect op Start (binary_reads dialect op xs) (binary_writes dialect op xs)
-  left : (a b v : Scalar) → binary_value dialect op a b ≡ Ok v → (xs : List (BinaryCase dialect op)) → Owes dialect op (Left a) (push_column 1 (cell_of_scalar b) (binary_reads dialect op xs)) (push_column 0 (cell_of_scalar v) (binary_writes dialect op xs))
+  left : (a b v : Scalar) → binary_value dialect op a b ≡ Ok v → (xs : List (BinaryCase dialect op)) →
+      Owes dialect op (Left a) (push_column 1 (cell_of_scalar b) (binary_reads dialect op xs))
+      (push_column 0 (cell_of_scalar v) (binary_writes dialect op xs))
   due : (v : Scalar) {i o : Columns} → Owes dialect op Start i o → Owes dialect op (Value v) i (push_column 0 (cell_of_scalar v) o)
 
 begun : (dialect : Dialect) (op : BinaryOperator) (a : Scalar) (x : Cell) (i o : Columns) → x ≡ cell_of_scalar a → Owes dialect op (Left a) i o → Owes dialect op Start (push_column 0 x i) o
 begun dialect op a x _ _ is (left _ b v e xs) =
-    subst (λ x. Owes dialect op Start (push_column 0 x (push_column 1 (cell_of_scalar b) (binary_reads dialect op xs))) (binary_writes dialect op ((a, b, v, e) ∷ xs))) (sym is) (start ((a, b, v, e) ∷ xs))
+    subst (λ x. Owes dialect op Start (push_column 0 x (push_column 1 (cell_of_scalar b) (binary_reads dialect op xs)))
+    (binary_writes dialect op ((a, b, v, e) ∷ xs))) (sym is) (start ((a, b, v, e) ∷ xs))
 
-gone_on : (dialect : Dialect) (op : BinaryOperator) (a b v : Scalar) (x : Cell) (i o : Columns) → x ≡ cell_of_scalar b → binary_value dialect op a b ≡ Ok v → Owes dialect op (Value v) i o → Owes dialect op (Left a) (push_column 1 x i) o
-gone_on dialect op a b v x _ _ is e (due _ (start xs)) = subst (λ x. Owes dialect op (Left a) (push_column 1 x (binary_reads dialect op xs)) (push_column 0 (cell_of_scalar v) (binary_writes dialect op xs))) (sym is) (left a b v e xs)
+gone_on : (dialect : Dialect) (op : BinaryOperator) (a b v : Scalar) (x : Cell) (i o : Columns) → x ≡ cell_of_scalar b → binary_value dialect op a b
+    ≡ Ok v → Owes dialect op (Value v) i o → Owes dialect op (Left a) (push_column 1 x i) o
+gone_on dialect op a b v x _ _ is e (due _ (start xs)) =
+    subst (λ x. Owes dialect op (Left a) (push_column 1 x (binary_reads dialect op xs))
+    (push_column 0 (cell_of_scalar v) (binary_writes dialect op xs))) (sym is) (left a b v e xs)
 
-earlier : (dialect : Dialect) (op : BinaryOperator) (s : Progress) (x : Cell) (i o : Columns) → Then (λ next. Owes dialect op next i o) (binary_move dialect op s) x → Owes dialect op s (reading (binary_move dialect op s) x i) (writing (binary_move dialect op s) o)
+earlier : (dialect : Dialect) (op : BinaryOperator) (s : Progress) (x : Cell) (i o : Columns) →
+    Then (λ next. Owes dialect op next i o) (binary_move dialect op s) x →
+    Owes dialect op s (reading (binary_move dialect op s) x i) (writing (binary_move dialect op s) o)
 earlier dialect op Start x i o h = let g = operand_led (binary_operand op) (λ a. Ok (Left a)) x (λ next. Owes dialect op next i o) h in begun dialect op g.0 x i o g.1 g.2
 earlier dialect op (Left a) x i o h =
     let P : Progress → Type 0 = λ next. Owes dialect op next i o in
@@ -71,11 +89,14 @@ earlier dialect op (Left a) x i o h =
     gone_on dialect op a b.0 v.0 x i o b.1 v.1 v.2
 earlier dialect op (Value v) _ _ _ o = due v o
 
-whole : {dialect : Dialect} {op : BinaryOperator} {i o : Columns} → Owes dialect op Start i o → (xs : List (BinaryCase dialect op)) × (i ≡ binary_reads dialect op xs) × (o ≡ binary_writes dialect op xs)
+whole : {dialect : Dialect} {op : BinaryOperator} {i o : Columns} → Owes dialect op Start i o → (xs : List (BinaryCase dialect op))
+    × (i ≡ binary_reads dialect op xs) × (o ≡ binary_writes dialect op xs)
 whole (start xs) = (xs, refl, refl)
 
 rows : (dialect : Dialect) (op : BinaryOperator) (i o : Lists Cell) → BinaryRow dialect op i o ↔ Runs binary_machine (dialect, op) Start (columns 2 i) (columns 1 o)
-rows dialect op i o = rows_from (binary_reads dialect op) (binary_writes dialect op) (Runs binary_machine (dialect, op) Start) (runs dialect op) (λ i o r. whole (run_is binary_machine (dialect, op) (Owes dialect op) (sound dialect op) (start []) (earlier dialect op) Start i o r)) 2 1 i o
+rows dialect op i o =
+    rows_from (binary_reads dialect op) (binary_writes dialect op) (Runs binary_machine (dialect, op) Start) (runs dialect op)
+    (λ i o r. whole (run_is binary_machine (dialect, op) (Owes dialect op) (sound dialect op) (start []) (earlier dialect op) Start i o r)) 2 1 i o
 
 pub binary_laws : MachineLaws binary_machine
 binary_laws = record {

@@ -38,5 +38,6 @@ const_laws = record {
   sound = sound;
   begins_at_start = λ _. refl;
   starts_of_kind = λ _. tt;
-  rows = λ k i o. rows_from const_reads (const_writes k) (Runs const_machine k false) (runs k) (λ i o r. whole (run_is const_machine k (Owes k) (sound k) (start zero) (earlier k) false i o r)) 1 1 i o;
+  rows = λ k i o. rows_from const_reads (const_writes k) (Runs const_machine k false) (runs k)
+      (λ i o r. whole (run_is const_machine k (Owes k) (sound k) (start zero) (earlier k) false i o r)) 1 1 i o;
 }

@@ -58,23 +58,33 @@ same_nothing zero = refl
 same_nothing (suc n) = ap (λ c. [] ∷ c) (same_nothing n)
 
 -- the writes that are left, and then a run, are a run
-copies : (p : ForkPorts) (x : Cell) (left done : ℕ) → done + left ≡ p.others → (a r : List Cell) → Runs fork_machine p idle (a ∷ []) (same p.others r) → Runs fork_machine p (holding x left) (a ∷ []) (fan x r done left)
+copies : (p : ForkPorts) (x : Cell) (left done : ℕ) → done + left ≡ p.others → (a r : List Cell) → Runs fork_machine p idle (a ∷ []) (same p.others r)
+    → Runs fork_machine p (holding x left) (a ∷ []) (fan x r done left)
 copies p x zero done e a r run =
     let here : done ≡ p.others = omega arith in
     let port : done ≡ p.others - 0 = omega arith in
-    let back : Run fork_machine p run.0 idle (a ∷ []) (same done r) = subst (λ n. Run fork_machine p run.0 idle (a ∷ []) (same n r)) (sym here) run.1 in
-    (suc run.0, subst (λ q. At q (fan x r done zero) (λ y c. (y ≡ x) × Run fork_machine p run.0 idle (a ∷ []) c)) port (at_last x r done (λ y c. (y ≡ x) × Run fork_machine p run.0 idle (a ∷ []) c) (refl, back)))
+    let back : Run fork_machine p run.0 idle (a ∷ []) (same done r) = subst (λ n. Run fork_machine p run.0 idle (a ∷ []) (same n r)) (sym here) run.1 in (
+      suc run.0,
+      subst (λ q. At q (fan x r done zero) (λ y c. (y ≡ x) × Run fork_machine p run.0 idle (a ∷ []) c)) port
+          (at_last x r done (λ y c. (y ≡ x) × Run fork_machine p run.0 idle (a ∷ []) c) (refl, back)),
+    )
 copies p x (suc left) done e a r run =
     let k = copies p x left (suc done) (omega arith) a r run in
-    let port : done ≡ p.others - suc left = omega arith in
-    (suc k.0, subst (λ q. At q (fan x r done (suc left)) (λ y c. (y ≡ x) × Run fork_machine p k.0 (holding x left) (a ∷ []) c)) port (at_next x r done left (λ y c. (y ≡ x) × Run fork_machine p k.0 (holding x left) (a ∷ []) c) (refl, k.1)))
+    let port : done ≡ p.others - suc left = omega arith in (
+      suc k.0,
+      subst (λ q. At q (fan x r done (suc left)) (λ y c. (y ≡ x) × Run fork_machine p k.0 (holding x left) (a ∷ []) c)) port
+          (at_next x r done left (λ y c. (y ≡ x) × Run fork_machine p k.0 (holding x left) (a ∷ []) c) (refl, k.1)),
+    )
 
 -- the row is a run
 runs : (p : ForkPorts) (a : List Cell) → AllOf p.kind a → Runs fork_machine p idle (a ∷ []) (same p.others a)
 runs p [] h = (zero, (refl, same_nothing p.others))
 runs p (x ∷ a) h =
-    let k = copies p x p.others zero (omega arith) a a (runs p a h.1) in
-    (suc k.0, leads_on p.kind (λ x. Ok (holding x p.others)) x (λ s. Run fork_machine p k.0 s (a ∷ []) (same p.others (x ∷ a))) h.0 (subst (λ c. Run fork_machine p k.0 (holding x p.others) (a ∷ []) c) (fan_all x a p.others) k.1))
+    let k = copies p x p.others zero (omega arith) a a (runs p a h.1) in (
+      suc k.0,
+      leads_on p.kind (λ x. Ok (holding x p.others)) x (λ s. Run fork_machine p k.0 s (a ∷ []) (same p.others (x ∷ a))) h.0
+          (subst (λ c. Run fork_machine p k.0 (holding x p.others) (a ∷ []) c) (fan_all x a p.others) k.1),
+    )
 
 -- what a run reads and writes, where no more outputs are left than there are
 data Owes (p : ForkPorts) : ForkState → Columns → Columns → Type 0 where
@@ -96,17 +106,20 @@ begun p x _ _ is (held _ _ done a e h) =
 last_left : (p : ForkPorts) (x : Cell) (i o : Columns) → Owes p idle i o → Owes p (holding x zero) i (push_column (p.others - 0) x o)
 last_left p x _ _ (start a h) =
     let port : p.others ≡ p.others - 0 = omega arith in
-    subst (λ q. Owes p (holding x zero) (a ∷ []) (push_column q x (same p.others a))) port (subst (λ c. Owes p (holding x zero) (a ∷ []) c) (sym (pushed_last x a p.others)) (held x zero p.others a (omega arith) h))
+    subst (λ q. Owes p (holding x zero) (a ∷ []) (push_column q x (same p.others a))) port
+    (subst (λ c. Owes p (holding x zero) (a ∷ []) c) (sym (pushed_last x a p.others)) (held x zero p.others a (omega arith) h))
 
 -- a write that others follow
 next_left : (p : ForkPorts) (x : Cell) (left : ℕ) (i o : Columns) → suc left ≤ p.others → Owes p (holding x left) i o → Owes p (holding x (suc left)) i (push_column (p.others - suc left) x o)
 next_left p x left _ _ le (held _ _ zero a e h) = absurd (omega arith)
 next_left p x left _ _ le (held _ _ (suc done) a e h) =
     let port : done ≡ p.others - suc left = omega arith in
-    subst (λ q. Owes p (holding x (suc left)) (a ∷ []) (push_column q x (fan x a (suc done) left))) port (subst (λ c. Owes p (holding x (suc left)) (a ∷ []) c) (sym (pushed_next x a done left)) (held x (suc left) done a (omega arith) h))
+    subst (λ q. Owes p (holding x (suc left)) (a ∷ []) (push_column q x (fan x a (suc done) left))) port
+    (subst (λ c. Owes p (holding x (suc left)) (a ∷ []) c) (sym (pushed_next x a done left)) (held x (suc left) done a (omega arith) h))
 
 -- what the next state owes, and the step before it
-earlier : (p : ForkPorts) (s : ForkState) (x : Cell) (i o : Columns) → Then (λ next. Within p next → Owes p next i o) (fork_move p s) x → Within p s → Owes p s (reading (fork_move p s) x i) (writing (fork_move p s) o)
+earlier : (p : ForkPorts) (s : ForkState) (x : Cell) (i o : Columns) → Then (λ next. Within p next → Owes p next i o) (fork_move p s) x → Within p s →
+    Owes p s (reading (fork_move p s) x i) (writing (fork_move p s) o)
 earlier p idle x i o h w = let g = led_on p.kind (λ x. Ok (holding x p.others)) x (λ next. Within p next → Owes p next i o) h in begun p x i o g.0 (g.1 (omega arith))
 earlier p (holding y zero) x i o h w = last_left p y i o (h tt)
 earlier p (holding y (suc left)) x i o h w = next_left p y left i o w (h (omega arith))

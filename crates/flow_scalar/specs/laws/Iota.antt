@@ -97,11 +97,14 @@ flag_runs zero number end e {a = a} {f = f} {r = r} run = go (int_lt number end)
     go : (b : Bool) → int_lt number end ≡ b → (n : ℕ) × RunOf iota_machine tt n (flag_move number end b) (a ∷ []) ((T ∷ f) ∷ r ∷ [])
     go false lt = (suc run.0, (refl, run.1))
     go true lt = let more = left_below number end lt in absurd (omega arith)
-flag_runs (suc left) number end e {a = a} {f = f} {r = r} run = go (int_lt number end) refl (λ lt. flag_runs left (number_after number end) end (let more = left_below number end lt in omega arith) run)
+flag_runs (suc left) number end e {a = a} {f = f} {r = r} run =
+    go (int_lt number end) refl (λ lt. flag_runs left (number_after number end) end (let more = left_below number end lt in omega arith) run)
   where
     go : (b : Bool) → int_lt number end ≡ b → (int_lt number end ≡ true → Does (Flag (number_after number end) end) a (elements left (T ∷ f)) (numbers_from (number_after number end) left ++ r)) →
         (n : ℕ) × RunOf iota_machine tt n (flag_move number end b) (a ∷ []) ((F ∷ elements left (T ∷ f)) ∷ (int number ∷ (numbers_from (number +ℤ pos 1) left ++ r)) ∷ [])
-    go true lt others = let k = subst (λ z. Does (Flag (number_after number end) end) a (elements left (T ∷ f)) (numbers_from z left ++ r)) (after_is number end lt) (others lt) in (suc (suc k.0), (refl, (refl, k.1)))
+    go true lt others = let k =
+        subst (λ z. Does (Flag (number_after number end) end) a (elements left (T ∷ f)) (numbers_from z left ++ r)) (after_is number end lt) (others lt)
+        in (suc (suc k.0), (refl, (refl, k.1)))
     go false lt others = let none = left_at_end number end lt in absurd (omega arith)
 
 -- the row is a run
@@ -112,13 +115,15 @@ runs (n ∷ ns) = let k = flag_runs n (pos 0) (pos n) (omega arith) (runs ns) in
 -- what a run reads and writes
 data Owes : Iota → Columns → Columns → Type 0 where
   start : (ns : List ℕ) → Owes Between (iota_reads ns) (iota_writes ns)
-  flagged : (number end : ℤ) (left : ℕ) → count_left number end ≡ left → (a f r : List Cell) → Owes Between (a ∷ []) (f ∷ r ∷ []) → Owes (Flag number end) (a ∷ []) (elements left (T ∷ f) ∷ (numbers_from number left ++ r) ∷ [])
+  flagged : (number end : ℤ) (left : ℕ) → count_left number end ≡ left → (a f r : List Cell) → Owes Between (a ∷ []) (f ∷ r ∷ []) →
+      Owes (Flag number end) (a ∷ []) (elements left (T ∷ f) ∷ (numbers_from number left ++ r) ∷ [])
   numbered : (number end : ℤ) {i o : Columns} → Owes (Flag (number_after number end) end) i o → Owes (Number number end) i (push_column 1 (int number) o)
 
 -- what a flag and then the next state owe
 after_flag : (number end : ℤ) (b : Bool) → int_lt number end ≡ b → (i o : Columns) → Owes (cond b (Number number end) Between) i o → Owes (Flag number end) i (push_column 0 (flag (not b)) o)
 after_flag number end true lt _ _ (numbered _ _ (flagged _ _ left is a f r o)) =
-    subst (λ z. Owes (Flag number end) (a ∷ []) ((F ∷ elements left (T ∷ f)) ∷ (int number ∷ (numbers_from z left ++ r)) ∷ [])) (sym (after_is number end lt)) (flagged number end (suc left) (left_below number end lt ∙ ap suc is) a f r o)
+    subst (λ z. Owes (Flag number end) (a ∷ []) ((F ∷ elements left (T ∷ f)) ∷ (int number ∷ (numbers_from z left ++ r)) ∷ []))
+    (sym (after_is number end lt)) (flagged number end (suc left) (left_below number end lt ∙ ap suc is) a f r o)
 after_flag number end false lt _ _ (start ns) = flagged number end zero (left_at_end number end lt) (map (λ n. int (pos n)) ns) (flags ns) (concatenation (map numbers_below ns)) (start ns)
 
 -- what the next state owes, and the step before it

@@ -25,11 +25,19 @@ sound dialect op None = (
   (
     omega arith,
     refl,
-    λ _. operand_of_kind (unary_operand op) (unary_next dialect op) (unary_machine.of_kind (dialect, op)) (λ k _. value_of (unary_value dialect op k) Some (unary_machine.of_kind (dialect, op)) (unary_type dialect op k)),
-    own_read unary_in_range dialect None (on_operand (unary_operand op) (unary_next dialect op)) (λ _. operand_of_range dialect (unary_operand op) (unary_next dialect op) (unary_in_range dialect) (λ k _. value_of (unary_value dialect op k) Some (unary_in_range dialect) (unary_range dialect op k))),
+    λ _. operand_of_kind (unary_operand op) (unary_next dialect op) (unary_machine.of_kind (dialect, op))
+        (λ k _. value_of (unary_value dialect op k) Some (unary_machine.of_kind (dialect, op)) (unary_type dialect op k)),
+    own_read unary_in_range dialect None (on_operand (unary_operand op) (unary_next dialect op))
+        (λ _. operand_of_range dialect (unary_operand op) (unary_next dialect op) (unary_in_range dialect)
+        (λ k _. value_of (unary_value dialect op k) Some (unary_in_range dialect) (unary_range dialect op k))),
   ),
 )
-sound dialect op (Some v) = (omega arith, omega arith, λ h. (is_of-cell v (unary_operand op) h, tt), own_write unary_in_range dialect (Some v) None (cell_of_scalar v) (λ h. (cell_in_range dialect v h, tt)))
+sound dialect op (Some v) = (
+  omega arith,
+  omega arith,
+  λ h. (is_of-cell v (unary_operand op) h, tt),
+  own_write unary_in_range dialect (Some v) None (cell_of_scalar v) (λ h. (cell_in_range dialect v h, tt)),
+)
 
 runs : (dialect : Dialect) (op : UnaryOperator) (xs : List (UnaryCase dialect op)) → Runs unary_machine (dialect, op) None (unary_reads dialect op xs) (unary_writes dialect op xs)
 runs dialect op [] = (zero, (refl, refl))
@@ -43,10 +51,15 @@ data Owes (dialect : Dialect) (op : UnaryOperator) : Option Scalar → Columns �
   start : (xs : List (UnaryCase dialect op)) → Owes dialect op None (unary_reads dialect op xs) (unary_writes dialect op xs)
   due : (v : Scalar) {i o : Columns} → Owes dialect op None i o → Owes dialect op (Some v) i (push_column 0 (cell_of_scalar v) o)
 
-begun : (dialect : Dialect) (op : UnaryOperator) (k v : Scalar) (x : Cell) (i o : Columns) → x ≡ cell_of_scalar k → unary_value dialect op k ≡ Ok v → Owes dialect op (Some v) i o → Owes dialect op None (push_column 0 x i) o
-begun dialect op k v x _ _ is e (due _ (start xs)) = subst (λ x. Owes dialect op None (push_column 0 x (unary_reads dialect op xs)) (unary_writes dialect op ((k, v, e) ∷ xs))) (sym is) (start ((k, v, e) ∷ xs))
+begun : (dialect : Dialect) (op : UnaryOperator) (k v : Scalar) (x : Cell) (i o : Columns) → x ≡ cell_of_scalar k → unary_value dialect op k ≡ Ok v →
+    Owes dialect op (Some v) i o → Owes dialect op None (push_column 0 x i) o
+begun dialect op k v x _ _ is e (due _ (start xs)) =
+    subst (λ x. Owes dialect op None (push_column 0 x (unary_reads dialect op xs)) (unary_writes dialect op ((k, v, e) ∷ xs))) (sym is)
+    (start ((k, v, e) ∷ xs))
 
-earlier : (dialect : Dialect) (op : UnaryOperator) (s : Option Scalar) (x : Cell) (i o : Columns) → Then (λ next. Owes dialect op next i o) (unary_move dialect op s) x → Owes dialect op s (reading (unary_move dialect op s) x i) (writing (unary_move dialect op s) o)
+earlier : (dialect : Dialect) (op : UnaryOperator) (s : Option Scalar) (x : Cell) (i o : Columns) →
+    Then (λ next. Owes dialect op next i o) (unary_move dialect op s) x →
+    Owes dialect op s (reading (unary_move dialect op s) x i) (writing (unary_move dialect op s) o)
 earlier dialect op None x i o h =
     let P : Option Scalar → Type 0 = λ next. Owes dialect op next i o in
     let k = operand_led (unary_operand op) (unary_next dialect op) x P h in
@@ -58,7 +71,9 @@ whole : {dialect : Dialect} {op : UnaryOperator} {i o : Columns} → Owes dialec
 whole (start xs) = (xs, refl, refl)
 
 rows : (dialect : Dialect) (op : UnaryOperator) (i o : Lists Cell) → UnaryRow dialect op i o ↔ Runs unary_machine (dialect, op) None (columns 1 i) (columns 1 o)
-rows dialect op i o = rows_from (unary_reads dialect op) (unary_writes dialect op) (Runs unary_machine (dialect, op) None) (runs dialect op) (λ i o r. whole (run_is unary_machine (dialect, op) (Owes dialect op) (sound dialect op) (start []) (earlier dialect op) None i o r)) 1 1 i o
+rows dialect op i o =
+    rows_from (unary_reads dialect op) (unary_writes dialect op) (Runs unary_machine (dialect, op) None) (runs dialect op)
+    (λ i o r. whole (run_is unary_machine (dialect, op) (Owes dialect op) (sound dialect op) (start []) (earlier dialect op) None i o r)) 1 1 i o
 
 pub unary_laws : MachineLaws unary_machine
 unary_laws = record {

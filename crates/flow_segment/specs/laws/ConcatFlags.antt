@@ -38,8 +38,12 @@ runs (ms ∷ groups) = from_start concat_flags_machine tt (on_flag (Ok Inner) (O
 -- what a run reads and writes
 data Owes : ConcatFlagsStage → Columns → Columns → Type 0 where
   start : (groups : List (List ℕ)) → Owes Start (concat_flags_reads groups) (sum_flags (λ m. m) groups ∷ [])
-  outer : (ms : List ℕ) (groups : List (List ℕ)) → Owes Outer (elements (length ms) (T ∷ flags (lengths groups)) ∷ flags (ms ++ concatenation groups) ∷ []) (all_elements (λ m. m) ms (T ∷ sum_flags (λ m. m) groups) ∷ [])
-  inner : (m : ℕ) (ms : List ℕ) (groups : List (List ℕ)) → Owes Inner (elements (length ms) (T ∷ flags (lengths groups)) ∷ elements m (T ∷ flags (ms ++ concatenation groups)) ∷ []) (elements m (all_elements (λ m. m) ms (T ∷ sum_flags (λ m. m) groups)) ∷ [])
+  outer : (ms : List ℕ) (groups : List (List ℕ)) →
+      Owes Outer (elements (length ms) (T ∷ flags (lengths groups)) ∷ flags (ms ++ concatenation groups) ∷ [])
+      (all_elements (λ m. m) ms (T ∷ sum_flags (λ m. m) groups) ∷ [])
+  inner : (m : ℕ) (ms : List ℕ) (groups : List (List ℕ)) →
+      Owes Inner (elements (length ms) (T ∷ flags (lengths groups)) ∷ elements m (T ∷ flags (ms ++ concatenation groups)) ∷ [])
+      (elements m (all_elements (λ m. m) ms (T ∷ sum_flags (λ m. m) groups)) ∷ [])
   element : {i o : Columns} → Owes Inner i o → Owes Element i (push_column 0 F o)
   last : {i o : Columns} → Owes Start i o → Owes End i (push_column 0 T o)
 

@@ -31,14 +31,20 @@ Does k s f g a b r = Runs interleave_machine k s (f ∷ g ∷ a ∷ b ∷ []) (r
 right_runs : (k : Kind) (v : List Cell) {f g a b r : List Cell} → AllOf k v → Does k at_start f g a b r → Does k (at_flag Right) f (elements (length v) (T ∷ g)) a (v ++ b) (v ++ r)
 right_runs k [] h r = (suc r.0, r.1)
 right_runs k (x ∷ v) {f = f} {g = g} {a = a} {b = b} {r = r} h d =
-    let n = right_runs k v h.1 d in
-    (suc (suc (suc n.0)), leads_on k (λ x. Ok (at_copy Right x)) x (λ s. Run interleave_machine k (suc n.0) s (f ∷ elements (length v) (T ∷ g) ∷ a ∷ (v ++ b) ∷ []) ((x ∷ (v ++ r)) ∷ [])) h.0 (refl, n.1))
+    let n = right_runs k v h.1 d in (
+      suc (suc (suc n.0)),
+      leads_on k (λ x. Ok (at_copy Right x)) x
+          (λ s. Run interleave_machine k (suc n.0) s (f ∷ elements (length v) (T ∷ g) ∷ a ∷ (v ++ b) ∷ []) ((x ∷ (v ++ r)) ∷ [])) h.0 (refl, n.1),
+    )
 
 left_runs : (k : Kind) (u : List Cell) {f g a b r : List Cell} → AllOf k u → Does k (at_flag Right) f g a b r → Does k (at_flag Left) (elements (length u) (T ∷ f)) g (u ++ a) b (u ++ r)
 left_runs k [] h r = (suc r.0, r.1)
 left_runs k (x ∷ u) {f = f} {g = g} {a = a} {b = b} {r = r} h d =
-    let n = left_runs k u h.1 d in
-    (suc (suc (suc n.0)), leads_on k (λ x. Ok (at_copy Left x)) x (λ s. Run interleave_machine k (suc n.0) s (elements (length u) (T ∷ f) ∷ g ∷ (u ++ a) ∷ b ∷ []) ((x ∷ (u ++ r)) ∷ [])) h.0 (refl, n.1))
+    let n = left_runs k u h.1 d in (
+      suc (suc (suc n.0)),
+      leads_on k (λ x. Ok (at_copy Left x)) x
+          (λ s. Run interleave_machine k (suc n.0) s (elements (length u) (T ∷ f) ∷ g ∷ (u ++ a) ∷ b ∷ []) ((x ∷ (u ++ r)) ∷ [])) h.0 (refl, n.1),
+    )
 
 runs : (k : Kind) (xs : Sides Cell) → AllOfSides k xs → Runs interleave_machine k at_start (interleave_reads xs) (alternated xs ∷ [])
 runs k [] h = (zero, (refl, refl))
@@ -48,9 +54,13 @@ runs k ((u, v) ∷ xs) h = from_start interleave_machine k (flag_of Left) (left_
 data Owes (k : Kind) : InterleaveState → Columns → Columns → Type 0 where
   start : (xs : Sides Cell) → AllOfSides k xs → Owes k at_start (interleave_reads xs) (alternated xs ∷ [])
   right : (v : List Cell) (xs : Sides Cell) → AllOf k v → AllOfSides k xs →
-      Owes k (at_flag Right) (flags (lengths (lefts xs)) ∷ elements (length v) (T ∷ flags (lengths (rights xs))) ∷ concatenation (lefts xs) ∷ (v ++ concatenation (rights xs)) ∷ []) ((v ++ alternated xs) ∷ [])
+      Owes k (at_flag Right)
+      (flags (lengths (lefts xs)) ∷ elements (length v) (T ∷ flags (lengths (rights xs))) ∷ concatenation (lefts xs)
+      ∷ (v ++ concatenation (rights xs)) ∷ []) ((v ++ alternated xs) ∷ [])
   left : (u v : List Cell) (xs : Sides Cell) → AllOf k u → AllOf k v → AllOfSides k xs →
-      Owes k (at_flag Left) (elements (length u) (T ∷ flags (lengths (lefts xs))) ∷ elements (length v) (T ∷ flags (lengths (rights xs))) ∷ (u ++ concatenation (lefts xs)) ∷ (v ++ concatenation (rights xs)) ∷ []) ((u ++ (v ++ alternated xs)) ∷ [])
+      Owes k (at_flag Left)
+      (elements (length u) (T ∷ flags (lengths (lefts xs))) ∷ elements (length v) (T ∷ flags (lengths (rights xs)))
+      ∷ (u ++ concatenation (lefts xs)) ∷ (v ++ concatenation (rights xs)) ∷ []) ((u ++ (v ++ alternated xs)) ∷ [])
   left_item : (x : Cell) {i o : Columns} → is_of k x ≡ true → Owes k (at_flag Left) i o → Owes k (at_item Left) (push_column 2 x i) (push_column 0 x o)
   right_item : (x : Cell) {i o : Columns} → is_of k x ≡ true → Owes k (at_flag Right) i o → Owes k (at_item Right) (push_column 3 x i) (push_column 0 x o)
   copied : (side : Side) (x : Cell) {i o : Columns} → Owes k (at_flag side) i o → Owes k (at_copy side x) i (push_column 0 x o)
@@ -61,7 +71,8 @@ take_left k x _ _ is (copied _ _ o) = left_item x is o
 take_right : (k : Kind) (x : Cell) (i o : Columns) → is_of k x ≡ true → Owes k (at_copy Right x) i o → Owes k (at_item Right) (push_column 3 x i) o
 take_right k x _ _ is (copied _ _ o) = right_item x is o
 
-earlier : (k : Kind) (s : InterleaveState) (x : Cell) (i o : Columns) → Then (λ next. Owes k next i o) (interleave_move k s) x → Owes k s (reading (interleave_move k s) x i) (writing (interleave_move k s) o)
+earlier : (k : Kind) (s : InterleaveState) (x : Cell) (i o : Columns) → Then (λ next. Owes k next i o) (interleave_move k s) x →
+    Owes k s (reading (interleave_move k s) x i) (writing (interleave_move k s) o)
 earlier k at_start (flag false) _ _ (left_item x is (left u v xs hu hv h)) = start ((x ∷ u, v) ∷ xs) ((is, hu), hv, h)
 earlier k at_start (flag true) _ _ (right v xs hv h) = start (([], v) ∷ xs) (tt, hv, h)
 earlier k (at_flag Left) (flag false) _ _ (left_item x is (left u v xs hu hv h)) = left (x ∷ u) v xs (is, hu) hv h

@@ -46,15 +46,19 @@ left_runs (m ∷ us) ks ns r = let n = left_group_runs m (left_runs us ks ns r) 
 
 runs : (xs : Sides ℕ) → Runs interleave_groups_machine tt Start (interleave_groups_reads xs) (flags (alternated xs) ∷ [])
 runs [] = (zero, (refl, refl))
-runs ((us, vs) ∷ xs) = from_start interleave_groups_machine tt (on_flag (Ok LeftGroup) (Ok Right)) (left_runs us (concatenation (lefts xs)) (vs ++ alternated xs) (right_runs vs (concatenation (rights xs)) (alternated xs) (runs xs)))
+runs ((us, vs) ∷ xs) =
+    from_start interleave_groups_machine tt (on_flag (Ok LeftGroup) (Ok Right))
+    (left_runs us (concatenation (lefts xs)) (vs ++ alternated xs) (right_runs vs (concatenation (rights xs)) (alternated xs) (runs xs)))
 
 -- what a run reads and writes
 data Owes : InterleaveGroupsStage → Columns → Columns → Type 0 where
   start : (xs : Sides ℕ) → Owes Start (interleave_groups_reads xs) (flags (alternated xs) ∷ [])
   right : (vs : List ℕ) (xs : Sides ℕ) →
-      Owes Right (flags (lengths (lefts xs)) ∷ elements (length vs) (T ∷ flags (lengths (rights xs))) ∷ flags (concatenation (lefts xs)) ∷ flags (vs ++ concatenation (rights xs)) ∷ []) (flags (vs ++ alternated xs) ∷ [])
+      Owes Right (flags (lengths (lefts xs)) ∷ elements (length vs) (T ∷ flags (lengths (rights xs))) ∷ flags (concatenation (lefts xs))
+      ∷ flags (vs ++ concatenation (rights xs)) ∷ []) (flags (vs ++ alternated xs) ∷ [])
   left : (us vs : List ℕ) (xs : Sides ℕ) →
-      Owes Left (elements (length us) (T ∷ flags (lengths (lefts xs))) ∷ elements (length vs) (T ∷ flags (lengths (rights xs))) ∷ flags (us ++ concatenation (lefts xs)) ∷ flags (vs ++ concatenation (rights xs)) ∷ [])
+      Owes Left (elements (length us) (T ∷ flags (lengths (lefts xs))) ∷ elements (length vs) (T ∷ flags (lengths (rights xs)))
+      ∷ flags (us ++ concatenation (lefts xs)) ∷ flags (vs ++ concatenation (rights xs)) ∷ [])
       (flags (us ++ (vs ++ alternated xs)) ∷ [])
   right_group : (m : ℕ) {f g p q r : List Cell} → Owes Right (f ∷ g ∷ p ∷ q ∷ []) (r ∷ []) → Owes RightGroup (f ∷ g ∷ p ∷ elements m (T ∷ q) ∷ []) (elements m (T ∷ r) ∷ [])
   left_group : (m : ℕ) {f g p q r : List Cell} → Owes Left (f ∷ g ∷ p ∷ q ∷ []) (r ∷ []) → Owes LeftGroup (f ∷ g ∷ elements m (T ∷ p) ∷ q ∷ []) (elements m (T ∷ r) ∷ [])
@@ -63,7 +67,8 @@ data Owes : InterleaveGroupsStage → Columns → Columns → Type 0 where
   left_element : {i o : Columns} → Owes LeftGroup i o → Owes LeftElement i (push_column 0 F o)
   left_end : {i o : Columns} → Owes Left i o → Owes LeftEnd i (push_column 0 T o)
 
-earlier : (s : InterleaveGroupsStage) (x : Cell) (i o : Columns) → Then (λ next. Owes next i o) (interleave_groups_move s) x → Owes s (reading (interleave_groups_move s) x i) (writing (interleave_groups_move s) o)
+earlier : (s : InterleaveGroupsStage) (x : Cell) (i o : Columns) → Then (λ next. Owes next i o) (interleave_groups_move s) x →
+    Owes s (reading (interleave_groups_move s) x i) (writing (interleave_groups_move s) o)
 earlier Start (flag false) _ _ (left_group m (left us vs xs)) = start ((m ∷ us, vs) ∷ xs)
 earlier Start (flag true) _ _ (right vs xs) = start (([], vs) ∷ xs)
 earlier Left (flag false) _ _ (left_group m (left us vs xs)) = left (m ∷ us) vs xs
@@ -85,4 +90,5 @@ whole (start xs) = (xs, refl, refl)
 
 pub interleave_groups_laws : MachineLaws interleave_groups_machine
 interleave_groups_laws = flag_laws interleave_groups_table sound refl (
-    rows_from interleave_groups_reads (λ xs. flags (alternated xs) ∷ []) (Runs interleave_groups_machine tt Start) runs (λ i o r. whole (run_is interleave_groups_machine tt Owes sound (start []) earlier Start i o r)) 4 1)
+    rows_from interleave_groups_reads (λ xs. flags (alternated xs) ∷ []) (Runs interleave_groups_machine tt Start) runs
+    (λ i o r. whole (run_is interleave_groups_machine tt Owes sound (start []) earlier Start i o r)) 4 1)

@@ -88,5 +88,6 @@ whole (start groups) = (groups, sym (reads_are groups), refl)
 
 pub part_flags_laws : MachineLaws part_flags_machine
 part_flags_laws = flag_laws part_flags_table sound refl (
-    rows_from part_flags_reads part_flags_writes (Runs part_flags_machine tt Start) (λ groups. subst (λ c. Runs part_flags_machine tt Start c (part_flags_writes groups)) (sym (reads_are groups)) (runs groups)) (
+    rows_from part_flags_reads part_flags_writes (Runs part_flags_machine tt Start)
+    (λ groups. subst (λ c. Runs part_flags_machine tt Start c (part_flags_writes groups)) (sym (reads_are groups)) (runs groups)) (
     λ i o r. whole (run_is part_flags_machine tt Owes sound (start []) earlier Start i o r)) 3 2)

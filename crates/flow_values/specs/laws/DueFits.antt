@@ -120,7 +120,8 @@ module _ (dialect : Dialect) where
   second_in_range (a_vec vs) h = h
   second_in_range (a_seq vs) h = h
 
-  segment_in_range : (p : ℕ) (dues : Value → List DueCell) → ((v : Value) → InRange dialect v → DuesInRange dialect (dues v)) → (vs : Values) → AllInRange dialect vs → DuesInRange dialect (concatenation_by (element_dues p dues) (list_of vs) ++ (due p T ∷ []))
+  segment_in_range : (p : ℕ) (dues : Value → List DueCell) → ((v : Value) → InRange dialect v → DuesInRange dialect (dues v)) → (vs : Values) →
+      AllInRange dialect vs → DuesInRange dialect (concatenation_by (element_dues p dues) (list_of vs) ++ (due p T ∷ []))
   segment_in_range p dues each no_values h = (tt, tt)
   segment_in_range p dues each (more_values v vs) h =
       let others = concatenation_by (element_dues p dues) (list_of vs) in
@@ -132,7 +133,8 @@ module _ (dialect : Dialect) where
   value_in_range bool p v h = (cell_in_range v h, tt)
   value_in_range (vec item) p v h = (cell_in_range v h, tt)
   value_in_range (pair first second) p v h =
-      both_in_range (dues_of first p (first_of v)) (dues_of second (p + width first) (second_of v)) (value_in_range first p (first_of v) (first_in_range v h)) (value_in_range second (p + width first) (second_of v) (second_in_range v h))
+      both_in_range (dues_of first p (first_of v)) (dues_of second (p + width first) (second_of v))
+      (value_in_range first p (first_of v) (first_in_range v h)) (value_in_range second (p + width first) (second_of v) (second_in_range v h))
   value_in_range (seq item) p (a_vec vs) h = segment_in_range p (λ e. dues_of item (p + 1) e) (value_in_range item (p + 1)) vs h
   value_in_range (seq item) p (a_seq vs) h = segment_in_range p (λ e. dues_of item (p + 1) e) (value_in_range item (p + 1)) vs h
   value_in_range (seq item) p _ h = (tt, tt)

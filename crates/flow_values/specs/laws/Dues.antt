@@ -62,7 +62,9 @@ segment_items n p item lt each (e ∷ es) =
     let first = spread item (p + 1) e in
     let later = spread_all item (p + 1) es in
     let moves : first ⊕ (flags ⊕ later) ≡ flags ⊕ (first ⊕ later) =
-    sym (sides_assoc first flags later) ∙ ap (λ l. l ⊕ later) (sym (only_moves p (elements (length es) (T ∷ [])) first (spread_below item (p + 1) e p (omega arith)))) ∙ sides_assoc flags first later in
+    sym (sides_assoc first flags later)
+    ∙ ap (λ l. l ⊕ later) (sym (only_moves p (elements (length es) (T ∷ [])) first (spread_below item (p + 1) e p (omega arith))))
+    ∙ sides_assoc flags first later in
     ap (due_items_at n) (append_assoc (due p F ∷ one) others (due p T ∷ []))
     ∙ first_item n p F (one ++ (others ++ (due p T ∷ []))) lt
     ∙ ap (push p F) (items_append n one (others ++ (due p T ∷ [])) ∙ ap₂ (λ a b. a ⊕ b) (each e) (segment_items n p item lt each es) ∙ moves)

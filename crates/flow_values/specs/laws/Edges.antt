@@ -15,7 +15,9 @@ use Rattle.flow_values.specs.laws.Dues.{push_side}
 -- an item in front of a list is the first in its column
 pub at_pushed : (n p : ℕ) (x : Cell) (l : Lists Cell) (P : Cell → Columns → Type 0) → p < n → P x (columns n l) → At p (columns n (push p x l)) P
 at_pushed n p x l P lt h =
-    first_at n p (push p x l) P lt (First-from (push p x l p) x (l p) (λ y r. P y (columns n (with_port p r (push p x l)))) (at_port p (x ∷ l p) l) (subst (λ m. P x (columns n m)) (sym (take_away p x l)) h))
+    first_at n p (push p x l) P lt
+    (First-from (push p x l p) x (l p) (λ y r. P y (columns n (with_port p r (push p x l)))) (at_port p (x ∷ l p) l)
+    (subst (λ m. P x (columns n m)) (sym (take_away p x l)) h))
 
 -- an item in front of a column is in front of its list
 pub push_columns : (n p : ℕ) (x : Cell) (l : Lists Cell) → p < n → push_column p x (columns n l) ≡ columns n (push p x l)
@@ -29,7 +31,8 @@ push_columns n p x l lt = go p (columns n l) ∙ ap (λ r. with_column p (x ∷ 
 -- the first of the due items, in front of the others and of what comes then
 module _ (n : ℕ) (d : DueCell) (ds : List DueCell) (l : Lists Cell) (lt : output_of n d.port < n) where
   pub at_due : (P : Cell → Columns → Type 0) → P d.cell (columns n (due_items_at n ds ⊕ l)) → At (output_of n d.port) (columns n (due_items_at n (d ∷ ds) ⊕ l)) P
-  at_due P h = subst (λ m. At (output_of n d.port) (columns n m) P) (sym (push_side (output_of n d.port) d.cell (due_items_at n ds) l)) (at_pushed n (output_of n d.port) d.cell (due_items_at n ds ⊕ l) P lt h)
+  at_due P h = subst (λ m. At (output_of n d.port) (columns n m) P) (sym (push_side (output_of n d.port) d.cell (due_items_at n ds) l))
+      (at_pushed n (output_of n d.port) d.cell (due_items_at n ds ⊕ l) P lt h)
 
   pub push_due : push_column (output_of n d.port) d.cell (columns n (due_items_at n ds ⊕ l)) ≡ columns n (due_items_at n (d ∷ ds) ⊕ l)
   push_due = push_columns n (output_of n d.port) d.cell (due_items_at n ds ⊕ l) lt ∙ ap (columns n) (sym (push_side (output_of n d.port) d.cell (due_items_at n ds) l))

@@ -71,7 +71,8 @@ seq_all item p (v ∷ vs) =
     let later = flags (lengths (map elements_of vs)) in
     let others = concatenation (map elements_of vs) in
     ap₂ (λ a b. a ⊕ b) (ap (only_at p) (sym (elements-append (length es) later)) ∙ only_append p own later) (all_append item (p + 1) es others)
-    ∙ middle (only_at p own) (only_at p later) (spread_all item (p + 1) es) (spread_all item (p + 1) others) (only_moves p later (spread_all item (p + 1) es) (all_below item (p + 1) es p (omega arith)))
+    ∙ middle (only_at p own) (only_at p later) (spread_all item (p + 1) es) (spread_all item (p + 1) others)
+    (only_moves p later (spread_all item (p + 1) es) (all_below item (p + 1) es p (omega arith)))
     ∙ ap (λ l. spread (seq item) p v ⊕ l) (seq_all item p vs)
 
 -- the lists of values are what each puts on the edges

@@ -109,9 +109,16 @@ module _ (item : Ty) where
   one : (x : Picked item) (v i : List Cell) (es : List Value) → Does (writing []) v i (written [] es) → Does (writing []) (datum (a_vec x.vector) ∷ v) (int x.index ∷ i) (written [] (x.element ∷ es))
   one x v i es r =
       let k = writes (dues_of item 0 x.element) v i es r in
-      let there : OnNext (element_given item (Some x.element)) (λ s. Run index_machine item k.0 s (v ∷ i ∷ []) (written [] (x.element ∷ es))) = subst (λ c. Run index_machine item k.0 (writing (dues_of item 0 x.element)) (v ∷ i ∷ []) c) (laid x.element es) k.1 in
-      let held_run : Run index_machine item (suc k.0) (held x.vector) (v ∷ (int x.index ∷ i) ∷ []) (written [] (x.element ∷ es)) = subst (λ e. OnNext (element_given item e) (λ s. Run index_machine item k.0 s (v ∷ i ∷ []) (written [] (x.element ∷ es)))) (sym x.found) there in
-      (suc (suc k.0), subst (λ b. OnNext (cond b (Ok (held x.vector)) (Err Shape)) (λ s. Run index_machine item (suc k.0) s (v ∷ (int x.index ∷ i) ∷ []) (written [] (x.element ∷ es)))) (sym x.of_type) held_run)
+      let there : OnNext (element_given item (Some x.element)) (λ s. Run index_machine item k.0 s (v ∷ i ∷ []) (written [] (x.element ∷ es))) =
+      subst (λ c. Run index_machine item k.0 (writing (dues_of item 0 x.element)) (v ∷ i ∷ []) c) (laid x.element es) k.1 in
+      let held_run : Run index_machine item (suc k.0) (held x.vector) (v ∷ (int x.index ∷ i) ∷ []) (written [] (x.element ∷ es)) =
+      subst (λ e. OnNext (element_given item e) (λ s. Run index_machine item k.0 s (v ∷ i ∷ []) (written [] (x.element ∷ es)))) (sym x.found) there
+      in (
+        suc (suc k.0),
+        subst
+            (λ b. OnNext (cond b (Ok (held x.vector)) (Err Shape))
+            (λ s. Run index_machine item (suc k.0) s (v ∷ (int x.index ∷ i) ∷ []) (written [] (x.element ∷ es)))) (sym x.of_type) held_run,
+      )
 
   runs : (xs : List (Picked item)) → Does (writing []) (vectors xs) (indices xs) (written [] (elements xs))
   runs [] = (0, (refl, none_at (width item)))
@@ -141,7 +148,9 @@ module _ (item : Ty) where
   earlier (writing []) (int n) _ _ h = absurd h
   earlier (held vs) (int n) i o h = found_at vs n i o (element_at vs n) refl h
   earlier (held vs) _ _ _ h = absurd h
-  earlier (writing (d ∷ ds)) x _ _ (owed _ xs) = subst (λ c. Owes (writing (d ∷ ds)) (vectors xs ∷ indices xs ∷ []) c) (sym (push_due (width item) d ds (spread_all item 0 (elements xs)) (in_type item d.port))) (owed (d ∷ ds) xs)
+  earlier (writing (d ∷ ds)) x _ _ (owed _ xs) =
+      subst (λ c. Owes (writing (d ∷ ds)) (vectors xs ∷ indices xs ∷ []) c)
+      (sym (push_due (width item) d ds (spread_all item 0 (elements xs)) (in_type item d.port))) (owed (d ∷ ds) xs)
 
   row_of : (v i : List Cell) (o : Lists Cell) (c : Columns) → c ≡ columns (width item) o → Owes (writing []) (v ∷ i ∷ []) c → IndexRow item v i o
   row_of _ _ o _ e (owed _ xs) = record { all = xs; v_is = refl; i_is = refl; edges_are = (on_edges item (width item) o (elements xs)).1 (sym e) }

@@ -84,13 +84,15 @@ module _ (first second : Ty) (p : ℕ) (a b : Value) where
         let is : k ≡ width first + j = omega arith in
         let there : p + k ≡ (p + width first) + j = omega arith in
         let none : left k ≡ [] = spread_above first p a (p + k) (omega arith) in
-        let same : kind_at (kinds_of first ++ kinds_of second) k ≡ kind_at (kinds_of second) j = ap (kind_at (kinds_of first ++ kinds_of second)) is ∙ kind_right (kinds_of first) (kinds_of second) j in
+        let same : kind_at (kinds_of first ++ kinds_of second) k ≡ kind_at (kinds_of second) j = ap (kind_at (kinds_of first ++ kinds_of second)) is
+        ∙ kind_right (kinds_of first) (kinds_of second) j in
         let others : AllOf (kind_at (kinds_of second) j) (right k) = subst (λ q. AllOf (kind_at (kinds_of second) j) (spread second (p + width first) b q)) (sym there) (of_second j) in
         subst (λ kind. AllOf kind (left k ++ right k)) (sym same) (all_append (kind_at (kinds_of second) j) (left k) (right k) (none_of (kind_at (kinds_of second) j) (left k) none) others)
   ]
 
 -- of all that are of the kind, all that they put there is
-values_kinds : (item : Ty) (p q : ℕ) (kind : Kind) → ((v : Value) → is_a item v ≡ true → AllOf kind (spread item p v q)) → (vs : Values) → all_are item vs ≡ true → AllOf kind (spread_all item p (list_of vs) q)
+values_kinds : (item : Ty) (p q : ℕ) (kind : Kind) → ((v : Value) → is_a item v ≡ true → AllOf kind (spread item p v q)) → (vs : Values) →
+    all_are item vs ≡ true → AllOf kind (spread_all item p (list_of vs) q)
 values_kinds item p q kind h no_values are = tt
 values_kinds item p q kind h (more_values v vs) are =
     let both = both_true (is_a item v) (all_are item vs) are in
@@ -102,13 +104,18 @@ seq_kinds item p vs of_items zero =
     let here : p + 0 ≡ p = omega arith in
     let flags = elements (length (list_of vs)) (T ∷ []) in
     let none = all_below item (p + 1) (list_of vs) p (omega arith) in
-    subst (λ q. AllOf BoolKind (spread (seq item) p (a_seq vs) q)) (sym here) (all_append BoolKind (only_at p flags p) (spread_all item (p + 1) (list_of vs) p) (subst (λ l. AllOf BoolKind l) (sym (only_here p flags)) (all_flags (length (list_of vs)))) (none_of BoolKind (spread_all item (p + 1) (list_of vs) p) none))
+    subst (λ q. AllOf BoolKind (spread (seq item) p (a_seq vs) q)) (sym here)
+    (all_append BoolKind (only_at p flags p) (spread_all item (p + 1) (list_of vs) p)
+    (subst (λ l. AllOf BoolKind l) (sym (only_here p flags)) (all_flags (length (list_of vs))))
+    (none_of BoolKind (spread_all item (p + 1) (list_of vs) p) none))
 seq_kinds item p vs of_items (suc k) =
     let n : p + suc k ≢ p = omega arith in
     let there : p + suc k ≡ (p + 1) + k = omega arith in
     let kind = kind_at (kinds_of item) k in
     let flags = elements (length (list_of vs)) (T ∷ []) in
-    all_append kind (only_at p flags (p + suc k)) (spread_all item (p + 1) (list_of vs) (p + suc k)) (none_of kind (only_at p flags (p + suc k)) (only_there p (p + suc k) flags n)) (subst (λ q. AllOf kind (spread_all item (p + 1) (list_of vs) q)) (sym there) (of_items k))
+    all_append kind (only_at p flags (p + suc k)) (spread_all item (p + 1) (list_of vs) (p + suc k))
+    (none_of kind (only_at p flags (p + suc k)) (only_there p (p + suc k) flags n))
+    (subst (λ q. AllOf kind (spread_all item (p + 1) (list_of vs) q)) (sym there) (of_items k))
 
 -- what a value puts on the k-th of its edges is of that edge's kind
 pub spread_kinds : (ty : Ty) (p k : ℕ) (v : Value) → is_a ty v ≡ true → AllOf (kind_at (kinds_of ty) k) (spread ty p v (p + k))

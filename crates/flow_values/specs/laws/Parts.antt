@@ -30,7 +30,9 @@ parts-length bool v c = refl
 parts-length (vec item) v c = refl
 parts-length (pair first second) v c =
     let both = both_true (is_concrete first) (is_concrete second) c in
-    length-append (parts first (first_of v)) (parts second (second_of v)) ∙ ap₂ (λ a b. a + b) (parts-length first (first_of v) both.0) (parts-length second (second_of v) both.1) ∙ sym (length-append (kinds_of first) (kinds_of second))
+    length-append (parts first (first_of v)) (parts second (second_of v))
+    ∙ ap₂ (λ a b. a + b) (parts-length first (first_of v) both.0) (parts-length second (second_of v) both.1)
+    ∙ sym (length-append (kinds_of first) (kinds_of second))
 parts-length (seq item) v c = absurd (cc)
 
 -- what a value of a concrete type puts on its edges are its items
@@ -93,7 +95,10 @@ built-is (vec item) (datum a ∷ cells) v rest e = go a (is_a (vec item) a) refl
 built-is (vec item) _ v rest e = absurd (cc)
 built-is (pair first second) cells v rest e = go (λ l b k. built-is second l b k) (built first cells) (λ a l. built-is first cells a l) e
   where
-    second_is : (a : Value) (l : List Cell) (r : Built) → ((b : Value) (k : List Cell) → r ≡ left_with b k → (is_a second b ≡ true) × (l ≡ parts second b ++ k)) → (is_a first a ≡ true) × (cells ≡ parts first a ++ l) → with_first a r ≡ left_with v rest → (is_a (pair first second) v ≡ true) × (cells ≡ parts (pair first second) v ++ rest)
+    second_is : (a : Value) (l : List Cell) (r : Built) →
+        ((b : Value) (k : List Cell) → r ≡ left_with b k → (is_a second b ≡ true) × (l ≡ parts second b ++ k)) → (is_a first a ≡ true)
+        × (cells ≡ parts first a ++ l) → with_first a r ≡ left_with v rest → (is_a (pair first second) v ≡ true)
+        × (cells ≡ parts (pair first second) v ++ rest)
     second_is a l None ih there e = absurd (cc)
     second_is a l (Some (b, k)) ih there e =
         let same = some_same (a_pair a b) v k rest e in
@@ -102,7 +107,9 @@ built-is (pair first second) cells v rest e = go (λ l b k. built-is second l b 
           there.1 ∙ ap (λ m. parts first a ++ m) h.1 ∙ sym (append_assoc (parts first a) (parts second b) k) ∙ ap₂ (λ x m. parts (pair first second) x ++ m) same.0 same.1,
         )
 
-    go : ((l : List Cell) (b : Value) (k : List Cell) → built second l ≡ left_with b k → (is_a second b ≡ true) × (l ≡ parts second b ++ k)) → (r : Built) → ((a : Value) (l : List Cell) → r ≡ left_with a l → (is_a first a ≡ true) × (cells ≡ parts first a ++ l)) → and_then (built second) r ≡ left_with v rest → (is_a (pair first second) v ≡ true) × (cells ≡ parts (pair first second) v ++ rest)
+    go : ((l : List Cell) (b : Value) (k : List Cell) → built second l ≡ left_with b k → (is_a second b ≡ true) × (l ≡ parts second b ++ k)) →
+        (r : Built) → ((a : Value) (l : List Cell) → r ≡ left_with a l → (is_a first a ≡ true) × (cells ≡ parts first a ++ l)) →
+        and_then (built second) r ≡ left_with v rest → (is_a (pair first second) v ≡ true) × (cells ≡ parts (pair first second) v ++ rest)
     go of_second None ih e = absurd (cc)
     go of_second (Some (a, l)) ih e = second_is a l (built second l) (of_second l) (ih a l refl) e
 built-is (seq item) cells v rest e = absurd (cc)

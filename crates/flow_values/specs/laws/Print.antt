@@ -23,7 +23,8 @@ use Rattle.flow_values.specs.Flats.{no_cells, ◌⊕◌, width, spread, flat}
 use Rattle.flow_values.specs.laws.Flats.{flat_one}
 use Rattle.flow_values.specs.laws.Sides.{spread_above, nothing_more}
 use Rattle.flow_values.specs.laws.Kinds.{spread_full, spread_kinds, full_append, flags_here}
-use Rattle.flow_values.specs.PrintMachine.{Pending, whole, further, port_of, PrintReading, next, PrintStage, within, closing, stuck, PrintState, print_state, print_opening, print_stage, want_at, went_on, checked, read_at, print_behaviour}
+use Rattle.flow_values.specs.PrintMachine.{Pending, whole, further, port_of, PrintReading, next, PrintStage, within, closing, stuck, PrintState}
+use Rattle.flow_values.specs.PrintMachine.{print_state, print_opening, print_stage, want_at, went_on, checked, read_at, print_behaviour}
 use Rattle.flow_values.specs.laws.PrintSteps.{segment, PrintsRest, PrintsRestAfter, next_law}
 
 -- What is still to come: the closed lists of bodies that are just what is to be read, each of the kind of its port, and
@@ -61,7 +62,8 @@ module _ (ty : Ty) (i : Lists Signal) (t : List ℕ) where
   owed_moved s None e = iff_refl
   owed_moved s (Some r) e = subst (λ k. OwesAfter ty (Some r) i t ↔ OwesAt (print_stage r.pending) k r.text i t) (sym e) (owed_pending r.pending r.text)
 
-  pack : (r : Option PrintReading) (bodies : Lists Cell) → AreClosed (width ty) i bodies → ((p : ℕ) → width ty ≤ p → bodies p ≡ []) → ((p : ℕ) → AllOf (kind_at (kinds_of ty) p) (bodies p)) → PrintsRestAfter r bodies t → OwesAfter ty r i t
+  pack : (r : Option PrintReading) (bodies : Lists Cell) → AreClosed (width ty) i bodies → ((p : ℕ) → width ty ≤ p → bodies p ≡ []) →
+      ((p : ℕ) → AllOf (kind_at (kinds_of ty) p) (bodies p)) → PrintsRestAfter r bodies t → OwesAfter ty r i t
   pack None bodies c b k h = h
   pack (Some r) bodies c b k h = record { bodies = bodies; are_closed = c; beyond = b; kinds = k; ends = h }
 
@@ -89,7 +91,8 @@ module _ (ty : Ty) (i : Lists Signal) (t : List ℕ) where
         let packed = pack (next first x others text) less (closed_rest (width ty) here (carry x) i h.bodies r front.2 h.are_closed) beyond kinds after in
         subst (λ b. OwesAfter ty (checked b (next first x others text)) i t) (sym yes) packed
 
-    unpack : (r : Option PrintReading) → fits ≡ true → ((l : Lists Cell) → PrintsRestAfter r l t → PrintsRest (first ∷ others) text (push here x l) t) → OwesAfter ty r i t → Owed ty (first ∷ others) text (push here (carry x) i) t
+    unpack : (r : Option PrintReading) → fits ≡ true → ((l : Lists Cell) → PrintsRestAfter r l t → PrintsRest (first ∷ others) text (push here x l) t)
+        → OwesAfter ty r i t → Owed ty (first ∷ others) text (push here (carry x) i) t
     unpack None is law h = absurd h
     unpack (Some r) is law h =
         let more = push here x h.bodies in
@@ -112,11 +115,13 @@ pending_full : (first : Pending) (others : List Pending) (text : List ℕ) (bodi
 pending_full (whole behind ty p c) others text bodies t h = subst (λ l. HasFirst (l p)) (sym h.3) (full_append (spread ty p h.0 p) (h.1 p) (spread_full ty p h.0))
 pending_full (further item p c) others text bodies t h = subst (λ l. HasFirst (l p)) (sym h.3) (full_append (segment item p h.0 p) (h.1 p) (full_append _ _ (flags_here p _)))
 
-owed_full : (ty : Ty) (first : Pending) (others : List Pending) (text : List ℕ) (i : Lists Signal) (t : List ℕ) → port_of first < width ty → Owed ty (first ∷ others) text i t → HasFirst (i (port_of first))
+owed_full : (ty : Ty) (first : Pending) (others : List Pending) (text : List ℕ) (i : Lists Signal) (t : List ℕ) → port_of first < width ty →
+    Owed ty (first ∷ others) text i t → HasFirst (i (port_of first))
 owed_full ty first others text i t lt h = closed_full (i (port_of first)) (h.bodies (port_of first)) (h.are_closed (port_of first) lt)
 
 -- where an item is to be read, no end comes
-no_stop : (ty : Ty) (first : Pending) (others : List Pending) (text : List ℕ) (i : Lists Signal) (t : List ℕ) → port_of first < width ty → Owed ty (first ∷ others) text (push (port_of first) stop i) t → ⊥
+no_stop : (ty : Ty) (first : Pending) (others : List Pending) (text : List ℕ) (i : Lists Signal) (t : List ℕ) → port_of first < width ty →
+    Owed ty (first ∷ others) text (push (port_of first) stop i) t → ⊥
 no_stop ty first others text i t lt h =
     let p = port_of first in
     let e : stop ∷ i p ≡ closed (h.bodies p) = sym (at_port p (stop ∷ i p) i) ∙ h.are_closed p lt in
@@ -132,7 +137,8 @@ no_carry n p x i lt h =
 
 -- one message read, and the text in the end
 module _ (s : PrintState) (i : Lists Signal) (t : List ℕ) where
-  within_step : (first : Pending) (others : List Pending) → port_of first < width s.ty → (m : Signal) → Owed s.ty (first ∷ others) s.text (push (port_of first) m i) t ↔ OwesText (read_at (within first others) s m) i t
+  within_step : (first : Pending) (others : List Pending) → port_of first < width s.ty → (m : Signal) →
+      Owed s.ty (first ∷ others) s.text (push (port_of first) m i) t ↔ OwesText (read_at (within first others) s m) i t
   within_step first others lt stop = (λ h. no_stop s.ty first others s.text i t lt h, λ h. absurd h)
   within_step first others lt (carry x) =
       let fits = is_of (kind_at (kinds_of s.ty) (port_of first)) x in
@@ -222,7 +228,8 @@ module _ (ty : Ty) (text : List ℕ) (at : ℕ) where
       let le : width ty ≤ port_of first = grind (arith, nat_tests) in
       subst (λ l. HasFirst l) (h.beyond (port_of first) le) (pending_full first others text h.bodies t h.ends)
 
-  each_within : (first : Pending) (others : List Pending) (b : Bool) → nat_lt (port_of first) (width ty) ≡ b → Keeps print_behaviour promise (state (within first others)) (cond b (Read (port_of first)) (Faulted (record { kind = Shape; at = at })))
+  each_within : (first : Pending) (others : List Pending) (b : Bool) → nat_lt (port_of first) (width ty) ≡ b →
+      Keeps print_behaviour promise (state (within first others)) (cond b (Read (port_of first)) (Faulted (record { kind = Shape; at = at })))
   each_within first others true e = reads_within first others (lt_of (port_of first) (width ty) e)
   each_within first others false e = record { place = refl; never = λ i o h. never_beyond first others i h.0 e h.1 }
 
@@ -325,12 +332,17 @@ one_read s p m i t wants h = go s.step refl wants h
 
 -- it wants to write nothing
 no_write : (s : PrintState) (step : PrintStage) (q : ℕ) → want_at step s ≡ Write q → ⊥
-no_write s (within first others) q e = elim (nat_lt (port_of first) (width s.ty)) as (λ b. cond b (Read (port_of first)) (Faulted (record { kind = Shape; at = s.at })) ≡ Write q → ⊥) [ true ↦ λ e. absurd (cc) | false ↦ λ e. absurd (cc) ] e
+no_write s (within first others) q e =
+    elim (nat_lt (port_of first) (width s.ty)) as (λ b. cond b (Read (port_of first)) (Faulted (record { kind = Shape; at = s.at })) ≡ Write q → ⊥)
+    [ true ↦ λ e. absurd (cc) | false ↦ λ e. absurd (cc) ] e
 no_write s (closing p) q e = elim (nat_lt p (width s.ty)) as (λ b. cond b (Read p) Ended ≡ Write q → ⊥) [ true ↦ λ e. absurd (cc) | false ↦ λ e. absurd (cc) ] e
 no_write s stuck q e = absurd (cc)
 
 ended_text : (s : PrintState) (step : PrintStage) → want_at step s ≡ Ended → OwesAt step s.ty s.text (λ _. []) s.text
-ended_text s (within first others) e = absurd (elim (nat_lt (port_of first) (width s.ty)) as (λ b. cond b (Read (port_of first)) (Faulted (record { kind = Shape; at = s.at })) ≡ Ended → ⊥) [ true ↦ λ e. absurd (cc) | false ↦ λ e. absurd (cc) ] e)
+ended_text s (within first others) e =
+    absurd (elim (nat_lt (port_of first) (width s.ty)) as
+    (λ b. cond b (Read (port_of first)) (Faulted (record { kind = Shape; at = s.at })) ≡ Ended → ⊥)
+    [ true ↦ λ e. absurd (cc) | false ↦ λ e. absurd (cc) ] e)
 ended_text s (closing p) e = elim (nat_lt p (width s.ty)) as (λ b. nat_lt p (width s.ty) ≡ b → cond b (Read p) Ended ≡ Ended → OwesAt (closing p) s.ty s.text (λ _. []) s.text) [
   | true ↦ λ t e. absurd (cc)
   | false ↦ λ t e. (due_none p (width s.ty) (λ _. []) t (λ r lt. refl), refl)

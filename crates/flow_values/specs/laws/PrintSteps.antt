@@ -80,14 +80,17 @@ module _ (p c : ℕ) (after : List Pending) (before t : List ℕ) (i : Lists Cel
   vec_law : (item : Ty) (x : Cell) → ValueFirst (vec item) p Then (push p x i) ↔ PrintsRestAfter (entered_value (vec item) p c x after before) i t
   vec_law item x = (λ h. forth x h.0 h.1 h.2 h.3 h.4, back x)
     where
-      forth : (x : Cell) (v : Value) (rest : Lists Cell) → is_a (vec item) v ≡ true → push p x i ≡ spread (vec item) p v ⊕ rest → Then (text v) rest → PrintsRestAfter (entered_value (vec item) p c x after before) i t
+      forth : (x : Cell) (v : Value) (rest : Lists Cell) → is_a (vec item) v ≡ true → push p x i ≡ spread (vec item) p v ⊕ rest → Then (text v) rest →
+          PrintsRestAfter (entered_value (vec item) p c x after before) i t
       forth x (a_vec vs) rest is e h =
           let same = one_forth p (cell_for (a_vec vs)) x i rest e in
           let there : PrintsRestAfter (entered_value (vec item) p c (datum (a_vec vs)) after before) i t = rw is (subst (λ l. Then (text (a_vec vs)) l) (sym same.1) h) in
           subst (λ y. PrintsRestAfter (entered_value (vec item) p c y after before) i t) (sym same.0) there
       forth x _ rest is e h = absurd (cc)
 
-      of_datum : (v : Value) (b : Bool) → is_a (vec item) v ≡ b → PrintsRestAfter (cond b (Some (print_reading after (before ++ (text v ++ closing_brackets c)))) None) i t → ValueFirst (vec item) p Then (push p (datum v) i)
+      of_datum : (v : Value) (b : Bool) → is_a (vec item) v ≡ b →
+          PrintsRestAfter (cond b (Some (print_reading after (before ++ (text v ++ closing_brackets c)))) None) i t →
+          ValueFirst (vec item) p Then (push p (datum v) i)
       of_datum (a_vec vs) true e h = (a_vec vs, i, e, one_back p (datum (a_vec vs)) i, h)
       of_datum _ true e h = absurd (cc)
       of_datum _ false e h = absurd h
@@ -223,7 +226,10 @@ module _ (item : Ty) (p c : ℕ) (after : List Pending) (before t : List ℕ) (i
       forth _ rest is e h = absurd (cc)
 
   -- an element, and then further ones, whose texts are put together so
-  element_next : (P : Values → Lists Cell → Type 0) (said : List ℕ) → ((v : Value) (vs : Values) (rest : Lists Cell) → P (more_values v vs) rest ↔ PrintsRest after ((((before ++ said) ++ []) ++ (text v ++ [])) ++ (further_text vs ++ (codes "}" ++ closing_brackets c))) rest t) →
+  element_next : (P : Values → Lists Cell → Type 0) (said : List ℕ) →
+      ((v : Value) (vs : Values) (rest : Lists Cell) →
+      P (more_values v vs) rest ↔ PrintsRest after
+      ((((before ++ said) ++ []) ++ (text v ++ [])) ++ (further_text vs ++ (codes "}" ++ closing_brackets c))) rest t) →
       ElementFirst item p P i ↔ PrintsRest elements_next (before ++ said) i t
   element_next P said same = (
     λ h. let g = h.4 in (h.0, h.1, h.2, h.3, (g.0, g.1, g.2, g.3, (same h.0 g.0 g.1).0 g.4)),
@@ -266,6 +272,7 @@ entered_law (pair first second) p c after before t i x =
 entered_law (seq item) p c after before t i x = seq_law item p c after before t i x
 
 -- an item in front of what is still to be read
-pub next_law : (pending : Pending) (after : List Pending) (before t : List ℕ) (i : Lists Cell) (x : Cell) → PrintsRest (pending ∷ after) before (push (port_of pending) x i) t ↔ PrintsRestAfter (next pending x after before) i t
+pub next_law : (pending : Pending) (after : List Pending) (before t : List ℕ) (i : Lists Cell) (x : Cell) →
+    PrintsRest (pending ∷ after) before (push (port_of pending) x i) t ↔ PrintsRestAfter (next pending x after before) i t
 next_law (whole behind ty p c) after before t i x = entered_law ty p c after (before ++ comma_if behind) t i x
 next_law (further item p c) after before t i x = further_law item p c after before t i x

@@ -63,8 +63,13 @@ module _ (item : Ty) where
   runs (a_vec vs ∷ vectors) are =
       let both = both_true (all_are item vs) (all_are (vec item) (values_of vectors)) are in
       let k = writes (dues_of (seq item) 0 (a_vec vs)) (map datum vectors ∷ []) vectors (runs vectors both.1) in
-      let there : Run seq_machine item k.0 (dues_of (seq item) 0 (a_vec vs)) (map datum vectors ∷ []) (written [] (a_vec vs ∷ vectors)) = subst (λ c. Run seq_machine item k.0 (dues_of (seq item) 0 (a_vec vs)) (map datum vectors ∷ []) c) (laid vs vectors) k.1 in
-      let next : (b : Bool) → b ≡ true → OnNext (cond b (Ok (dues_of (seq item) 0 (a_vec vs))) (Err Shape)) (λ ds. Run seq_machine item k.0 ds (map datum vectors ∷ []) (written [] (a_vec vs ∷ vectors))) = λ b e. subst (λ b. OnNext (cond b (Ok (dues_of (seq item) 0 (a_vec vs))) (Err Shape)) (λ ds. Run seq_machine item k.0 ds (map datum vectors ∷ []) (written [] (a_vec vs ∷ vectors)))) (sym e) there in
+      let there : Run seq_machine item k.0 (dues_of (seq item) 0 (a_vec vs)) (map datum vectors ∷ []) (written [] (a_vec vs ∷ vectors)) =
+      subst (λ c. Run seq_machine item k.0 (dues_of (seq item) 0 (a_vec vs)) (map datum vectors ∷ []) c) (laid vs vectors) k.1 in
+      let next : (b : Bool) → b ≡ true →
+      OnNext (cond b (Ok (dues_of (seq item) 0 (a_vec vs))) (Err Shape))
+      (λ ds. Run seq_machine item k.0 ds (map datum vectors ∷ []) (written [] (a_vec vs ∷ vectors))) =
+      λ b e. subst (λ b. OnNext (cond b (Ok (dues_of (seq item) 0 (a_vec vs))) (Err Shape))
+      (λ ds. Run seq_machine item k.0 ds (map datum vectors ∷ []) (written [] (a_vec vs ∷ vectors)))) (sym e) there in
       (suc k.0, next (all_are item vs) both.0)
   runs (_ ∷ vectors) are = absurd (cc)
 
@@ -72,8 +77,11 @@ module _ (item : Ty) where
   data Owes : List DueCell → Columns → Columns → Type 0 where
     owed : (ds : List DueCell) (vectors : List Value) → all_are (vec item) (values_of vectors) ≡ true → Owes ds (map datum vectors ∷ []) (written ds vectors)
 
-  begun : (vs : Values) (i o : Columns) (b : Bool) → all_are item vs ≡ b → OnNext (cond b (Ok (dues_of (seq item) 0 (a_vec vs))) (Err Shape)) (λ ds. Owes ds i o) → Owes [] (push_column 0 (datum (a_vec vs)) i) o
-  begun vs _ _ true is (owed _ vectors are) = subst (λ c. Owes [] (map datum (a_vec vs ∷ vectors) ∷ []) c) (sym (laid vs vectors)) (owed [] (a_vec vs ∷ vectors) (and_true (all_are item vs) (all_are (vec item) (values_of vectors)) is are))
+  begun : (vs : Values) (i o : Columns) (b : Bool) → all_are item vs ≡ b →
+      OnNext (cond b (Ok (dues_of (seq item) 0 (a_vec vs))) (Err Shape)) (λ ds. Owes ds i o) → Owes [] (push_column 0 (datum (a_vec vs)) i) o
+  begun vs _ _ true is (owed _ vectors are) =
+      subst (λ c. Owes [] (map datum (a_vec vs ∷ vectors) ∷ []) c) (sym (laid vs vectors))
+      (owed [] (a_vec vs ∷ vectors) (and_true (all_are item vs) (all_are (vec item) (values_of vectors)) is are))
   begun vs _ _ false is h = absurd h
 
   earlier : (ds : List DueCell) (x : Cell) (i o : Columns) → Then (λ next. Owes next i o) (seq_move item ds) x → Owes ds (reading (seq_move item ds) x i) (writing (seq_move item ds) o)
@@ -82,7 +90,9 @@ module _ (item : Ty) where
   earlier [] unit _ _ h = absurd h
   earlier [] (flag b) _ _ h = absurd h
   earlier [] (int n) _ _ h = absurd h
-  earlier (d ∷ ds) x _ _ (owed _ vectors are) = subst (λ c. Owes (d ∷ ds) (map datum vectors ∷ []) c) (sym (push_due (width (seq item)) d ds (spread_all (seq item) 0 vectors) (is_output (width item) d.port))) (owed (d ∷ ds) vectors are)
+  earlier (d ∷ ds) x _ _ (owed _ vectors are) =
+      subst (λ c. Owes (d ∷ ds) (map datum vectors ∷ []) c)
+      (sym (push_due (width (seq item)) d ds (spread_all (seq item) 0 vectors) (is_output (width item) d.port))) (owed (d ∷ ds) vectors are)
 
   row_of : (v : List Cell) (o : Lists Cell) (c : Columns) → c ≡ columns (width (seq item)) o → Owes [] (v ∷ []) c → SeqRow item v o
   row_of _ o _ e (owed _ vectors are) = record { vectors = vectors; v_is = refl; of_type = are; edges_are = (on_edges (seq item) (width (seq item)) o vectors).1 (sym e) }

@@ -69,10 +69,13 @@ pub spread_below : (ty : Ty) (p : ℕ) (v : Value) (q : ℕ) → q < p → sprea
 spread_below int p v q lt = let n : q ≢ p = omega arith in only_there p q _ n
 spread_below bool p v q lt = let n : q ≢ p = omega arith in only_there p q _ n
 spread_below (vec item) p v q lt = let n : q ≢ p = omega arith in only_there p q _ n
-spread_below (pair first second) p v q lt = both_empty (spread first p (first_of v) q) (spread second (p + width first) (second_of v) q) (spread_below first p (first_of v) q lt) (spread_below second (p + width first) (second_of v) q (omega arith))
+spread_below (pair first second) p v q lt =
+    both_empty (spread first p (first_of v) q) (spread second (p + width first) (second_of v) q) (spread_below first p (first_of v) q lt)
+    (spread_below second (p + width first) (second_of v) q (omega arith))
 spread_below (seq item) p v q lt =
     let n : q ≢ p = omega arith in
-    both_empty (only_at p (elements (length (elements_of v)) (T ∷ [])) q) (spread_all item (p + 1) (elements_of v) q) (only_there p q _ n) (all_none item (p + 1) q (λ e. spread_below item (p + 1) e q (omega arith)) (elements_of v))
+    both_empty (only_at p (elements (length (elements_of v)) (T ∷ [])) q) (spread_all item (p + 1) (elements_of v) q) (only_there p q _ n)
+    (all_none item (p + 1) q (λ e. spread_below item (p + 1) e q (omega arith)) (elements_of v))
 
 pub all_below : (ty : Ty) (p : ℕ) (vs : List Value) (q : ℕ) → q < p → spread_all ty p vs q ≡ []
 all_below ty p vs q lt = all_none ty p q (λ v. spread_below ty p v q lt) vs
@@ -84,7 +87,9 @@ spread_above bool p v q le = let n : q ≢ p = omega arith in only_there p q _ n
 spread_above (vec item) p v q le = let n : q ≢ p = omega arith in only_there p q _ n
 spread_above (pair first second) p v q le =
     let size = length-append (kinds_of first) (kinds_of second) in
-    both_empty (spread first p (first_of v) q) (spread second (p + width first) (second_of v) q) (spread_above first p (first_of v) q (omega (arith, size))) (spread_above second (p + width first) (second_of v) q (omega (arith, size)))
+    both_empty (spread first p (first_of v) q) (spread second (p + width first) (second_of v) q)
+    (spread_above first p (first_of v) q (omega (arith, size))) (spread_above second (p + width first) (second_of v) q (omega (arith, size)))
 spread_above (seq item) p v q le =
     let n : q ≢ p = omega arith in
-    both_empty (only_at p (elements (length (elements_of v)) (T ∷ [])) q) (spread_all item (p + 1) (elements_of v) q) (only_there p q _ n) (all_none item (p + 1) q (λ e. spread_above item (p + 1) e q (omega arith)) (elements_of v))
+    both_empty (only_at p (elements (length (elements_of v)) (T ∷ [])) q) (spread_all item (p + 1) (elements_of v) q) (only_there p q _ n)
+    (all_none item (p + 1) q (λ e. spread_above item (p + 1) e q (omega arith)) (elements_of v))

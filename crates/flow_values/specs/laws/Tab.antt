@@ -23,7 +23,8 @@ use Rattle.flow_values.specs.Parts.{parts, Built, built, part_fits}
 use Rattle.flow_values.specs.laws.Parts.{in_row, built-parts, built-is, parts-length, spread-parts}
 use Rattle.flow_values.specs.laws.PartFits.{part_kind, part_is}
 use Rattle.flow_values.specs.Rows.{AreTabs, TabRow}
-use Rattle.flow_values.specs.TabMachine.{TabState, start, at_flag, at_item, at_end, flag_taking, with_element, grown, item_given, item_port, vector_cell, tab_move, CellsInRange, tab_in_range, tab_machine}
+use Rattle.flow_values.specs.TabMachine.{TabState, start, at_flag, at_item, at_end, flag_taking, with_element, grown, item_given, item_port}
+use Rattle.flow_values.specs.TabMachine.{vector_cell, tab_move, CellsInRange, tab_in_range, tab_machine}
 use Rattle.flow_values.specs.laws.Edges.{at_pushed, push_columns, none_at, on_edges}
 
 -- Ranges.
@@ -64,14 +65,16 @@ module _ (dialect : Dialect) where
       go true = ((h, tt), h)
       go false = (tt, tt)
 
-  ranged_closed : (ty : Ty) (es : List Value) (got : List Cell) (made : Built) → built ty got ≡ made → AllInRange dialect (values_of es) → CellsInRange dialect got → OfNext (with_element es made) (tab_in_range dialect)
+  ranged_closed : (ty : Ty) (es : List Value) (got : List Cell) (made : Built) → built ty got ≡ made → AllInRange dialect (values_of es) →
+      CellsInRange dialect got → OfNext (with_element es made) (tab_in_range dialect)
   ranged_closed ty es got (Some (e, [])) made h g =
       let are = built-is ty got e [] made in
       all_in_range es e h (parts_in_range ty e are.0 (subst (CellsInRange dialect) (are.1 ∙ append-nil (parts ty e)) g))
   ranged_closed ty es got (Some (e, y ∷ ys)) made h g = tt
   ranged_closed ty es got None made h g = tt
 
-  ranged_item : (ty : Ty) (es : List Value) (got : List Cell) (x : Cell) → AllInRange dialect (values_of es) → CellsInRange dialect got → CellInRange dialect x → OfNext (item_given ty es got x) (tab_in_range dialect)
+  ranged_item : (ty : Ty) (es : List Value) (got : List Cell) (x : Cell) → AllInRange dialect (values_of es) → CellsInRange dialect got →
+      CellInRange dialect x → OfNext (item_given ty es got x) (tab_in_range dialect)
   ranged_item ty es got x h g r = go (nat_lt (length got) (width ty)) (part_fits ty (length got) x) (nat_lt (length all) (width ty))
     where
       all : List Cell
@@ -142,18 +145,25 @@ module _ (ty : Ty) where
   -- the items of an element, and its segment after
 
   -- an item that leads on, and then a run, is a run
-  item_run : (es : List Value) (got : List Cell) (x : Cell) (s : TabState) (l : Lists Cell) (o : List Cell) → length got < width ty → part_fits ty (length got) x ≡ true → item_given ty es got x ≡ Ok s → Does s l o → Does (at_item es got) (push (suc (length got)) x l) o
+  item_run : (es : List Value) (got : List Cell) (x : Cell) (s : TabState) (l : Lists Cell) (o : List Cell) → length got < width ty →
+      part_fits ty (length got) x ≡ true → item_given ty es got x ≡ Ok s → Does s l o → Does (at_item es got) (push (suc (length got)) x l) o
   item_run es got x s l o lt fits given r =
       let inside : nat_lt (length got) (width ty) ≡ true = grind (arith, nat_tests, lt) in
       let here : Cell → Columns → Type 0 = λ y c. OnNext (state_after_item (on_kind (kind_at (kinds_of ty) (length got)) (item_given ty es got)) y) (λ s. Run tab_machine ty r.0 s c (o ∷ [])) in
-      let next : here x (edges l) = leads_on (kind_at (kinds_of ty) (length got)) (item_given ty es got) x (λ s. Run tab_machine ty r.0 s (edges l) (o ∷ [])) (fits_kind ty (length got) x fits) (subst (λ n. OnNext n (λ s. Run tab_machine ty r.0 s (edges l) (o ∷ []))) (sym given) r.1) in (
+      let next : here x (edges l) =
+      leads_on (kind_at (kinds_of ty) (length got)) (item_given ty es got) x (λ s. Run tab_machine ty r.0 s (edges l) (o ∷ []))
+      (fits_kind ty (length got) x fits) (subst (λ n. OnNext n (λ s. Run tab_machine ty r.0 s (edges l) (o ∷ []))) (sym given) r.1) in (
         suc r.0,
-        subst (λ b. At (cond b (suc (length got)) 0) (edges (push (suc (length got)) x l)) (λ y c. OnNext (state_after_item (on_kind (kind_at (kinds_of (seq ty)) (cond b (suc (length got)) 0)) (item_given ty es got)) y) (λ s. Run tab_machine ty r.0 s c (o ∷ [])))) (sym inside)
+        subst (λ b. At (cond b (suc (length got)) 0) (edges (push (suc (length got)) x l))
+            (λ y c. OnNext (state_after_item (on_kind (kind_at (kinds_of (seq ty)) (cond b (suc (length got)) 0)) (item_given ty es got)) y)
+            (λ s. Run tab_machine ty r.0 s c (o ∷ [])))) (sym inside)
             (at_pushed (width (seq ty)) (suc (length got)) x l here (omega (arith, lt)) next),
       )
 
   -- where an item leads that is the next of a value
-  leads : (es : List Value) (got : List Cell) (x : Cell) (more : Bool) → length got < width ty → part_fits ty (length got) x ≡ true → nat_lt (length (got ++ x ∷ [])) (width ty) ≡ more → item_given ty es got x ≡ cond more (Ok (at_item es (got ++ x ∷ []))) (with_element es (built ty (got ++ x ∷ [])))
+  leads : (es : List Value) (got : List Cell) (x : Cell) (more : Bool) → length got < width ty → part_fits ty (length got) x ≡ true →
+      nat_lt (length (got ++ x ∷ [])) (width ty) ≡ more → item_given ty es got x
+      ≡ cond more (Ok (at_item es (got ++ x ∷ []))) (with_element es (built ty (got ++ x ∷ [])))
   leads es got x more lt fits e =
       let inside : nat_lt (length got) (width ty) ≡ true = grind (arith, nat_tests, lt) in
       ap (λ b. cond b (cond (part_fits ty (length got) x) (grown ty es (got ++ x ∷ [])) (Err Shape)) (Err Shape)) inside
@@ -161,7 +171,8 @@ module _ (ty : Ty) where
       ∙ ap (λ b. cond b (Ok (at_item es (got ++ x ∷ []))) (with_element es (built ty (got ++ x ∷ [])))) e
 
   -- the items of an element, and then a run, are a run
-  element_run : (e : Value) (x : Cell) (cells got : List Cell) (es : List Value) (l : Lists Cell) (o : List Cell) → is_concrete ty ≡ true → is_a ty e ≡ true → parts ty e ≡ got ++ x ∷ cells → Does (at_flag (es ++ e ∷ [])) l o → Does (at_item es got) (in_row (suc (length got)) (x ∷ cells) ⊕ l) o
+  element_run : (e : Value) (x : Cell) (cells got : List Cell) (es : List Value) (l : Lists Cell) (o : List Cell) → is_concrete ty ≡ true → is_a ty e
+      ≡ true → parts ty e ≡ got ++ x ∷ cells → Does (at_flag (es ++ e ∷ [])) l o → Does (at_item es got) (in_row (suc (length got)) (x ∷ cells) ⊕ l) o
   element_run e x [] got es l o c is are r =
       let size = length-append got (x ∷ []) in
       let whole : length got + 1 ≡ width ty = sym size ∙ sym (ap length are) ∙ parts-length ty e c in
@@ -181,22 +192,33 @@ module _ (ty : Ty) where
       (subst (λ p. Does (at_item es (got ++ x ∷ [])) (in_row p (y ∷ cells) ⊕ l) o) (sym (place got x)) others))
 
   -- a segment, and then a run, are a run
-  segment_run : (vs : Values) (es : List Value) (l : Lists Cell) (o : List Cell) → is_concrete ty ≡ true → all_are ty vs ≡ true → Does start l o → Does (at_flag es) (segment ty 0 vs ⊕ l) (vector_cell (es ++ list_of vs) ∷ o)
+  segment_run : (vs : Values) (es : List Value) (l : Lists Cell) (o : List Cell) → is_concrete ty ≡ true → all_are ty vs ≡ true → Does start l o →
+      Does (at_flag es) (segment ty 0 vs ⊕ l) (vector_cell (es ++ list_of vs) ∷ o)
   segment_run no_values es l o c are r =
       let out = vector_cell (es ++ []) ∷ o in
       let written : Run tab_machine ty (suc r.0) (at_end es) (edges l) (out ∷ []) = (ap vector_cell (append-nil es), r.1) in
       let next = subst (λ b. OnNext (cond b (Ok (at_end es)) (Err Shape)) (λ s. Run tab_machine ty (suc r.0) s (edges l) (out ∷ []))) (sym c) written in
-      subst (λ m. Does (at_flag es) m out) (sym (none_is ty 0 l)) (suc (suc r.0), at_pushed (width (seq ty)) 0 T l (λ x c. OnNext (state_after_item (flag_taking ty es) x) (λ s. Run tab_machine ty (suc r.0) s c (out ∷ []))) some_port next)
+      subst (λ m. Does (at_flag es) m out) (sym (none_is ty 0 l)) (
+        suc (suc r.0),
+        at_pushed (width (seq ty)) 0 T l
+            (λ x c. OnNext (state_after_item (flag_taking ty es) x) (λ s. Run tab_machine ty (suc r.0) s c (out ∷ []))) some_port next,
+      )
   segment_run (more_values v vs) es l o c are r =
       let both = both_true (is_a ty v) (all_are ty vs) are in
       let out = vector_cell (es ++ v ∷ list_of vs) ∷ o in
       let later = segment ty 0 vs ⊕ l in
-      let others : Does (at_flag (es ++ v ∷ [])) later out = subst (λ k. Does (at_flag (es ++ v ∷ [])) later (vector_cell k ∷ o)) (append_assoc es (v ∷ []) (list_of vs)) (segment_run vs (es ++ v ∷ []) l o c both.1 r) in
+      let others : Does (at_flag (es ++ v ∷ [])) later out =
+      subst (λ k. Does (at_flag (es ++ v ∷ [])) later (vector_cell k ∷ o)) (append_assoc es (v ∷ []) (list_of vs))
+      (segment_run vs (es ++ v ∷ []) l o c both.1 r) in
       let full = parts_full ty v in
       let row = spread-parts ty 1 v c ∙ ap (in_row 1) full.2 in
       let k : Does (at_item es []) (spread ty 1 v ⊕ later) out = subst (λ m. Does (at_item es []) (m ⊕ later) out) (sym row) (element_run v full.0 full.1 [] es later out c both.0 full.2 others) in
       let next = subst (λ b. OnNext (cond b (Ok (at_item es [])) (Err Shape)) (λ s. Run tab_machine ty k.0 s (edges (spread ty 1 v ⊕ later)) (out ∷ []))) (sym c) k.1 in
-      subst (λ m. Does (at_flag es) m out) (sym (more_is ty 0 v vs l)) (suc k.0, at_pushed (width (seq ty)) 0 F (spread ty 1 v ⊕ later) (λ x c. OnNext (state_after_item (flag_taking ty es) x) (λ s. Run tab_machine ty k.0 s c (out ∷ []))) some_port next)
+      subst (λ m. Does (at_flag es) m out) (sym (more_is ty 0 v vs l)) (
+        suc k.0,
+        at_pushed (width (seq ty)) 0 F (spread ty 1 v ⊕ later)
+            (λ x c. OnNext (state_after_item (flag_taking ty es) x) (λ s. Run tab_machine ty k.0 s c (out ∷ []))) some_port next,
+      )
 
   -- an instance begins with a flag
   begins_run : (l : Lists Cell) (o : List Cell) → Does (at_flag []) l o → Does start l o
@@ -209,7 +231,8 @@ module _ (ty : Ty) where
   runs : (vectors : List Value) → AreTabs ty vectors → Does start (all_edges vectors) (map datum vectors)
   runs [] are = (0, (none_at (width (seq ty)), refl))
   runs (a_vec vs ∷ vectors) are =
-      let r = begins_run (segment ty 0 vs ⊕ all_edges vectors) (vector_cell (list_of vs) ∷ map datum vectors) (segment_run vs [] (all_edges vectors) (map datum vectors) are.0 are.1 (runs vectors are.2)) in
+      let r = begins_run (segment ty 0 vs ⊕ all_edges vectors) (vector_cell (list_of vs) ∷ map datum vectors)
+      (segment_run vs [] (all_edges vectors) (map datum vectors) are.0 are.1 (runs vectors are.2)) in
       subst (λ v. Does start (all_edges (a_vec vs ∷ vectors)) (datum (a_vec v) ∷ map datum vectors)) (values_listed vs) r
   runs (_ ∷ vectors) are = let never = are.1 in absurd (cc)
 
@@ -217,23 +240,31 @@ module _ (ty : Ty) where
   -- element has these of its items left.
   data Owes : TabState → Columns → Columns → Type 0 where
     started : (vectors : List Value) → AreTabs ty vectors → Owes start (edges (all_edges vectors)) (map datum vectors ∷ [])
-    flagged : (es : List Value) (vs : Values) (vectors : List Value) → is_concrete ty ≡ true → all_are ty vs ≡ true → AreTabs ty vectors → Owes (at_flag es) (edges (segment ty 0 vs ⊕ all_edges vectors)) ((vector_cell (es ++ list_of vs) ∷ map datum vectors) ∷ [])
-    itemed : (es : List Value) (got : List Cell) (e : Value) (cells : List Cell) (vs : Values) (vectors : List Value) → is_concrete ty ≡ true → is_a ty e ≡ true → all_are ty vs ≡ true → AreTabs ty vectors → parts ty e ≡ got ++ cells →
+    flagged : (es : List Value) (vs : Values) (vectors : List Value) → is_concrete ty ≡ true → all_are ty vs ≡ true → AreTabs ty vectors →
+        Owes (at_flag es) (edges (segment ty 0 vs ⊕ all_edges vectors)) ((vector_cell (es ++ list_of vs) ∷ map datum vectors) ∷ [])
+    itemed : (es : List Value) (got : List Cell) (e : Value) (cells : List Cell) (vs : Values) (vectors : List Value) → is_concrete ty ≡ true →
+        is_a ty e ≡ true → all_are ty vs ≡ true → AreTabs ty vectors → parts ty e ≡ got ++ cells →
         Owes (at_item es got) (edges (in_row (suc (length got)) cells ⊕ (segment ty 0 vs ⊕ all_edges vectors))) ((vector_cell ((es ++ e ∷ []) ++ list_of vs) ∷ map datum vectors) ∷ [])
     ended : (es : List Value) (vectors : List Value) → AreTabs ty vectors → Owes (at_end es) (edges (all_edges vectors)) ((vector_cell es ∷ map datum vectors) ∷ [])
 
   -- the same of other columns
-  owes_as : (s : TabState) (p : ℕ) (x : Cell) (l m : Lists Cell) (es fs : List Value) (o : List Cell) → p < width (seq ty) → l ≡ push p x m → es ≡ fs → Owes s (edges l) ((vector_cell es ∷ o) ∷ []) → Owes s (push_column p x (edges m)) ((vector_cell fs ∷ o) ∷ [])
-  owes_as s p x l m es fs o lt e f h = subst (λ k. Owes s k ((vector_cell fs ∷ o) ∷ [])) (ap edges e ∙ sym (push_columns (width (seq ty)) p x m lt)) (subst (λ k. Owes s (edges l) ((vector_cell k ∷ o) ∷ [])) f h)
+  owes_as : (s : TabState) (p : ℕ) (x : Cell) (l m : Lists Cell) (es fs : List Value) (o : List Cell) → p < width (seq ty) → l ≡ push p x m → es ≡ fs
+      → Owes s (edges l) ((vector_cell es ∷ o) ∷ []) → Owes s (push_column p x (edges m)) ((vector_cell fs ∷ o) ∷ [])
+  owes_as s p x l m es fs o lt e f h =
+      subst (λ k. Owes s k ((vector_cell fs ∷ o) ∷ [])) (ap edges e ∙ sym (push_columns (width (seq ty)) p x m lt))
+      (subst (λ k. Owes s (edges l) ((vector_cell k ∷ o) ∷ [])) f h)
 
   to_end : (es : List Value) (i o : Columns) → is_concrete ty ≡ true → Owes (at_end es) i o → Owes (at_flag es) (push_column 0 T i) o
-  to_end es _ _ c (ended _ vectors tabs) = owes_as (at_flag es) 0 T (segment ty 0 no_values ⊕ all_edges vectors) (all_edges vectors) (es ++ []) es (map datum vectors) some_port (none_is ty 0 (all_edges vectors)) (append-nil es) (flagged es no_values vectors c refl tabs)
+  to_end es _ _ c (ended _ vectors tabs) =
+      owes_as (at_flag es) 0 T (segment ty 0 no_values ⊕ all_edges vectors) (all_edges vectors) (es ++ []) es (map datum vectors) some_port
+      (none_is ty 0 (all_edges vectors)) (append-nil es) (flagged es no_values vectors c refl tabs)
 
   to_item : (es : List Value) (i o : Columns) → Owes (at_item es []) i o → Owes (at_flag es) (push_column 0 F i) o
   to_item es _ _ (itemed _ _ e cells vs vectors c is are tabs parts_are) =
       let later = segment ty 0 vs ⊕ all_edges vectors in
       let row = more_is ty 0 e vs (all_edges vectors) ∙ ap (λ l. push 0 F (l ⊕ later)) (spread-parts ty 1 e c ∙ ap (in_row 1) parts_are) in
-      owes_as (at_flag es) 0 F (segment ty 0 (more_values e vs) ⊕ all_edges vectors) (in_row 1 cells ⊕ later) (es ++ e ∷ list_of vs) ((es ++ e ∷ []) ++ list_of vs) (map datum vectors) some_port row (sym (append_assoc es (e ∷ []) (list_of vs)))
+      owes_as (at_flag es) 0 F (segment ty 0 (more_values e vs) ⊕ all_edges vectors) (in_row 1 cells ⊕ later) (es ++ e ∷ list_of vs)
+      ((es ++ e ∷ []) ++ list_of vs) (map datum vectors) some_port row (sym (append_assoc es (e ∷ []) (list_of vs)))
       (flagged es (more_values e vs) vectors c (and_true (is_a ty e) (all_are ty vs) is are) tabs)
 
   flag_earlier : (es : List Value) (x : Cell) (i o : Columns) → OnNext (state_after_item (flag_taking ty es) x) (λ s. Owes s i o) → Owes (at_flag es) (push_column 0 x i) o
@@ -250,7 +281,9 @@ module _ (ty : Ty) where
   flag_earlier es _ i o h = absurd h
 
   opened : (i o : Columns) → Owes (at_flag []) i o → Owes start i o
-  opened _ _ (flagged _ vs vectors c are tabs) = subst (λ v. Owes start (edges (all_edges (a_vec vs ∷ vectors))) ((datum (a_vec v) ∷ map datum vectors) ∷ [])) (sym (values_listed vs)) (started (a_vec vs ∷ vectors) (c, are, tabs))
+  opened _ _ (flagged _ vs vectors c are tabs) =
+      subst (λ v. Owes start (edges (all_edges (a_vec vs ∷ vectors))) ((datum (a_vec v) ∷ map datum vectors) ∷ [])) (sym (values_listed vs))
+      (started (a_vec vs ∷ vectors) (c, are, tabs))
 
   module _ (es : List Value) (got : List Cell) (x : Cell) (lt : suc (length got) < width (seq ty)) where
     to_more : (i o : Columns) → Owes (at_item es (got ++ x ∷ [])) i o → Owes (at_item es got) (push_column (suc (length got)) x i) o
@@ -274,7 +307,8 @@ module _ (ty : Ty) where
     to_made None i o made h = absurd h
 
   item_earlier : (es : List Value) (got : List Cell) (x : Cell) (inside fits more : Bool) (i o : Columns) → nat_lt (length got) (width ty) ≡ inside →
-      OnNext (cond inside (cond fits (cond more (Ok (at_item es (got ++ x ∷ []))) (with_element es (built ty (got ++ x ∷ [])))) (Err Shape)) (Err Shape)) (λ s. Owes s i o) → Owes (at_item es got) (push_column (cond inside (suc (length got)) 0) x i) o
+      OnNext (cond inside (cond fits (cond more (Ok (at_item es (got ++ x ∷ []))) (with_element es (built ty (got ++ x ∷ [])))) (Err Shape))
+      (Err Shape)) (λ s. Owes s i o) → Owes (at_item es got) (push_column (cond inside (suc (length got)) 0) x i) o
   item_earlier es got x true true true i o e h = to_more es got x (item_below ty got true e) i o h
   item_earlier es got x true true false i o e h = to_made es got x (item_below ty got true e) (built ty (got ++ x ∷ [])) i o refl h
   item_earlier es got x true false more i o e h = absurd h
@@ -297,7 +331,9 @@ tab_laws = record {
   begins_at_start = λ _. refl;
   starts_of_kind = λ _. tt;
   rows = λ ty i o. (
-    λ row. subst (λ v. Does ty start i v) (sym row.v_is) (subst (λ c. Runs tab_machine ty start c (map datum row.vectors ∷ [])) (sym ((on_edges (seq ty) (width (seq ty)) i row.vectors).0 row.edges_are)) (runs ty row.vectors row.of_type)),
+    λ row. subst (λ v. Does ty start i v) (sym row.v_is)
+        (subst (λ c. Runs tab_machine ty start c (map datum row.vectors ∷ []))
+        (sym ((on_edges (seq ty) (width (seq ty)) i row.vectors).0 row.edges_are)) (runs ty row.vectors row.of_type)),
     λ r.
         let none = subst (λ c. Owes ty start c ([] ∷ [])) (none_at (width (seq ty))) (started [] tt) in
         row_of ty i (o 0) (edges ty i) refl (run_is tab_machine ty (Owes ty) (sound ty) none (earlier ty) start (edges ty i) (columns 1 o) r),

@@ -25,7 +25,8 @@ returns c =
       environment = environment;
       parses = c.in_ok-program.ensures.right;
       types = of_text text parsed typed kept same c.in_ok-typed.ensures.typed;
-      reads = of_inputs text parsed typed kept same c.args.input.now c.dialect.result (declared c.decls.result.now) (spells environment) c.dialect.ensures c.decls.ensures c.in_ok-inputs.ensures.spelled;
+      reads = of_inputs text parsed typed kept same c.args.input.now c.dialect.result (declared c.decls.result.now) (spells environment)
+          c.dialect.ensures c.decls.ensures c.in_ok-inputs.ensures.spelled;
       opened = c.in_ok-with.ensures.opened;
       means = of_program text parsed typed kept same (λ text program. NetworkMeans text program environment states edges)
           (subst (λ (typed : TypedProgram). NetworkMeans (typed_text typed) (typed_tree typed) environment states edges) c.in_ok-plan.ensures.program c.in_ok-with.ensures.means);

@@ -21,6 +21,7 @@ returns c =
       environment = environment;
       parses = c.in_ok-program.ensures.right;
       types = of_text text parsed typed kept same c.in_ok-typed.ensures.typed;
-      reads = of_inputs text parsed typed kept same c.args.input.now c.dialect.result (declared c.decls.result.now) (spells environment) c.dialect.ensures c.decls.ensures c.in_ok-inputs.ensures.spelled;
+      reads = of_inputs text parsed typed kept same c.args.input.now c.dialect.result (declared c.decls.result.now) (spells environment)
+          c.dialect.ensures c.decls.ensures c.in_ok-inputs.ensures.spelled;
       answers = of_program text parsed typed kept same (λ text program. IsAnswer c.in_ok-plain.field-0 (program_value text program environment)) c.in_ok-plain.ensures.exact;
     }

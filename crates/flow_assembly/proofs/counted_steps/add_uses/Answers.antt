@@ -24,6 +24,7 @@ returns-in_err-add_use c =
     let is = c.from_residual.ensures.1 in
     record {
       counted = none_done _ r no;
-      big = λ e. reads_big c.args.reads.now c.loop-stream.stream-index c.loop-stream.uses.items c.args.uses.now.items c.loop-stream-test.true c.loop-stream.invariant (c.in_err-add_use.ensures.big (passed_on r x TooBig is e));
+      big = λ e. reads_big c.args.reads.now c.loop-stream.stream-index c.loop-stream.uses.items c.args.uses.now.items c.loop-stream-test.true
+          c.loop-stream.invariant (c.in_err-add_use.ensures.big (passed_on r x TooBig is e));
       memory = same_error _ r x is c.in_err-add_use.ensures.memory;
     }

@@ -20,7 +20,8 @@ loop-port-preserved c =
     let pushed = c.in_ok-push.ensures.items in
     record {
       count = omega (arith, ap length pushed, length_push c.loop-port.kinds.items c.kind_out.result, c.loop-port.invariant.count);
-      kinds = one_more c.loop-port.kinds.items c.push.new.self.items c.kind_out.result c.loop-port.port (node_behaviour.kind_out (state_of c.args.node.now)) pushed c.loop-port.invariant.count c.kind_out.ensures c.loop-port.invariant.kinds;
+      kinds = one_more c.loop-port.kinds.items c.push.new.self.items c.kind_out.result c.loop-port.port
+          (node_behaviour.kind_out (state_of c.args.node.now)) pushed c.loop-port.invariant.count c.kind_out.ensures c.loop-port.invariant.kinds;
     }
 
 pub returns : goal.returns

@@ -17,13 +17,19 @@ put_ints-requires-clause-kind g c = subst (TakesKind ((g.E.Ends.view c.args.ends
 
 -- what was written is put
 pub returns-in-Unit-clause-put : goal.returns-in-Unit-clause-put
-returns-in-Unit-clause-put g c = let view = g.E.Ends.view in subst (λ k. PutAll (view c.args.ends.now) c.args.edge (written_signals c.args.block.now c.args.moved k) (view c.put_units.new.self)) (sym c.in-Unit.is) c.put_units.ensures.put
+returns-in-Unit-clause-put g c = let view = g.E.Ends.view in
+    subst (λ k. PutAll (view c.args.ends.now) c.args.edge (written_signals c.args.block.now c.args.moved k) (view c.put_units.new.self))
+    (sym c.in-Unit.is) c.put_units.ensures.put
 
 pub returns-in-Bool-clause-put : goal.returns-in-Bool-clause-put
-returns-in-Bool-clause-put g c = let view = g.E.Ends.view in subst (λ k. PutAll (view c.args.ends.now) c.args.edge (written_signals c.args.block.now c.args.moved k) (view c.put_flags.new.self)) (sym c.in-Bool.is) c.put_flags.ensures.put
+returns-in-Bool-clause-put g c = let view = g.E.Ends.view in
+    subst (λ k. PutAll (view c.args.ends.now) c.args.edge (written_signals c.args.block.now c.args.moved k) (view c.put_flags.new.self))
+    (sym c.in-Bool.is) c.put_flags.ensures.put
 
 pub returns-in-Int-clause-put : goal.returns-in-Int-clause-put
-returns-in-Int-clause-put g c = let view = g.E.Ends.view in subst (λ k. PutAll (view c.args.ends.now) c.args.edge (written_signals c.args.block.now c.args.moved k) (view c.put_ints.new.self)) (sym c.in-Int.is) c.put_ints.ensures.put
+returns-in-Int-clause-put g c = let view = g.E.Ends.view in
+    subst (λ k. PutAll (view c.args.ends.now) c.args.edge (written_signals c.args.block.now c.args.moved k) (view c.put_ints.new.self))
+    (sym c.in-Int.is) c.put_ints.ensures.put
 
 -- a vector is never written along slices
 pub returns-in-Vec-clause-put : goal.returns-in-Vec-clause-put

@@ -26,7 +26,9 @@ put_on-requires-clause-kind g c =
     let port = c.loop-port.port in
     let to = edge_of c.args.outputs.now port in
     let kind = g.W.Worker.machine.kind_out (g.W.Worker.state c.args.worker.now).0 port in
-    subst (TakesKind ((view c.loop-port.ends).kind to)) (sym c.kind_out.ensures) (takes_still (view c.args.ends.now) (view c.loop-port.ends) to kind c.loop-port.invariant.put.ends (c.requires.kinds port c.loop-port-test.true))
+    subst (TakesKind ((view c.loop-port.ends).kind to)) (sym c.kind_out.ensures)
+    (takes_still (view c.args.ends.now) (view c.loop-port.ends) to kind c.loop-port.invariant.put.ends
+    (c.requires.kinds port c.loop-port-test.true))
 
 pub put_on-requires-clause-room : goal.put_on-requires-clause-room
 put_on-requires-clause-room g c =

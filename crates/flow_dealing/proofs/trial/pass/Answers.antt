@@ -5,7 +5,8 @@ use Rattle.flow_dealing.proofs.trial.pass.Goals as goal
 
 pub returns-in_err-moved-clause-shape : goal.returns-in_err-moved-clause-shape
 returns-in_err-moved-clause-shape g c =
-    shape_then g.E.Ends.same g.E.Ends.view g.met.E.Ends.same_trans c.args.graph.now c.args.ends.now c.loop-node.graph c.loop-node.ends c.visit.new.self c.visit.new.ends c.loop-node.invariant.shape c.visit.ensures.shape
+    shape_then g.E.Ends.same g.E.Ends.view g.met.E.Ends.same_trans c.args.graph.now c.args.ends.now c.loop-node.graph c.loop-node.ends
+    c.visit.new.self c.visit.new.ends c.loop-node.invariant.shape c.visit.ensures.shape
 
 pub loop-node-preserved : goal.loop-node-preserved
 loop-node-preserved g c =

@@ -44,4 +44,5 @@ invariant_of-gathered g c =
 pub returns-clause-run : goal.returns-clause-run
 returns-clause-run g c =
     let b = g.T.Transducer.behaviour in
-    subst (λ n. EndsMaximalRun b n (states_of c.args.graph) (edges_of c.args.graph) (states_of c.run_serial.new.graph) (ends_of c.run_serial.new.ends)) c.in_ok-ends.ensures.capacity c.in_ok-run_serial.ensures.run
+    subst (λ n. EndsMaximalRun b n (states_of c.args.graph) (edges_of c.args.graph) (states_of c.run_serial.new.graph)
+    (ends_of c.run_serial.new.ends)) c.in_ok-ends.ensures.capacity c.in_ok-run_serial.ensures.run

@@ -16,15 +16,39 @@ run_dealt-requires g c κs within =
     let threads = c.args.config.now.threads in
     let graph = dealt_graph origin.graph.value threads origin.share.items origin.capacity dealt made.dealt in
     let fed = dealt_fed origin.graph.value threads origin.share.items origin.capacity dealt made.dealt in
-    let none = dealt_none origin.graph.value threads origin.share.items origin.capacity dealt made.dealt in
-    (within.0, (within.1.0, (within.1.1.0, (within.1.1.1, (bounds.static-T, (bounds.static-G, (bounds.send-T, (bounds.send-G, (bounds.sync-G, (lawful, (made.origin, (made.dealt.owners, (made.dealt.skeleton, (graph, (fed, none)))))))))))))))
+    let none = dealt_none origin.graph.value threads origin.share.items origin.capacity dealt made.dealt in (
+      within.0,
+      (
+        within.1.0,
+        (
+          within.1.1.0,
+          (
+            within.1.1.1,
+            (
+              bounds.static-T,
+              (
+                bounds.static-G,
+                (
+                  bounds.send-T,
+                  (
+                    bounds.send-G,
+                    (bounds.sync-G, (lawful, (made.origin, (made.dealt.owners, (made.dealt.skeleton, (graph, (fed, none))))))),
+                  ),
+                ),
+              ),
+            ),
+          ),
+        ),
+      ),
+    )
 
 pub returns-clause-led : goal.returns-clause-led
 returns-clause-led g c =
     let origin = c.in_ok-origin.origin in
     let made = c.in_ok-origin.ensures in
     made_so c.run_dealt.result
-    (λ rested. led_in_epochs c.args.graph origin.graph.value c.args.config.now origin.share.items origin.capacity c.requires.lawful rested made.graph made.share made.capacity c.in_ok-origin.dealt made.dealt)
+    (λ rested. led_in_epochs c.args.graph origin.graph.value c.args.config.now origin.share.items origin.capacity c.requires.lawful rested made.graph
+    made.share made.capacity c.in_ok-origin.dealt made.dealt)
     c.run_dealt.ensures.led
 
 pub returns-clause-share : goal.returns-clause-share
@@ -36,4 +60,5 @@ returns-clause-shares g c = subst (λ n. IfOk c.run_dealt.result (λ rested. res
 pub returns-clause-asked : goal.returns-clause-asked
 returns-clause-asked g c =
     let asked = g.S.Start.asked in
-    subst (λ n. IfOk c.run_dealt.result (λ rested. AskedAtEach (rested_epochs rested) n (asked c.args.start.now) (asked c.run_dealt.new.start))) c.in_ok-origin.ensures.dealt.count c.run_dealt.ensures.asked
+    subst (λ n. IfOk c.run_dealt.result (λ rested. AskedAtEach (rested_epochs rested) n (asked c.args.start.now) (asked c.run_dealt.new.start)))
+    c.in_ok-origin.ensures.dealt.count c.run_dealt.ensures.asked

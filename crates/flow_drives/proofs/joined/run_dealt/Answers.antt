@@ -18,12 +18,36 @@ run_epochs-requires g c κs within =
     let bounds = c.requires.1.1.1.1 in
     let clauses = bounds.1.1.1.1.1 in
     let lawful = clauses.0 in
-    let owners = subst (λ w. AreOwners g.network.share g.network.edges w) (sym c.deref.ensures.value) clauses.1.1.0 in
-    (within.0, (within.1.0, (within.1.1.0, (within.1.1.1, (bounds.0, (bounds.1.0, (bounds.1.1.0, (bounds.1.1.1.0, (bounds.1.1.1.1.0, (lawful.chunk.some, (lawful.idle.some, (owners, (clauses.1.1.1.1.0, clauses.1.1.1.1.1.0)))))))))))))
+    let owners = subst (λ w. AreOwners g.network.share g.network.edges w) (sym c.deref.ensures.value) clauses.1.1.0 in (
+      within.0,
+      (
+        within.1.0,
+        (
+          within.1.1.0,
+          (
+            within.1.1.1,
+            (
+              bounds.0,
+              (
+                bounds.1.0,
+                (
+                  bounds.1.1.0,
+                  (
+                    bounds.1.1.1.0,
+                    (bounds.1.1.1.1.0, (lawful.chunk.some, (lawful.idle.some, (owners, (clauses.1.1.1.1.0, clauses.1.1.1.1.1.0))))),
+                  ),
+                ),
+              ),
+            ),
+          ),
+        ),
+      ),
+    )
 
 pub places_of-requires : goal.places_of-requires
 places_of-requires g c κs within =
-    let deals : AreDealt g.network.share g.network.nodes (nodes_in c.deref-2.result.now) = subst (λ l. AreDealt g.network.share g.network.nodes (nodes_in l)) (sym c.deref-2.ensures.value) c.in_ok-shares.ensures.graph.deals in
+    let deals : AreDealt g.network.share g.network.nodes (nodes_in c.deref-2.result.now) =
+    subst (λ l. AreDealt g.network.share g.network.nodes (nodes_in l)) (sym c.deref-2.ensures.value) c.in_ok-shares.ensures.graph.deals in
     search rules
 
 pub invariant_of-apart : goal.invariant_of-apart
@@ -37,7 +61,8 @@ invariant_of-apart g c =
     let known = subst (λ l. AreThePlaces g.network l places) c.deref-2.ensures.value c.in_ok-places.ensures in
     let fed : AreFed shares = made.fed in
     record {
-      rest = rest_apart laws refl g.network shares made.graph places known c.args.origin.share.items (edges_in c.args.dealt.skeleton) c.args.origin.capacity origin.share skeleton origin.capacity origin.named fed made.sound made.rest made.met;
+      rest = rest_apart laws refl g.network shares made.graph places known c.args.origin.share.items (edges_in c.args.dealt.skeleton)
+          c.args.origin.capacity origin.share skeleton origin.capacity origin.named fed made.sound made.rest made.met;
     }
 
 pub returns-clause-network : goal.returns-clause-network
@@ -62,7 +87,8 @@ returns-clause-least g c =
     let known = subst (λ l. AreThePlaces g.network l places) c.deref-2.ensures.value c.in_ok-places.ensures in
     let none = c.requires.1.1.1.1.1.1.1.1.1.1.1.1.1.1.1 in
     let count = c.in_ok-shares.count in
-    moved_apart laws refl g.network shares made.graph places known c.args.origin.share.items (edges_in c.args.dealt.skeleton) c.args.origin.capacity origin.share skeleton origin.capacity (λ n. 0 < n → 0 < count)
+    moved_apart laws refl g.network shares made.graph places known c.args.origin.share.items (edges_in c.args.dealt.skeleton) c.args.origin.capacity
+    origin.share skeleton origin.capacity (λ n. 0 < n → 0 < count)
     (λ some. made.least (subst (λ n. n < moved_in g.network shares) (sym none) some))
 
 pub returns-clause-most : goal.returns-clause-most
@@ -75,7 +101,8 @@ returns-clause-most g c =
     let places = c.in_ok-places.places.items in
     let known = subst (λ l. AreThePlaces g.network l places) c.deref-2.ensures.value c.in_ok-places.ensures in
     let count = c.in_ok-shares.count in
-    moved_apart laws refl g.network shares made.graph places known c.args.origin.share.items (edges_in c.args.dealt.skeleton) c.args.origin.capacity origin.share skeleton origin.capacity (λ n. count ≤ n)
+    moved_apart laws refl g.network shares made.graph places known c.args.origin.share.items (edges_in c.args.dealt.skeleton) c.args.origin.capacity
+    origin.share skeleton origin.capacity (λ n. count ≤ n)
     (part_of count (moved_in g.network c.args.dealt.shares.items) _ made.most)
 
 pub returns-clause-led : goal.returns-clause-led

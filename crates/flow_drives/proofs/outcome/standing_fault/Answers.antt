@@ -36,7 +36,9 @@ loop-node-preserved g c =
     ]
 
 -- what is known of all nodes
-all_known : {State Message : Type 0} (P : Rattle.kahn.specs.Processes.Process State Message) (net : Rattle.kahn.specs.Networks.Network State) (c : Rattle.kahn.specs.Configurations.Configuration State Message) (standing : Option Fault) → Stands (λ k. P.want (c.state k)) net.nodes standing → MatchOption standing (NoneFaulted P net c) (λ fault. NamesFault P net c fault)
+all_known : {State Message : Type 0} (P : Rattle.kahn.specs.Processes.Process State Message) (net : Rattle.kahn.specs.Networks.Network State)
+    (c : Rattle.kahn.specs.Configurations.Configuration State Message) (standing : Option Fault) → Stands (λ k. P.want (c.state k)) net.nodes standing
+    → MatchOption standing (NoneFaulted P net c) (λ fault. NamesFault P net c fault)
 all_known P net c None none = λ k inside f is. none k f inside is
 all_known P net c (Some f) below = names_from P net 0 c f below
 

@@ -20,8 +20,25 @@ run_rounds-requires g c κs within =
     let bounds = c.requires.1.1.1.1 in
     let clauses = bounds.1.1.1.1.1 in
     let lawful = clauses.0 in
-    let owners = subst (λ w. AreOwners g.network.share g.network.edges w) (sym c.deref.ensures.value) clauses.1.1.0 in
-    (within.0, (within.1.0, (within.1.1.0, (within.1.1.1, (bounds.0, (bounds.1.0, (bounds.1.1.0, (bounds.1.1.1.0, (bounds.1.1.1.1.0, (lawful.chunk.some, (lawful.idle.some, (owners, clauses.1.1.1.1.0))))))))))))
+    let owners = subst (λ w. AreOwners g.network.share g.network.edges w) (sym c.deref.ensures.value) clauses.1.1.0 in (
+      within.0,
+      (
+        within.1.0,
+        (
+          within.1.1.0,
+          (
+            within.1.1.1,
+            (
+              bounds.0,
+              (
+                bounds.1.0,
+                (bounds.1.1.0, (bounds.1.1.1.0, (bounds.1.1.1.1.0, (lawful.chunk.some, (lawful.idle.some, (owners, clauses.1.1.1.1.0)))))),
+              ),
+            ),
+          ),
+        ),
+      ),
+    )
 
 pub invariant_of-gathered : goal.invariant_of-gathered
 invariant_of-gathered g c =
@@ -58,7 +75,8 @@ returns-clause-least g c =
     let count = c.in_ok-shares.count in
     let taken = ap (λ ends. ends.items) c.new-shared.ensures.ends ∙ c.in_ok-graph.ensures.ends in
     let rest = come_to_rest g.network shares c.in_ok-shares.ensures.rest (states_of graph) c.in_ok-graph.ensures.states shared.ends.items taken in
-    boxes_moved g.network graph shared c.in_ok-graph.ensures.network rest (ap (λ share. share.items) c.new-shared.ensures.share ∙ origin.share) (c.new-shared.ensures.capacity ∙ origin.capacity) (λ n. 0 < n → 0 < count)
+    boxes_moved g.network graph shared c.in_ok-graph.ensures.network rest (ap (λ share. share.items) c.new-shared.ensures.share ∙ origin.share)
+    (c.new-shared.ensures.capacity ∙ origin.capacity) (λ n. 0 < n → 0 < count)
     (subst (λ v. 0 < moves_by g.network (views_of v) → 0 < count) (sym (seen_is shares shared.ends.items taken)) (λ some. c.in_ok-shares.ensures.least (omega (arith, none, some))))
 
 pub returns-clause-most : goal.returns-clause-most
@@ -70,7 +88,8 @@ returns-clause-most g c =
     let count = c.in_ok-shares.count in
     let taken = ap (λ ends. ends.items) c.new-shared.ensures.ends ∙ c.in_ok-graph.ensures.ends in
     let rest = come_to_rest g.network shares c.in_ok-shares.ensures.rest (states_of graph) c.in_ok-graph.ensures.states shared.ends.items taken in
-    boxes_moved g.network graph shared c.in_ok-graph.ensures.network rest (ap (λ share. share.items) c.new-shared.ensures.share ∙ origin.share) (c.new-shared.ensures.capacity ∙ origin.capacity) (λ n. count ≤ n)
+    boxes_moved g.network graph shared c.in_ok-graph.ensures.network rest (ap (λ share. share.items) c.new-shared.ensures.share ∙ origin.share)
+    (c.new-shared.ensures.capacity ∙ origin.capacity) (λ n. count ≤ n)
     (subst (λ v. count ≤ moves_by g.network (views_of v)) (sym (seen_is shares shared.ends.items taken)) (omega (arith, c.in_ok-shares.ensures.most)))
 
 pub returns-clause-led : goal.returns-clause-led
@@ -84,7 +103,8 @@ returns-clause-led g c =
     record {
       last = shares;
       lead = c.in_ok-shares.ensures.rounds;
-      nodes = have_states g.network graph shared c.in_ok-graph.ensures.network (ap (λ share. share.items) c.new-shared.ensures.share ∙ origin.share) (c.new-shared.ensures.capacity ∙ origin.capacity) shares deals (c.in_ok-graph.ensures.states deals);
+      nodes = have_states g.network graph shared c.in_ok-graph.ensures.network (ap (λ share. share.items) c.new-shared.ensures.share ∙ origin.share)
+          (c.new-shared.ensures.capacity ∙ origin.capacity) shares deals (c.in_ok-graph.ensures.states deals);
       traffic = ap (λ ends. traffic_by view_of shared.share.items (edges_of graph) ends) taken;
     }
 

@@ -33,10 +33,12 @@ loop-place-preserved c =
     let elements = loop.elements in
     let small : to_z w64 elements ≡ pos elements = search rules in
     let flags : take (loop.place + 1) bs ≡ take loop.place bs ++ true ∷ [] = take_more bs loop.place false c.loop-place-test.true ∙ ap (λ b. take loop.place bs ++ b ∷ []) c.if-not-flags-place.false in
-    let lengths : take (ended + 1) (set loop.lengths ended (to_z w64 elements)) ≡ take ended loop.lengths ++ pos elements ∷ [] = take_more_set loop.lengths ended (to_z w64 elements) (omega arith) ∙ ap (λ k. take ended loop.lengths ++ k ∷ []) small in
+    let lengths : take (ended + 1) (set loop.lengths ended (to_z w64 elements)) ≡ take ended loop.lengths ++ pos elements ∷ [] =
+    take_more_set loop.lengths ended (to_z w64 elements) (omega arith) ∙ ap (λ k. take ended loop.lengths ++ k ∷ []) small in
     let more = end_more n elements (take loop.place bs) (take ended loop.lengths) inv.along in
     record {
       most = omega (arith, inv.most, c.if-ended-most.false);
       range = omega arith;
-      along = subst (λ l. LengthsAlong n l (take (ended + 1) (set loop.lengths ended (to_z w64 elements))) 0) (sym flags) (subst (λ l. LengthsAlong n (take loop.place bs ++ true ∷ []) l 0) (sym lengths) more);
+      along = subst (λ l. LengthsAlong n l (take (ended + 1) (set loop.lengths ended (to_z w64 elements))) 0) (sym flags)
+          (subst (λ l. LengthsAlong n (take loop.place bs ++ true ∷ []) l 0) (sym lengths) more);
     }

@@ -23,5 +23,8 @@ loop-place-preserved c = λ dialect.
     let held = to_z w128 c.loop-place.greatest-bits in
     let greatest = c.greater-greatest.result in
     let back_greatest : to_z w128 (of_z w128 greatest) ≡ greatest = search rules in
-    let step : reduced_more dialect Max (Some (Int held)) (Int x) ≡ Ok (Some (Int greatest)) = ap (λ k. Ok (Some (Int (if int_lt held k then k else held)))) (sym back) ∙ ap (λ k. Ok (Some (Int k))) (sym c.greater-greatest.ensures) in
-    ap (reduction_of_ints dialect Max (Some (Int before))) block ∙ one_int_more dialect Max (Some (Int before)) (Some (Int held)) (Some (Int greatest)) (take place xs) x (c.loop-place.invariant dialect) step ∙ ap (λ k. Ok (Some (Int k))) (sym back_greatest)
+    let step : reduced_more dialect Max (Some (Int held)) (Int x) ≡ Ok (Some (Int greatest)) =
+    ap (λ k. Ok (Some (Int (if int_lt held k then k else held)))) (sym back) ∙ ap (λ k. Ok (Some (Int k))) (sym c.greater-greatest.ensures) in
+    ap (reduction_of_ints dialect Max (Some (Int before))) block
+    ∙ one_int_more dialect Max (Some (Int before)) (Some (Int held)) (Some (Int greatest)) (take place xs) x (c.loop-place.invariant dialect) step
+    ∙ ap (λ k. Ok (Some (Int k))) (sym back_greatest)

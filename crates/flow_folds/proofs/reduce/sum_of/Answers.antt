@@ -27,4 +27,6 @@ loop-place-preserved c =
     let back_more : to_z w128 (of_z w128 more) ≡ more = search rules in
     let step : reduced_more dialect Sum (Some (Int reached)) (Int x) ≡ Ok (Some (Int more)) =
     ap (λ k. some_of (an_integer (ranged dialect (reached +ℤ k)))) (sym back) ∙ ap (λ r. some_of (an_integer r)) (sym c.in-Ok.ensures) in
-    ap (reduction_of_ints dialect Sum (Some (Int total))) block ∙ one_int_more dialect Sum (Some (Int total)) (Some (Int reached)) (Some (Int more)) (take place xs) x c.loop-place.invariant step ∙ ap (λ k. Ok (Some (Int k))) (sym back_more)
+    ap (reduction_of_ints dialect Sum (Some (Int total))) block
+    ∙ one_int_more dialect Sum (Some (Int total)) (Some (Int reached)) (Some (Int more)) (take place xs) x c.loop-place.invariant step
+    ∙ ap (λ k. Ok (Some (Int k))) (sym back_more)

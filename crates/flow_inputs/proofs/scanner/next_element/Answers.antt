@@ -19,4 +19,5 @@ returns-in-Ok-clause-first c =
     let mark = sym c.in-Comma.is ∙ c.sign_mark.ensures in
     let comma = ap (λ m. Some (record { mark = m; end = at + 1 })) mark ∙ sign_found text at (omega arith) (λ other. let no : Comma ≡ Other = mark ∙ other in cc) in
     element_left text c.args.way.now c.args.leaf at c.args.state (to_z w64 (of_z w64 narrow)) c.in-Some.found c.in-Ints-Behind.is-0 c.in-Ints-Behind.is-1 (omega arith)
-    (sym c.made.ensures ∙ c.in-Some-Elements.is ∙ ap Some c.in-Some-Elements.field-0-is) (sym c.step_at.ensures.step ∙ c.in-None.is) comma c.in-Some.ensures.next (c.in-Number.is ∙ ap Number (sym back))
+    (sym c.made.ensures ∙ c.in-Some-Elements.is ∙ ap Some c.in-Some-Elements.field-0-is) (sym c.step_at.ensures.step ∙ c.in-None.is) comma
+    c.in-Some.ensures.next (c.in-Number.is ∙ ap Number (sym back))

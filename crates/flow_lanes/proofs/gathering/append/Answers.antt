@@ -12,7 +12,8 @@ pub loop-at-preserved : goal.loop-at-preserved
 loop-at-preserved g c =
     let inv = c.loop-at.invariant in
     record {
-      items = appended c.args.items.now.items c.args.more.now c.loop-at.items.items c.push_reserved.new.self.items c.loop-at.at c.index-more-at.result c.loop-at-test.true inv.items c.push_reserved.ensures.items c.index-more-at.is;
+      items = appended c.args.items.now.items c.args.more.now c.loop-at.items.items c.push_reserved.new.self.items c.loop-at.at c.index-more-at.result
+          c.loop-at-test.true inv.items c.push_reserved.ensures.items c.index-more-at.is;
       capacity = c.push_reserved.ensures.capacity ∙ inv.capacity;
     }
 

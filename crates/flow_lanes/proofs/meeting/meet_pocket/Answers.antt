@@ -20,7 +20,14 @@ gather-requires c =
     record {
       edge = met.pair;
       fifo = met.fifo;
-      room = omega (arith, bound w p c.meet.new.writer c.meet.new.reader met.writer.1 met.reader.1 met.fifo c.settle-reader.new.back b.begins (b.told (length (received_of p.inbox)) p.owes), w.places, c.put_out.ensures.edge.1, c.requires.places);
+      room = omega (
+        arith,
+        bound w p c.meet.new.writer c.meet.new.reader met.writer.1 met.reader.1 met.fifo c.settle-reader.new.back b.begins
+            (b.told (length (received_of p.inbox)) p.owes),
+        w.places,
+        c.put_out.ensures.edge.1,
+        c.requires.places,
+      );
     }
 
 pub overflow_sub-writer : goal.overflow_sub-writer
@@ -30,7 +37,13 @@ overflow_sub-writer c =
     let met = c.meet.ensures in
     let b = c.settle-reader.ensures in
     let count = come_length (certain_held c.meet.new.reader) p.inbox c.gather.new.inbox c.gather.ensures.come in
-    omega (arith, c.len-count.ensures, count, bound w p c.meet.new.writer c.meet.new.reader met.writer.1 met.reader.1 met.fifo c.settle-reader.new.back b.begins (b.told (length (received_of p.inbox)) p.owes))
+    omega (
+      arith,
+      c.len-count.ensures,
+      count,
+      bound w p c.meet.new.writer c.meet.new.reader met.writer.1 met.reader.1 met.fifo c.settle-reader.new.back b.begins
+          (b.told (length (received_of p.inbox)) p.owes),
+    )
 
 pub invariant_of-writer : goal.invariant_of-writer
 invariant_of-writer c =
@@ -46,7 +59,15 @@ invariant_of-writer c =
       closed = λ _. none;
       places = c.gather.ensures.writer.0.1 ∙ met.writer.0.1 ∙ w.places;
       limit = w.limit;
-      within = omega (arith, none, c.len-count.ensures, count, ap length c.gather.ensures.writer.1, within w p c.meet.new.writer c.meet.new.reader met.writer.1 met.reader.1 met.fifo c.settle-reader.new.back b.begins (b.told (length (received_of p.inbox)) p.owes));
+      within = omega (
+        arith,
+        none,
+        c.len-count.ensures,
+        count,
+        ap length c.gather.ensures.writer.1,
+        within w p c.meet.new.writer c.meet.new.reader met.writer.1 met.reader.1 met.fifo c.settle-reader.new.back b.begins
+            (b.told (length (received_of p.inbox)) p.owes),
+      );
     }
 
 pub invariant_of-reader-2 : goal.invariant_of-reader-2
@@ -70,7 +91,15 @@ returns-clause-room c =
     let met = c.meet.ensures in
     let b = c.settle-reader.ensures in
     let count = come_length (certain_held c.meet.new.reader) p.inbox c.gather.new.inbox c.gather.ensures.come in
-    omega (arith, c.put_out.ensures.room.0, c.put_out.ensures.room.1, c.len-count.ensures, count, bound w p c.meet.new.writer c.meet.new.reader met.writer.1 met.reader.1 met.fifo c.settle-reader.new.back b.begins (b.told (length (received_of p.inbox)) p.owes))
+    omega (
+      arith,
+      c.put_out.ensures.room.0,
+      c.put_out.ensures.room.1,
+      c.len-count.ensures,
+      count,
+      bound w p c.meet.new.writer c.meet.new.reader met.writer.1 met.reader.1 met.fifo c.settle-reader.new.back b.begins
+          (b.told (length (received_of p.inbox)) p.owes),
+    )
 
 pub returns-clause-edge : goal.returns-clause-edge
 returns-clause-edge c =
@@ -94,7 +123,8 @@ returns-clause-held c =
     let p = c.args.reader.now in
     let known = certain_held c.meet.new.reader in
     let rest = certain_held c.gather.new.reader in
-    filled (content_of p.inbox.store) (content_of c.gather.new.inbox.store) known (certain_held p.edge) rest (prefix-more (certain_held p.edge) known rest c.meet.ensures.looked.1) c.gather.ensures.come.held
+    filled (content_of p.inbox.store) (content_of c.gather.new.inbox.store) known (certain_held p.edge) rest
+    (prefix-more (certain_held p.edge) known rest c.meet.ensures.looked.1) c.gather.ensures.come.held
 
 pub returns-clause-fifo : goal.returns-clause-fifo
 returns-clause-fifo c =
@@ -121,4 +151,13 @@ returns-clause-whole c =
     let met = c.meet.ensures in
     let b = c.settle-reader.ensures in
     let count = come_length (certain_held c.meet.new.reader) p.inbox c.gather.new.inbox c.gather.ensures.come in
-    omega (arith, c.len-count.ensures, count, w.places, met.writer.0.1, c.gather.ensures.writer.0.1, bound w p c.meet.new.writer c.meet.new.reader met.writer.1 met.reader.1 met.fifo c.settle-reader.new.back b.begins (b.told (length (received_of p.inbox)) p.owes))
+    omega (
+      arith,
+      c.len-count.ensures,
+      count,
+      w.places,
+      met.writer.0.1,
+      c.gather.ensures.writer.0.1,
+      bound w p c.meet.new.writer c.meet.new.reader met.writer.1 met.reader.1 met.fifo c.settle-reader.new.back b.begins
+          (b.told (length (received_of p.inbox)) p.owes),
+    )

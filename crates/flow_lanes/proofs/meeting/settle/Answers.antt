@@ -20,7 +20,15 @@ returns-clause-told c taken o below =
     let last = c.hear-2.new.teller in
     let owes : Owes taken c.args.owed heard = owes_still taken c.args.owed c.args.teller.now heard c.hear.ensures.teller c.hear.ensures.sent o in
     let some : 0 < certain_room heard = omega (arith, owes.places, c.hear.ensures.room) in
-    let few : c.args.owed < 2 ^ 64 - 1 = omega (arith, below, owes.told, owes.rest, credit-prefix (received c.args.back.now) (received c.hear.new.back) c.hear.ensures.begins, ap credit c.hear.ensures.heard) in
+    let few : c.args.owed < 2 ^ 64 - 1 =
+    omega (
+      arith,
+      below,
+      owes.told,
+      owes.rest,
+      credit-prefix (received c.args.back.now) (received c.hear.new.back) c.hear.ensures.begins,
+      ap credit c.hear.ensures.heard,
+    ) in
     let none = c.tell-owed.ensures.told taken owes some few in
     let rest : Owes taken 0 told = subst (λ n. Owes taken n told) none (c.tell-owed.ensures.owes taken owes) in
     ap credit c.hear-2.ensures.heard ∙ all_told taken last (owes_still taken 0 told last c.hear-2.ensures.teller c.hear-2.ensures.sent rest)

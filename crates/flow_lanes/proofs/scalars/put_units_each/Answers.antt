@@ -17,7 +17,10 @@ pub loop-init : goal.loop-init
 loop-init c = record { same = (refl, refl); put = followed_none _; room = omega arith }
 
 pub put-requires : goal.put-requires
-put-requires c = record { fits = subst (λ of. FitsEdge of (signal_of (ItemMsg UnitItem))) (sym (same_kind c.args.edge.now c.loop.edge c.loop.invariant.same)) (kind_fits (kind_of c.args.edge.now) UnitKind (signal_of (ItemMsg UnitItem)) c.requires.takes refl) }
+put-requires c = record {
+  fits = subst (λ of. FitsEdge of (signal_of (ItemMsg UnitItem))) (sym (same_kind c.args.edge.now c.loop.edge c.loop.invariant.same))
+      (kind_fits (kind_of c.args.edge.now) UnitKind (signal_of (ItemMsg UnitItem)) c.requires.takes refl);
+}
 
 pub loop-preserved : goal.loop-preserved
 loop-preserved c =
@@ -27,10 +30,13 @@ loop-preserved c =
     let v = c.loop.edge in
     let w = c.put.new.self in
     let one = c.put.ensures in
-    let now = followed_one (sent v) (sent w) (ItemMsg UnitItem) (certain_room v) (certain_room w) c.put.result (omega (arith, inv.room, c.requires.certain, c.loop-test.true)) one.ok one.refused one.closed one.succeeds in
+    let now = followed_one (sent v) (sent w) (ItemMsg UnitItem) (certain_room v) (certain_room w) c.put.result
+    (omega (arith, inv.room, c.requires.certain, c.loop-test.true)) one.ok one.refused one.closed one.succeeds in
     record {
       same = (one.same.0 ∙ inv.same.0, one.same.1 ∙ inv.same.1);
-      put = now.0 ∙ ap (λ l. followed_unless_ended l (ItemMsg UnitItem ∷ [])) inv.put ∙ followed_more (sent old) (unit_messages i) (ItemMsg UnitItem ∷ []) (units-ended UnitItem i) ∙ ap (followed_unless_ended (sent old)) (units_next i);
+      put = now.0 ∙ ap (λ l. followed_unless_ended l (ItemMsg UnitItem ∷ [])) inv.put
+          ∙ followed_more (sent old) (unit_messages i) (ItemMsg UnitItem ∷ []) (units-ended UnitItem i)
+          ∙ ap (followed_unless_ended (sent old)) (units_next i);
       room = omega (arith, inv.room, now.1);
     }
 

@@ -13,7 +13,9 @@ loop-preserved c =
     let inv = c.loop.invariant in
     let now = c.take.ensures.same in
     let old = c.args.reader.now in
-    let more = drained (received old) (received c.loop.reader) (received c.take.new.self) (certain_held old) (certain_held c.loop.reader) (certain_held c.take.new.self) c.loop.counter c.take.result (omega (arith, c.loop-test.true, c.requires)) inv.taken inv.ahead c.take.ensures.some c.take.ensures.succeeds in
+    let more = drained (received old) (received c.loop.reader) (received c.take.new.self) (certain_held old) (certain_held c.loop.reader)
+    (certain_held c.take.new.self) c.loop.counter c.take.result (omega (arith, c.loop-test.true, c.requires)) inv.taken inv.ahead
+    c.take.ensures.some c.take.ensures.succeeds in
     record { same = (now.0 ∙ inv.same.0, now.1 ∙ inv.same.1); taken = more.0; ahead = more.1 }
 
 pub returns-clause-same : goal.returns-clause-same

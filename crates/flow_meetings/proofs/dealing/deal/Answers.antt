@@ -53,7 +53,8 @@ returns g c =
       nodes = subst (λ ns. AreJustDealt share ns (nodes_in shares)) c.take_apart-nodes.ensures.nodes (subst (λ dealt. AreJustDealt share nodes dealt) (sym made.nodes) c.in_ok-nodes.ensures.dealt);
       skeleton = c.take_apart-nodes.ensures.edges;
       owners = subst (λ es. AreOwners share es owners) (c.edges.ensures ∙ c.take_apart-nodes.ensures.edges) c.in_ok-owners.ensures;
-      ends = fresh_as view g.E.Meeting.joins g.E.Meeting.slots c.args.capacity {ks' = kinds} c.deref.ensures.value (c.deref-2.ensures.value ∙ c.in_ok-kinds.ensures) (sym made.ends) c.in_ok-ends.ensures.opened;
+      ends = fresh_as view g.E.Meeting.joins g.E.Meeting.slots c.args.capacity {ks' = kinds} c.deref.ensures.value
+          (c.deref-2.ensures.value ∙ c.in_ok-kinds.ensures) (sym made.ends) c.in_ok-ends.ensures.opened;
     }
 
 pub returns-in_err-kinds : goal.returns-in_err-kinds

@@ -16,14 +16,30 @@ loop-nodes-preserved g c =
     let ends : c.loop-nodes.ends.rest.items ≡ c.in-Some-next.ends ∷ c.next-in-loop-nodes.new.self.rest.items = search rules in
     record {
       fit = search rules;
-      nodes = one_more (λ share. share.nodes.items) shares later share (lists_in c.loop-nodes.nodes-iterator.rest.items) (lists_in c.next.new.self.rest.items) c.in-Some.nodes.items (lists_in c.args.nodes.items)
+      nodes = one_more (λ share. share.nodes.items) shares later share (lists_in c.loop-nodes.nodes-iterator.rest.items)
+          (lists_in c.next.new.self.rest.items) c.in-Some.nodes.items (lists_in c.args.nodes.items)
           pushed (ap lists_in nodes) (ap (λ nodes. nodes.items) made.nodes) inv.nodes;
-      ends = one_more (λ share. share.ends) shares later share c.loop-nodes.ends.rest.items c.next-in-loop-nodes.new.self.rest.items c.in-Some-next.ends c.args.ends.items pushed ends made.ends inv.ends;
-      new = new_more shares later share pushed (omega (arith, made.number, c.len-number.ensures, c.loop-nodes.shares.ok.0)) (record { spent = made.spent; starved = made.starved; moved = made.moved }) inv.new;
+      ends = one_more (λ share. share.ends) shares later share c.loop-nodes.ends.rest.items c.next-in-loop-nodes.new.self.rest.items
+          c.in-Some-next.ends c.args.ends.items pushed ends made.ends inv.ends;
+      new = new_more shares later share pushed (omega (arith, made.number, c.len-number.ensures, c.loop-nodes.shares.ok.0))
+          (record { spent = made.spent; starved = made.starved; moved = made.moved }) inv.new;
     }
 
 pub returns-in_err-shares : goal.returns-in_err-shares
-returns-in_err-shares g c = record { nodes = none_given _ c.from_residual.result c.from_residual.ensures.0; ends = none_given _ c.from_residual.result c.from_residual.ensures.0; new = none_given _ c.from_residual.result c.from_residual.ensures.0 }
+returns-in_err-shares g c =
+    record {
+      nodes = none_given _ c.from_residual.result c.from_residual.ensures.0;
+      ends =
+          none_given _ c.from_residual.result c.from_residual.ensures.0;
+      new = none_given _ c.from_residual.result c.from_residual.ensures.0;
+    }
 
 pub returns-in_err-push-in-Some-next : goal.returns-in_err-push-in-Some-next
-returns-in_err-push-in-Some-next g c = record { nodes = none_given _ c.from_residual-in_err-push-in-Some-next.result c.from_residual-in_err-push-in-Some-next.ensures.0; ends = none_given _ c.from_residual-in_err-push-in-Some-next.result c.from_residual-in_err-push-in-Some-next.ensures.0; new = none_given _ c.from_residual-in_err-push-in-Some-next.result c.from_residual-in_err-push-in-Some-next.ensures.0 }
+returns-in_err-push-in-Some-next g c =
+    record {
+      nodes = none_given _ c.from_residual-in_err-push-in-Some-next.result c.from_residual-in_err-push-in-Some-next.ensures.0;
+      ends =
+          none_given _ c.from_residual-in_err-push-in-Some-next.result c.from_residual-in_err-push-in-Some-next.ensures.0;
+      new =
+          none_given _ c.from_residual-in_err-push-in-Some-next.result c.from_residual-in_err-push-in-Some-next.ensures.0;
+    }

@@ -15,7 +15,8 @@ put_together-requires g c =
     let lists = c.in_ok-lists in
     let nodes = c.in_ok-nodes in
     subst (λ e. FitTogether nodes.nodes.items e) (sym clauses.1.1.1.0)
-    (they_fit g.network c.args.shares.items clauses.1.1.1.1 c.args.share.now clauses.1.1.0 (lists_in lists.lists.items) lists.ensures.nodes nodes.nodes.items nodes.ensures.nodes nodes.ensures.places g.met.T.Transducer.laws)
+    (they_fit g.network c.args.shares.items clauses.1.1.1.1 c.args.share.now clauses.1.1.0 (lists_in lists.lists.items) lists.ensures.nodes
+    nodes.nodes.items nodes.ensures.nodes nodes.ensures.places g.met.T.Transducer.laws)
 
 pub returns-clause-network : goal.returns-clause-network
 returns-clause-network g c =

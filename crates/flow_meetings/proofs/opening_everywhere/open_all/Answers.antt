@@ -57,4 +57,9 @@ pub returns-in_err-ends : goal.returns-in_err-ends
 returns-in_err-ends g c = record { count = none_given _ c.from_residual.result c.from_residual.ensures.0; opened = none_given _ c.from_residual.result c.from_residual.ensures.0 }
 
 pub returns-in_err-open_edge : goal.returns-in_err-open_edge
-returns-in_err-open_edge g c = record { count = none_given _ c.from_residual-in_err-open_edge.result c.from_residual-in_err-open_edge.ensures.0; opened = none_given _ c.from_residual-in_err-open_edge.result c.from_residual-in_err-open_edge.ensures.0 }
+returns-in_err-open_edge g c =
+    record {
+      count = none_given _ c.from_residual-in_err-open_edge.result c.from_residual-in_err-open_edge.ensures.0;
+      opened =
+          none_given _ c.from_residual-in_err-open_edge.result c.from_residual-in_err-open_edge.ensures.0;
+    }

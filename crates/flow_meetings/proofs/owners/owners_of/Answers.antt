@@ -17,6 +17,8 @@ loop-edge-preserved c =
     let owner : EdgeOwners = record { writer = c.share_of.result; reader = c.share_of-in-loop-edge.result } in
     record {
       count = omega (arith, ap length items, length_push old owner, inv.count);
-      writers = owner_more (λ w. w.writer) (λ e. share_of share (edge_at edges e).writer) old c.push.new.self.items owner n items inv.count inv.writers (c.share_of.ensures ∙ ap (λ e. share_of share e.writer) (get_or_default edges n _ _ c.loop-edge-test.true));
-      readers = owner_more (λ w. w.reader) (λ e. share_of share (edge_at edges e).reader) old c.push.new.self.items owner n items inv.count inv.readers (c.share_of-in-loop-edge.ensures ∙ ap (λ e. share_of share e.reader) (get_or_default edges n _ _ c.loop-edge-test.true));
+      writers = owner_more (λ w. w.writer) (λ e. share_of share (edge_at edges e).writer) old c.push.new.self.items owner n items inv.count
+          inv.writers (c.share_of.ensures ∙ ap (λ e. share_of share e.writer) (get_or_default edges n _ _ c.loop-edge-test.true));
+      readers = owner_more (λ w. w.reader) (λ e. share_of share (edge_at edges e).reader) old c.push.new.self.items owner n items inv.count
+          inv.readers (c.share_of-in-loop-edge.ensures ∙ ap (λ e. share_of share e.reader) (get_or_default edges n _ _ c.loop-edge-test.true));
     }

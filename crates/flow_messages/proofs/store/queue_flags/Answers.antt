@@ -7,7 +7,8 @@ use Rattle.flow_messages.proofs.store.queue_flags.Goals as goal
 
 pub loop-truth-preserved : goal.loop-truth-preserved
 loop-truth-preserved c = record {
-  items = block_more (λ x. ItemMsg (BoolItem x)) c.args.flags.now c.loop-truth.truth-index false c.args.queue.now.items c.loop-truth.queue.items _ c.loop-truth-test.true c.loop-truth.invariant.items c.push_back_reserved.ensures.items;
+  items = block_more (λ x. ItemMsg (BoolItem x)) c.args.flags.now c.loop-truth.truth-index false c.args.queue.now.items c.loop-truth.queue.items _
+      c.loop-truth-test.true c.loop-truth.invariant.items c.push_back_reserved.ensures.items;
   capacity = c.push_back_reserved.ensures.capacity ∙ c.loop-truth.invariant.capacity;
 }
 

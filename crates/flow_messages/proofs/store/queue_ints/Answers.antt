@@ -12,9 +12,11 @@ pub loop-number-preserved : goal.loop-number-preserved
 loop-number-preserved c =
     let x = get_or c.args.ints.now c.loop-number.number-index (pos 0) in
     let fits : SFits w64 x = search rules in
-    let put : c.push_back_reserved.new.self.items ≡ c.loop-number.queue.items ++ ItemMsg (IntItem x) ∷ [] = c.push_back_reserved.ensures.items ∙ ap (λ (n : ℤ). c.loop-number.queue.items ++ ItemMsg (IntItem n) ∷ []) (widened x fits) in
+    let put : c.push_back_reserved.new.self.items ≡ c.loop-number.queue.items ++ ItemMsg (IntItem x) ∷ [] = c.push_back_reserved.ensures.items
+    ∙ ap (λ (n : ℤ). c.loop-number.queue.items ++ ItemMsg (IntItem n) ∷ []) (widened x fits) in
     record {
-      items = block_more (λ n. ItemMsg (IntItem n)) c.args.ints.now c.loop-number.number-index (pos 0) c.args.queue.now.items c.loop-number.queue.items _ c.loop-number-test.true c.loop-number.invariant.items put;
+      items = block_more (λ n. ItemMsg (IntItem n)) c.args.ints.now c.loop-number.number-index (pos 0) c.args.queue.now.items
+          c.loop-number.queue.items _ c.loop-number-test.true c.loop-number.invariant.items put;
       capacity = c.push_back_reserved.ensures.capacity ∙ c.loop-number.invariant.capacity;
     }
 

@@ -36,6 +36,7 @@ loop-preserved g c =
     let inv = c.loop.invariant in
     let writing : IsWrite (b.process.want t) = search rules in
     record {
-      drew = drew_next b laws s c.requires.reached c.requires.one t xs inv.drew writing c.in-Ok.message u c.in-Some.flat ys c.in-Ok.ensures.ok.0 c.in-Ok.ensures.ok.1 c.in-Some.ensures.some c.push.ensures.items;
+      drew = drew_next b laws s c.requires.reached c.requires.one t xs inv.drew writing c.in-Ok.message u c.in-Some.flat ys c.in-Ok.ensures.ok.0
+          c.in-Ok.ensures.ok.1 c.in-Some.ensures.some c.push.ensures.items;
       few = omega (arith, c.push.ensures.len, inv.few);
     }

@@ -13,7 +13,8 @@ returns-then-room-eq0-clause-went g c =
     let s = g.T.Transducer.state c.args.node.now in
     let ins = c.args.inputs.now in
     let outs = c.args.outputs.now in
-    let alone = alone_both ins outs (view c.args.ends.now) (view c.least_space-room.new.ends) (view c.ready.new.self) (edge_of ins 0) c.requires.one refl (c.least_space-room.ensures.looked ins) c.ready.ensures.looked in
+    let alone = alone_both ins outs (view c.args.ends.now) (view c.least_space-room.new.ends) (view c.ready.new.self) (edge_of ins 0) c.requires.one
+    refl (c.least_space-room.ensures.looked ins) c.ready.ensures.looked in
     only_looked g.T.Transducer.behaviour g.met.T.Transducer.laws ins outs c.requires.apart s s (view c.args.ends.now) (view c.ready.new.self) refl alone
 
 pub returns-then-is_empty-clause-went : goal.returns-then-is_empty-clause-went
@@ -22,7 +23,8 @@ returns-then-is_empty-clause-went g c =
     let s = g.T.Transducer.state c.args.node.now in
     let ins = c.args.inputs.now in
     let outs = c.args.outputs.now in
-    let alone = alone_both ins outs (view c.args.ends.now) (view c.least_space-room.new.ends) (view c.ready.new.self) (edge_of ins 0) c.requires.one refl (c.least_space-room.ensures.looked ins) c.ready.ensures.looked in
+    let alone = alone_both ins outs (view c.args.ends.now) (view c.least_space-room.new.ends) (view c.ready.new.self) (edge_of ins 0) c.requires.one
+    refl (c.least_space-room.ensures.looked ins) c.ready.ensures.looked in
     only_looked g.T.Transducer.behaviour g.met.T.Transducer.laws ins outs c.requires.apart s s (view c.args.ends.now) (view c.ready.new.self) refl alone
 
 pub returns-then-not-pass-clause-went : goal.returns-then-not-pass-clause-went
@@ -31,8 +33,10 @@ returns-then-not-pass-clause-went g c =
     let s = g.T.Transducer.state c.args.node.now in
     let ins = c.args.inputs.now in
     let outs = c.args.outputs.now in
-    let alone = alone_both ins outs (view c.args.ends.now) (view c.least_space-room.new.ends) (view c.ready.new.self) (edge_of ins 0) c.requires.one refl (c.least_space-room.ensures.looked ins) c.ready.ensures.looked in
-    only_looked g.T.Transducer.behaviour g.met.T.Transducer.laws ins outs c.requires.apart s (g.T.Transducer.state c.pass.new.self) (view c.args.ends.now) (view c.ready.new.self) (c.pass.ensures.kept c.if-not-pass.true) alone
+    let alone = alone_both ins outs (view c.args.ends.now) (view c.least_space-room.new.ends) (view c.ready.new.self) (edge_of ins 0) c.requires.one
+    refl (c.least_space-room.ensures.looked ins) c.ready.ensures.looked in
+    only_looked g.T.Transducer.behaviour g.met.T.Transducer.laws ins outs c.requires.apart s (g.T.Transducer.state c.pass.new.self)
+    (view c.args.ends.now) (view c.ready.new.self) (c.pass.ensures.kept c.if-not-pass.true) alone
 
 pub skip-requires-clause-certain : goal.skip-requires-clause-certain
 skip-requires-clause-certain g c = block_held c.messages_ahead-block.result.items c.len.result _ c.len.ensures.value c.messages_ahead-block.ensures.next.first
@@ -123,5 +127,6 @@ returns-clause-went g c =
     let some : 0 < length read = search rules in
     let read_len : c.len-2.result ≡ length (flat_signals read) = c.len-2.ensures.value ∙ sym (said_length read) in
     let out_len : c.len-3.result ≡ length (flat_signals out) = c.len-3.ensures.value ∙ sym (said_length out) in
-    went_passed b laws ins outs c.requires.apart s a c.requires.placed c.requires.one (edge_of ins 0) refl w u v t (flat_signals read) (flat_signals out) _ alone passed taken c.put_each.ensures.put (omega (arith, some, said_length read))
+    went_passed b laws ins outs c.requires.apart s a c.requires.placed c.requires.one (edge_of ins 0) refl w u v t (flat_signals read)
+    (flat_signals out) _ alone passed taken c.put_each.ensures.put (omega (arith, some, said_length read))
     (ap (λ n. n + length outs * c.len-3.result) read_len ∙ ap (λ k. length (flat_signals read) + length outs * k) out_len)

@@ -10,7 +10,8 @@ use Rattle.flow_networks.proofs.pass.pass_over.Goals as goal
 
 pub returns-in_err-moved-clause-shape : goal.returns-in_err-moved-clause-shape
 returns-in_err-moved-clause-shape g c =
-    shape_then g.E.Ends.same g.E.Ends.view g.met.E.Ends.same_trans c.args.graph.now c.args.ends.now c.loop-node.graph c.loop-node.ends c.visit.new.self c.visit.new.ends c.loop-node.invariant.shape c.visit.ensures.shape
+    shape_then g.E.Ends.same g.E.Ends.view g.met.E.Ends.same_trans c.args.graph.now c.args.ends.now c.loop-node.graph c.loop-node.ends
+    c.visit.new.self c.visit.new.ends c.loop-node.invariant.shape c.visit.ensures.shape
 
 pub loop-node-init : goal.loop-node-init
 loop-node-init g c =
@@ -42,10 +43,12 @@ loop-node-preserved g c =
     let even : capacity' ≡ capacity = g.met.E.WholeEnds.same_capacity c.args.ends.now c.loop-node.ends inv.shape.same in
     let one : Bool = c.in_ok-moved.field-0 in
     let pushed : Visits b capacity (take i nodes ++ get_or nodes i 0 ∷ []) edges states view states'' view'' (c.loop-node.moved || one) =
-    visits_push b capacity states edges view (graph_wired graph) states' edges' view' inv.shape.network capacity' even (take i nodes) (get_or nodes i 0) states'' view'' c.loop-node.moved one inv.visits c.in_ok-moved.ensures.visits in
+    visits_push b capacity states edges view (graph_wired graph) states' edges' view' inv.shape.network capacity' even (take i nodes)
+    (get_or nodes i 0) states'' view'' c.loop-node.moved one inv.visits c.in_ok-moved.ensures.visits in
     let longer : take (i + 1) nodes ≡ take i nodes ++ get_or nodes i 0 ∷ [] = ap (λ n. take n nodes) (add-one i) ∙ take-suc nodes i 0 c.loop-node-test.true in
     record {
-      shape = shape_then g.E.Ends.same g.E.Ends.view g.met.E.Ends.same_trans c.args.graph.now c.args.ends.now c.loop-node.graph c.loop-node.ends c.visit.new.self c.visit.new.ends c.loop-node.invariant.shape c.visit.ensures.shape;
+      shape = shape_then g.E.Ends.same g.E.Ends.view g.met.E.Ends.same_trans c.args.graph.now c.args.ends.now c.loop-node.graph c.loop-node.ends
+          c.visit.new.self c.visit.new.ends c.loop-node.invariant.shape c.visit.ensures.shape;
       visits = subst (λ l. Visits b capacity l edges states view states'' view'' (c.loop-node.moved || one)) (sym longer) pushed;
       some = λ h. omega arith;
     }
@@ -55,4 +58,6 @@ returns-clause-visits g c =
     let nodes = c.args.nodes.now in
     let graph = c.args.graph.now in
     let all : take c.loop-node.node-index nodes ≡ nodes = take_all c.loop-node.node-index nodes c.loop-node-test.false in
-    subst (λ l. Visits g.T.Transducer.behaviour (g.E.WholeEnds.capacity c.args.ends.now) l (edges_of graph) (states_of graph) (g.E.Ends.view c.args.ends.now) (states_of c.loop-node.graph) (g.E.Ends.view c.loop-node.ends) c.loop-node.moved) all c.loop-node.invariant.visits
+    subst (λ l. Visits g.T.Transducer.behaviour (g.E.WholeEnds.capacity c.args.ends.now) l (edges_of graph) (states_of graph)
+    (g.E.Ends.view c.args.ends.now) (states_of c.loop-node.graph) (g.E.Ends.view c.loop-node.ends) c.loop-node.moved) all
+    c.loop-node.invariant.visits

@@ -19,13 +19,17 @@ loop-number-preserved g c =
     elim c.if-number-nodes.branch [
       | then-number-nodes+in_ok-step_whole w ↦ record {
         shape = of_both (KeepsShape g.E.Ends.same g.E.Ends.view graph ends) now.graph w.step_whole.new.graph now.ends w.step_whole.new.ends w.graph-is w.ends-is
-            (shape_then g.E.Ends.same g.E.Ends.view g.met.E.Ends.same_trans graph ends c.loop-number.graph c.loop-number.ends w.step_whole.new.graph w.step_whole.new.ends inv.shape w.step_whole.ensures.shape);
-        reached = of_both (λ later after. RunReaches (g.E.WholeEnds.capacity ends) graph later (g.E.Ends.view after)) now.graph w.step_whole.new.graph now.ends w.step_whole.new.ends w.graph-is w.ends-is
-            (turn_reached g.E.Ends.same g.E.Ends.view g.E.WholeEnds.capacity g.met.E.WholeEnds.same_capacity graph ends c.loop-number.graph c.loop-number.ends w.step_whole.new.graph w.step_whole.new.ends
+            (shape_then g.E.Ends.same g.E.Ends.view g.met.E.Ends.same_trans graph ends c.loop-number.graph c.loop-number.ends w.step_whole.new.graph
+            w.step_whole.new.ends inv.shape w.step_whole.ensures.shape);
+        reached = of_both (λ later after. RunReaches (g.E.WholeEnds.capacity ends) graph later (g.E.Ends.view after)) now.graph w.step_whole.new.graph
+            now.ends w.step_whole.new.ends w.graph-is w.ends-is
+            (turn_reached g.E.Ends.same g.E.Ends.view g.E.WholeEnds.capacity g.met.E.WholeEnds.same_capacity graph ends c.loop-number.graph
+            c.loop-number.ends w.step_whole.new.graph w.step_whole.new.ends
             inv.shape inv.reached _ _ w.in_ok-step_whole.ensures.network);
       }
       | else-number-nodes w ↦ record {
         shape = of_both (KeepsShape g.E.Ends.same g.E.Ends.view graph ends) now.graph c.loop-number.graph now.ends c.loop-number.ends w.graph-is w.ends-is inv.shape;
-        reached = of_both (λ later after. RunReaches (g.E.WholeEnds.capacity ends) graph later (g.E.Ends.view after)) now.graph c.loop-number.graph now.ends c.loop-number.ends w.graph-is w.ends-is inv.reached;
+        reached = of_both (λ later after. RunReaches (g.E.WholeEnds.capacity ends) graph later (g.E.Ends.view after)) now.graph c.loop-number.graph
+            now.ends c.loop-number.ends w.graph-is w.ends-is inv.reached;
       }
     ]

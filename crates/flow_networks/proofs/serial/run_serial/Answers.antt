@@ -18,51 +18,63 @@ passes-init g c =
 
 pub returns-in_err-moved-clause-shape : goal.returns-in_err-moved-clause-shape
 returns-in_err-moved-clause-shape g c =
-    shape_then g.E.Ends.same g.E.Ends.view g.met.E.Ends.same_trans c.args.graph.now c.args.ends.now c.passes.graph c.passes.ends c.pass_over.new.graph c.pass_over.new.ends c.passes.invariant.shape c.pass_over.ensures.shape
+    shape_then g.E.Ends.same g.E.Ends.view g.met.E.Ends.same_trans c.args.graph.now c.args.ends.now c.passes.graph c.passes.ends c.pass_over.new.graph
+    c.pass_over.new.ends c.passes.invariant.shape c.pass_over.ensures.shape
 
 pub returns-then-not-moved-clause-shape : goal.returns-then-not-moved-clause-shape
 returns-then-not-moved-clause-shape g c =
-    shape_then g.E.Ends.same g.E.Ends.view g.met.E.Ends.same_trans c.args.graph.now c.args.ends.now c.passes.graph c.passes.ends c.pass_over.new.graph c.pass_over.new.ends c.passes.invariant.shape c.pass_over.ensures.shape
+    shape_then g.E.Ends.same g.E.Ends.view g.met.E.Ends.same_trans c.args.graph.now c.args.ends.now c.passes.graph c.passes.ends c.pass_over.new.graph
+    c.pass_over.new.ends c.passes.invariant.shape c.pass_over.ensures.shape
 
 pub returns-then-not-moved-clause-run : goal.returns-then-not-moved-clause-run
 returns-then-not-moved-clause-run g c =
     let inv = c.passes.invariant in
     let moved : Bool = c.in_ok-moved.moved in
-    let visits : Visits g.T.Transducer.behaviour (g.E.WholeEnds.capacity c.passes.ends) c.passes.running.items (edges_of c.passes.graph) (states_of c.passes.graph) (g.E.Ends.view c.passes.ends) (states_of c.pass_over.new.graph) (g.E.Ends.view c.pass_over.new.ends) moved =
+    let visits : Visits g.T.Transducer.behaviour (g.E.WholeEnds.capacity c.passes.ends) c.passes.running.items (edges_of c.passes.graph)
+    (states_of c.passes.graph) (g.E.Ends.view c.passes.ends) (states_of c.pass_over.new.graph) (g.E.Ends.view c.pass_over.new.ends) moved =
     rw c.deref.ensures.value at c.in_ok-moved.ensures.visits in
-    pass_ends g.E.Ends.same g.E.Ends.view g.E.WholeEnds.capacity g.met.E.WholeEnds.same_capacity c.args.graph.now c.args.ends.now c.passes.graph c.passes.ends c.pass_over.new.graph c.pass_over.new.ends
+    pass_ends g.E.Ends.same g.E.Ends.view g.E.WholeEnds.capacity g.met.E.WholeEnds.same_capacity c.args.graph.now c.args.ends.now c.passes.graph
+    c.passes.ends c.pass_over.new.graph c.pass_over.new.ends
     inv.shape inv.reached c.passes.running.items moved visits c.if-not-moved.true inv.others
 
 pub passes-smaller-then-left-eq0 : goal.passes-smaller-then-left-eq0
 passes-smaller-then-left-eq0 g c =
     let inv = c.passes.invariant in
     let moved : Bool = c.in_ok-moved.moved in
-    let visits : Visits g.T.Transducer.behaviour (g.E.WholeEnds.capacity c.passes.ends) c.passes.running.items (edges_of c.passes.graph) (states_of c.passes.graph) (g.E.Ends.view c.passes.ends) (states_of c.pass_over.new.graph) (g.E.Ends.view c.pass_over.new.ends) moved =
+    let visits : Visits g.T.Transducer.behaviour (g.E.WholeEnds.capacity c.passes.ends) c.passes.running.items (edges_of c.passes.graph)
+    (states_of c.passes.graph) (g.E.Ends.view c.passes.ends) (states_of c.pass_over.new.graph) (g.E.Ends.view c.pass_over.new.ends) moved =
     rw c.deref.ensures.value at c.in_ok-moved.ensures.visits in
-    pass_falls g.E.Ends.same g.E.Ends.view g.E.WholeEnds.capacity g.met.E.WholeEnds.same_capacity c.args.graph.now c.args.ends.now c.passes.graph c.passes.ends c.pass_over.new.graph c.pass_over.new.ends
+    pass_falls g.E.Ends.same g.E.Ends.view g.E.WholeEnds.capacity g.met.E.WholeEnds.same_capacity c.args.graph.now c.args.ends.now c.passes.graph
+    c.passes.ends c.pass_over.new.graph c.pass_over.new.ends
     inv.shape inv.reached c.passes.running.items moved visits g.met.T.Transducer.laws.settles c.if-not-moved.false
 
 pub passes-smaller : goal.passes-smaller
 passes-smaller g c =
     let inv = c.passes.invariant in
     let moved : Bool = c.in_ok-moved.moved in
-    let visits : Visits g.T.Transducer.behaviour (g.E.WholeEnds.capacity c.passes.ends) c.passes.running.items (edges_of c.passes.graph) (states_of c.passes.graph) (g.E.Ends.view c.passes.ends) (states_of c.pass_over.new.graph) (g.E.Ends.view c.pass_over.new.ends) moved =
+    let visits : Visits g.T.Transducer.behaviour (g.E.WholeEnds.capacity c.passes.ends) c.passes.running.items (edges_of c.passes.graph)
+    (states_of c.passes.graph) (g.E.Ends.view c.passes.ends) (states_of c.pass_over.new.graph) (g.E.Ends.view c.pass_over.new.ends) moved =
     rw c.deref.ensures.value at c.in_ok-moved.ensures.visits in
-    pass_falls g.E.Ends.same g.E.Ends.view g.E.WholeEnds.capacity g.met.E.WholeEnds.same_capacity c.args.graph.now c.args.ends.now c.passes.graph c.passes.ends c.pass_over.new.graph c.pass_over.new.ends
+    pass_falls g.E.Ends.same g.E.Ends.view g.E.WholeEnds.capacity g.met.E.WholeEnds.same_capacity c.args.graph.now c.args.ends.now c.passes.graph
+    c.passes.ends c.pass_over.new.graph c.pass_over.new.ends
     inv.shape inv.reached c.passes.running.items moved visits g.met.T.Transducer.laws.settles c.if-not-moved.false
 
 pub passes-preserved-then-left-eq0 : goal.passes-preserved-then-left-eq0
 passes-preserved-then-left-eq0 g c =
     let inv = c.passes.invariant in
     let moved : Bool = c.in_ok-moved.moved in
-    let visits : Visits g.T.Transducer.behaviour (g.E.WholeEnds.capacity c.passes.ends) c.passes.running.items (edges_of c.passes.graph) (states_of c.passes.graph) (g.E.Ends.view c.passes.ends) (states_of c.pass_over.new.graph) (g.E.Ends.view c.pass_over.new.ends) moved =
+    let visits : Visits g.T.Transducer.behaviour (g.E.WholeEnds.capacity c.passes.ends) c.passes.running.items (edges_of c.passes.graph)
+    (states_of c.passes.graph) (g.E.Ends.view c.passes.ends) (states_of c.pass_over.new.graph) (g.E.Ends.view c.pass_over.new.ends) moved =
     rw c.deref.ensures.value at c.in_ok-moved.ensures.visits in
     record {
-      shape = shape_then g.E.Ends.same g.E.Ends.view g.met.E.Ends.same_trans c.args.graph.now c.args.ends.now c.passes.graph c.passes.ends c.pass_over.new.graph c.pass_over.new.ends inv.shape c.pass_over.ensures.shape;
-      reached = pass_reached g.E.Ends.same g.E.Ends.view g.E.WholeEnds.capacity g.met.E.WholeEnds.same_capacity c.args.graph.now c.args.ends.now c.passes.graph c.passes.ends c.pass_over.new.graph c.pass_over.new.ends
+      shape = shape_then g.E.Ends.same g.E.Ends.view g.met.E.Ends.same_trans c.args.graph.now c.args.ends.now c.passes.graph c.passes.ends
+          c.pass_over.new.graph c.pass_over.new.ends inv.shape c.pass_over.ensures.shape;
+      reached = pass_reached g.E.Ends.same g.E.Ends.view g.E.WholeEnds.capacity g.met.E.WholeEnds.same_capacity c.args.graph.now c.args.ends.now
+          c.passes.graph c.passes.ends c.pass_over.new.graph c.pass_over.new.ends
           inv.shape inv.reached c.passes.running.items moved visits;
       below = c.drop_over.ensures.below;
-      others = pass_others g.E.Ends.same g.E.Ends.view g.E.WholeEnds.capacity g.met.E.WholeEnds.same_capacity c.args.graph.now c.args.ends.now c.passes.graph c.passes.ends c.pass_over.new.graph c.pass_over.new.ends
+      others = pass_others g.E.Ends.same g.E.Ends.view g.E.WholeEnds.capacity g.met.E.WholeEnds.same_capacity c.args.graph.now c.args.ends.now
+          c.passes.graph c.passes.ends c.pass_over.new.graph c.pass_over.new.ends
           inv.shape inv.reached c.passes.running.items moved visits inv.others c.drop_over.new.nodes.items c.drop_over.ensures.others;
       more = omega arith;
     }
@@ -71,14 +83,18 @@ pub passes-preserved : goal.passes-preserved
 passes-preserved g c =
     let inv = c.passes.invariant in
     let moved : Bool = c.in_ok-moved.moved in
-    let visits : Visits g.T.Transducer.behaviour (g.E.WholeEnds.capacity c.passes.ends) c.passes.running.items (edges_of c.passes.graph) (states_of c.passes.graph) (g.E.Ends.view c.passes.ends) (states_of c.pass_over.new.graph) (g.E.Ends.view c.pass_over.new.ends) moved =
+    let visits : Visits g.T.Transducer.behaviour (g.E.WholeEnds.capacity c.passes.ends) c.passes.running.items (edges_of c.passes.graph)
+    (states_of c.passes.graph) (g.E.Ends.view c.passes.ends) (states_of c.pass_over.new.graph) (g.E.Ends.view c.pass_over.new.ends) moved =
     rw c.deref.ensures.value at c.in_ok-moved.ensures.visits in
     record {
-      shape = shape_then g.E.Ends.same g.E.Ends.view g.met.E.Ends.same_trans c.args.graph.now c.args.ends.now c.passes.graph c.passes.ends c.pass_over.new.graph c.pass_over.new.ends inv.shape c.pass_over.ensures.shape;
-      reached = pass_reached g.E.Ends.same g.E.Ends.view g.E.WholeEnds.capacity g.met.E.WholeEnds.same_capacity c.args.graph.now c.args.ends.now c.passes.graph c.passes.ends c.pass_over.new.graph c.pass_over.new.ends
+      shape = shape_then g.E.Ends.same g.E.Ends.view g.met.E.Ends.same_trans c.args.graph.now c.args.ends.now c.passes.graph c.passes.ends
+          c.pass_over.new.graph c.pass_over.new.ends inv.shape c.pass_over.ensures.shape;
+      reached = pass_reached g.E.Ends.same g.E.Ends.view g.E.WholeEnds.capacity g.met.E.WholeEnds.same_capacity c.args.graph.now c.args.ends.now
+          c.passes.graph c.passes.ends c.pass_over.new.graph c.pass_over.new.ends
           inv.shape inv.reached c.passes.running.items moved visits;
       below = λ i d low. omega (arith, inv.below i d low, c.pass_over.ensures.shape.network.nodes);
-      others = pass_others g.E.Ends.same g.E.Ends.view g.E.WholeEnds.capacity g.met.E.WholeEnds.same_capacity c.args.graph.now c.args.ends.now c.passes.graph c.passes.ends c.pass_over.new.graph c.pass_over.new.ends
+      others = pass_others g.E.Ends.same g.E.Ends.view g.E.WholeEnds.capacity g.met.E.WholeEnds.same_capacity c.args.graph.now c.args.ends.now
+          c.passes.graph c.passes.ends c.pass_over.new.graph c.pass_over.new.ends
           inv.shape inv.reached c.passes.running.items moved visits inv.others c.passes.running.items (λ k has. inl has);
       more = omega (arith, c.if-left-eq0.false);
     }

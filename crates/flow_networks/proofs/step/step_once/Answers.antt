@@ -51,13 +51,15 @@ put-requires-clause-fits g c =
     let message = c.in_ok-message-in-Write.message in
     let takes = kind_fits (before.kind out) (b.kind_out (state_at b states k) q) (b.process.written (state_at b states k)) (c.requires.kinds q edge.ensures.port) edge.ensures.fits in
     let here = subst (λ e. FitsEdge (before.kind e) (b.process.written (state_at b states k))) (sym edge.ensures.edge) takes in
-    subst (FitsEdge (seen.kind edge.result)) (sym c.in_ok-message-in-Write.ensures.message) (fits_still before seen edge.result (b.process.written (state_at b states k)) c.room.ensures.looked.ends here)
+    subst (FitsEdge (seen.kind edge.result)) (sym c.in_ok-message-in-Write.ensures.message)
+    (fits_still before seen edge.result (b.process.written (state_at b states k)) c.room.ensures.looked.ends here)
 
 pub returns-in_ok-message-in-Write-clause-shape : goal.returns-in_ok-message-in-Write-clause-shape
 returns-in_ok-message-in-Write-clause-shape g c =
     shape_opened g.E.Ends.same g.E.Ends.view g.met.T.Transducer.laws c.args.graph.now c.args.ends.now c.emit.new.self c.put.new.self
     (g.met.E.Ends.same_trans c.args.ends.now c.room.new.self c.put.new.self c.room.ensures.same c.put.ensures.same)
-    (put_ends (g.E.Ends.view c.args.ends.now) (g.E.Ends.view c.room.new.self) (g.E.Ends.view c.put.new.self) c.wanted_output-edge.result (signal_of c.in_ok-message-in-Write.message) c.in_ok-message-in-Write.message
+    (put_ends (g.E.Ends.view c.args.ends.now) (g.E.Ends.view c.room.new.self) (g.E.Ends.view c.put.new.self) c.wanted_output-edge.result
+    (signal_of c.in_ok-message-in-Write.message) c.in_ok-message-in-Write.message
     c.room.ensures.looked c.put.result c.put.ensures.ok c.put.ensures.refused)
     c.emit.ensures.openings c.emit.ensures.edges
 
@@ -81,5 +83,6 @@ returns-in_ok-message-in-Write-clause-turn g c =
     record {
       others = same_but b laws states states' c.emit.ensures.openings c.args.node (b.process.wrote s) written.ok;
       step = moves_write b (edges_of c.args.graph.now) c.args.node s s' before after c.in-Write.port edge (signal_of message) wants c.wanted_output-edge.ensures.edge written.message wrote
-          (put_or_lost before seen after edge (signal_of message) message c.room.ensures.looked c.put.result certain c.put.ensures.ok c.put.ensures.refused c.put.ensures.closed c.put.ensures.succeeds);
+          (put_or_lost before seen after edge (signal_of message) message c.room.ensures.looked c.put.result certain c.put.ensures.ok
+          c.put.ensures.refused c.put.ensures.closed c.put.ensures.succeeds);
     }

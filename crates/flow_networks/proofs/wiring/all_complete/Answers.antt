@@ -16,4 +16,5 @@ loop-node-preserved c k d before =
     let nodes = c.args.nodes.now in
     let i = c.loop-node.node-index in
     let here : HasAllEdges c.node-item.result = c.is_complete.ensures.0 (cc) in
-    below_more (λ (j : ℕ). (x : Ports) → HasAllEdges (get_or nodes j x)) i (λ j l x. c.loop-node.invariant j x l) (λ x. subst HasAllEdges (c.node-item.is ∙ get_or_default nodes i c.node-item.result x c.loop-node-test.true) here) k before d
+    below_more (λ (j : ℕ). (x : Ports) → HasAllEdges (get_or nodes j x)) i (λ j l x. c.loop-node.invariant j x l)
+    (λ x. subst HasAllEdges (c.node-item.is ∙ get_or_default nodes i c.node-item.result x c.loop-node-test.true) here) k before d

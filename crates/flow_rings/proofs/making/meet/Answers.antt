@@ -16,4 +16,14 @@ returns-clause-whole c =
     let room = c.slots_beside-room.ensures in
     let count = c.slots_beside-count.ensures in
     let reader = c.slots_beside-count.new.self in
-    omega (arith, room.all_free, room.ring.1, count.value, count.writer.0.1, ap length count.writer.1.0, ap length count.looked.0, ap length count.fifo, length-append (received reader) (known_items reader))
+    omega (
+      arith,
+      room.all_free,
+      room.ring.1,
+      count.value,
+      count.writer.0.1,
+      ap length count.writer.1.0,
+      ap length count.looked.0,
+      ap length count.fifo,
+      length-append (received reader) (known_items reader),
+    )

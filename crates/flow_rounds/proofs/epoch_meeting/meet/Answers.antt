@@ -17,7 +17,8 @@ put_together-requires g c =
     let taken = is ∙ c.in_ok-lenders.ensures.ends ∙ ap (map (λ share. share.ends)) (sym c.in_ok-lenders.ensures.lenders) ∙ mapped_twice (λ share. share.ends) (λ lender. lender.share.value) lenders in
     let back = written_back now c.in_ok-lenders.ends.items c.in_ok-lenders.ends.len (even ∙ ap length is) (omega (arith, c.in_ok-lenders.ends.ok.0)) in
     record {
-      same = subst (λ l. AllZip (λ lender own. SameRings lender.share.value.ends own) lenders l) (sym back) (zip_parts SameRings (λ lender. lender.share.value.ends) lenders ends now taken even c.meet_all.ensures.same);
+      same = subst (λ l. AllZip (λ lender own. SameRings lender.share.value.ends own) lenders l) (sym back)
+          (zip_parts SameRings (λ lender. lender.share.value.ends) lenders ends now taken even c.meet_all.ensures.same);
       kept = subst (λ l. AllZip (λ lender own. Kept (ends_of lender.share.value.ends) (ends_of own)) lenders l) (sym back)
           (zip_parts (λ a b. Kept (ends_of a) (ends_of b)) (λ lender. lender.share.value.ends) lenders ends now taken even c.meet_all.ensures.kept);
     }

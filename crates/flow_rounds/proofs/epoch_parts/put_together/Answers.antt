@@ -29,8 +29,10 @@ loop-lender-preserved g c =
     record {
       same = same.1;
       kept = kept.1;
-      bodies = goes_over_as (λ share. share_nodes share) made now share (map (λ lender. share_nodes lender.share.value) left) (map (λ lender. share_nodes lender.share.value) rest) (share_nodes lender.share.value)
-          (map (λ lender. share_nodes lender.share.value) c.args.lenders.items) c.push_reserved.ensures.items c.take_back.ensures.body (ap (map (λ lender. share_nodes lender.share.value)) is) was.bodies;
+      bodies = goes_over_as (λ share. share_nodes share) made now share (map (λ lender. share_nodes lender.share.value) left)
+          (map (λ lender. share_nodes lender.share.value) rest) (share_nodes lender.share.value)
+          (map (λ lender. share_nodes lender.share.value) c.args.lenders.items) c.push_reserved.ensures.items c.take_back.ensures.body
+          (ap (map (λ lender. share_nodes lender.share.value)) is) was.bodies;
       ends = goes_over_as (λ share. share.ends) made now share ends others own c.args.ends.items c.push_reserved.ensures.items c.take_back.ensures.ends are was.ends;
       room = grind (arith, common_steps);
     }

@@ -25,7 +25,8 @@ loop-share-preserved g c =
     let lent = c.lend-lender.ensures in
     let own = c.lend-lender.result.1 in
     record {
-      lenders = goes_over_as (λ lender. lender.share.value) c.loop-share.lenders.items c.push_reserved.new.self.items c.lend-lender.result.0 left rest c.in-Some.share all c.push_reserved.ensures.items lent.share is was.lenders;
+      lenders = goes_over_as (λ lender. lender.share.value) c.loop-share.lenders.items c.push_reserved.new.self.items c.lend-lender.result.0 left rest
+          c.in-Some.share all c.push_reserved.ensures.items lent.share is was.lenders;
       ends = goes_over c.loop-share.ends.items c.push_reserved-in-loop-share.new.self.items (ends_in left) (ends_in rest) own (ends_in all) c.push_reserved-in-loop-share.ensures.items
           (ap ends_in is ∙ ap (λ e. e ∷ ends_in rest) (sym lent.ends)) was.ends;
       lenders_room = grind (arith, common_steps);

@@ -160,7 +160,8 @@ epochs-smaller g c =
     let met : HaveMetSince s items now = looked_met (λ a b same. same) s items now was.graph was.met looked in
     let same = ap (λ l. moved_in s l) back ∙ moved_same s items now was.graph (met_traffic s items now met) in
     let fed = subst (λ l. AreFed l) c.deref.ensures.value (c.are_fed.ensures.0 c.if-not-are_fed.false) in
-    let steps : NoneCanStep (take c.epochs.shares.len (now ++ drop (length now) items)) → ⊥ = λ none. (let no = sym (c.are_stuck.ensures.stuck.1 (subst (λ l. NoneCanStep l) back none)) ∙ c.if-are_stuck.false in cc) in
+    let steps : NoneCanStep (take c.epochs.shares.len (now ++ drop (length now) items)) → ⊥ =
+    λ none. (let no = sym (c.are_stuck.ensures.stuck.1 (subst (λ l. NoneCanStep l) back none)) ∙ c.if-are_stuck.false in cc) in
     let laws = (g.met.T.Transducer g.world.𝓛 g.world.𝓜 g.world.𝓡 ((λ s x. x), (λ x. x), (λ x. x), λ x. x)).laws in
     let falls = left_falls laws s _ c.in_ok-back.back.items c.in_ok-back.ensures.epoch fed steps in
     omega (arith, same, falls)
@@ -176,11 +177,13 @@ epochs-preserved g c =
     let met : HaveMetSince s items now = looked_met (λ a b same. same) s items now was.graph was.met looked in
     let same = ap (λ l. moved_in s l) back ∙ moved_same s items now was.graph (met_traffic s items now met) in
     let fed = subst (λ l. AreFed l) c.deref.ensures.value (c.are_fed.ensures.0 c.if-not-are_fed.false) in
-    let steps : NoneCanStep (take c.epochs.shares.len (now ++ drop (length now) items)) → ⊥ = λ none. (let no = sym (c.are_stuck.ensures.stuck.1 (subst (λ l. NoneCanStep l) back none)) ∙ c.if-are_stuck.false in cc) in
+    let steps : NoneCanStep (take c.epochs.shares.len (now ++ drop (length now) items)) → ⊥ =
+    λ none. (let no = sym (c.are_stuck.ensures.stuck.1 (subst (λ l. NoneCanStep l) back none)) ∙ c.if-are_stuck.false in cc) in
     let epoch = c.in_ok-back.ensures.epoch in
     let more = epoch.moves fed steps in
     let counted = c.saturating_add-count.ensures in
-    let led = subst (λ l. EpochsLead s c.args.shares.items l c.epochs.count) (sym back) (lead_since s c.args.shares.items items now c.epochs.count was.led met (fed_stay items now met.bodies was.fed)) in
+    let led = subst (λ l. EpochsLead s c.args.shares.items l c.epochs.count) (sym back)
+    (lead_since s c.args.shares.items items now c.epochs.count was.led met (fed_stay items now met.bodies was.fed)) in
     let later = subst (λ l. AreLater c.args.shares.items l) (sym back) (later_then c.args.shares.items items now was.later (met_later s items now met)) in
     let asked = g.S.Start.asked in
     record {

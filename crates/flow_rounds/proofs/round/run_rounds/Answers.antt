@@ -72,7 +72,9 @@ returns-then-are_stuck-clause-rounds g c =
     let laws = (g.met.T.Transducer g.world.𝓛 g.world.𝓜 g.world.𝓡 ((λ s x. x), (λ x. x), (λ x. x), λ x. x)).laws in
     let stood = stands_looked s refl (λ a b keeps. keeps) items now was.stand looked laws in
     let since = looked_met s refl (λ a b keeps. keeps) items now was.stand looked in
-    subst (λ l. RoundsLead s c.args.shares.items l c.rounds.count) (sym back) (lead_since s items now since stood (moved_looked s refl (λ a b keeps. keeps) items now was.stand looked) c.args.shares.items c.rounds.count was.led)
+    subst (λ l. RoundsLead s c.args.shares.items l c.rounds.count) (sym back)
+    (lead_since s items now since stood (moved_looked s refl (λ a b keeps. keeps) items now was.stand looked) c.args.shares.items c.rounds.count
+    was.led)
 
 pub returns-then-are_stuck-clause-least : goal.returns-then-are_stuck-clause-least
 returns-then-are_stuck-clause-least g c =
@@ -118,12 +120,15 @@ rounds-preserved g c =
     let looked = subst (λ l. AreLookedAt l now) c.deref_mut.ensures.value c.are_stuck.ensures.looked in
     let back : take c.rounds.shares.len (now ++ drop (length now) items) ≡ now = written_back now items c.rounds.shares.len looked.count (omega (arith, c.rounds.shares.ok.0)) in
     let same = ap (λ l. moved_in s (boxes_of l)) back ∙ moved_looked s refl (λ a b keeps. keeps) items now was.stand looked in
-    let steps : NoneCanStep (take c.rounds.shares.len (now ++ drop (length now) items)) → ⊥ = λ none. (let no = sym (c.are_stuck.ensures.stuck.1 (subst (λ l. NoneCanStep l) back none)) ∙ c.if-are_stuck.false in cc) in
+    let steps : NoneCanStep (take c.rounds.shares.len (now ++ drop (length now) items)) → ⊥ =
+    λ none. (let no = sym (c.are_stuck.ensures.stuck.1 (subst (λ l. NoneCanStep l) back none)) ∙ c.if-are_stuck.false in cc) in
     let moved = c.in_ok-shares.ensures.round.moves steps in
     let laws = (g.met.T.Transducer g.world.𝓛 g.world.𝓜 g.world.𝓡 ((λ s x. x), (λ x. x), (λ x. x), λ x. x)).laws in
     let stood = stands_looked s refl (λ a b keeps. keeps) items now was.stand looked laws in
     let since = looked_met s refl (λ a b keeps. keeps) items now was.stand looked in
-    let led = subst (λ l. RoundsLead s c.args.shares.items l c.rounds.count) (sym back) (lead_since s items now since stood (moved_looked s refl (λ a b keeps. keeps) items now was.stand looked) c.args.shares.items c.rounds.count was.led) in
+    let led = subst (λ l. RoundsLead s c.args.shares.items l c.rounds.count) (sym back)
+    (lead_since s items now since stood (moved_looked s refl (λ a b keeps. keeps) items now was.stand looked) c.args.shares.items c.rounds.count
+    was.led) in
     let counted = c.saturating_add-count.ensures in
     let asked = g.S.Start.asked in
     let many : length (take c.rounds.shares.len (now ++ drop (length now) items)) ≡ length c.args.shares.items = ap length back ∙ looked.count ∙ was.count in

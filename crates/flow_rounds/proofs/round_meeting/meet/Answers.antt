@@ -26,7 +26,8 @@ put_together-requires g c =
     let taken = is ∙ c.in_ok-parts.ensures.boxes ∙ ap (map (λ share. share.ends)) (sym c.in_ok-parts.ensures.parts) ∙ mapped_twice (λ share. share.ends) (λ part. part.share.value) parts in
     let back = written_back now c.in_ok-parts.boxes.items c.in_ok-parts.boxes.len (even ∙ ap length is) (omega (arith, c.in_ok-parts.boxes.ok.0)) in
     record {
-      kept = subst (λ l. AllZip (λ part ends. Kept (view_of part.share.value.ends) (view_of ends)) parts l) (sym back) (zip_kept (λ part. part.share.value.ends) parts boxes now taken even c.meet_all.ensures.kept);
+      kept = subst (λ l. AllZip (λ part ends. Kept (view_of part.share.value.ends) (view_of ends)) parts l) (sym back)
+          (zip_kept (λ part. part.share.value.ends) parts boxes now taken even c.meet_all.ensures.kept);
     }
 
 pub returns : goal.returns

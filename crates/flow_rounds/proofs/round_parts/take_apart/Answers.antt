@@ -10,7 +10,9 @@ invariant_of-push_reserved g c =
     record {
       same_number = c.number-number.ensures ∙ ap (λ s. s.number) (sym given);
       same_nodes = c.into_parts-nodes.ensures.nodes ∙ ap (λ s. s.nodes) (sym given);
-      fed = ap (λ s. s.starved) given ∙ first_of_all (λ s. s.starved ≡ false) c.loop-share.share-iterator.rest.items c.next.new.self.rest.items c.in-Some.share c.in-Some.ensures.steps.0 c.loop-share.invariant.fed;
+      fed = ap (λ s. s.starved) given
+          ∙ first_of_all (λ s. s.starved ≡ false) c.loop-share.share-iterator.rest.items c.next.new.self.rest.items c.in-Some.share
+          c.in-Some.ensures.steps.0 c.loop-share.invariant.fed;
     }
 
 pub loop-share-preserved : goal.loop-share-preserved
@@ -21,7 +23,8 @@ loop-share-preserved g c =
     let share = c.in-Some.share in
     let is = c.in-Some.ensures.steps.0 in
     record {
-      parts = goes_over_as (λ part. part.share.value) c.loop-share.parts.items c.push_reserved.new.self.items _ left rest share c.args.shares.items c.push_reserved.ensures.items c.of-given.ensures is was.parts;
+      parts = goes_over_as (λ part. part.share.value) c.loop-share.parts.items c.push_reserved.new.self.items _ left rest share c.args.shares.items
+          c.push_reserved.ensures.items c.of-given.ensures is was.parts;
       boxes = grind (arith, common_steps);
       fed = rest_of_all (λ s. s.starved ≡ false) left rest share is was.fed;
       parts_room = grind (arith, common_steps);

@@ -17,4 +17,7 @@ loop-at-preserved c =
     let z = c.in-Ok-Bool.value in
     let value : c.apply.result ≡ binary_value d op (Int (slice_index_or xs i (pos 0))) (Int (slice_index_or ys i (pos 0))) = search rules in
     let here : binary_value d op (Int (slice_index_or xs i (pos 0))) (Int (slice_index_or ys i (pos 0))) ≡ Ok (Truth z) = sym value ∙ c.in-Ok-Bool.is ∙ ap Ok c.in-Ok-Bool.field-0-is in
-    below_more (λ k. binary_value d op (Int (slice_index_or xs k (pos 0))) (Int (slice_index_or ys k (pos 0))) ≡ Ok (Truth (slice_index_or (slice_set zs i z) k false))) i (λ k below. c.loop-at.invariant k below ∙ ap (λ b. Ok (Truth b)) (sym (get_or-set_other zs i k z false (omega arith)))) (here ∙ ap (λ b. Ok (Truth b)) (sym (get_or-set_same zs i z false (omega arith))))
+    below_more (λ k. binary_value d op (Int (slice_index_or xs k (pos 0))) (Int (slice_index_or ys k (pos 0)))
+    ≡ Ok (Truth (slice_index_or (slice_set zs i z) k false))) i
+    (λ k below. c.loop-at.invariant k below ∙ ap (λ b. Ok (Truth b)) (sym (get_or-set_other zs i k z false (omega arith))))
+    (here ∙ ap (λ b. Ok (Truth b)) (sym (get_or-set_same zs i z false (omega arith))))

@@ -16,4 +16,5 @@ loop-place-preserved c =
     let small : to_z w64 place ≡ pos place = search rules in
     let back : value ≡ next +ℤ to_z w64 place = search rules in
     let is : value ≡ next +ℤ pos place = back ∙ ap (λ k. next +ℤ k) small in
-    fill_more places before (numbers_from next place) from place value there c.loop-place.invariant ∙ ap (λ (k : ℤ). before ++ (numbers_from next place ++ k ∷ [])) is ∙ ap (λ l. before ++ l) (numbers_more next place)
+    fill_more places before (numbers_from next place) from place value there c.loop-place.invariant
+    ∙ ap (λ (k : ℤ). before ++ (numbers_from next place ++ k ∷ [])) is ∙ ap (λ l. before ++ l) (numbers_more next place)

@@ -37,13 +37,17 @@ put_ints-requires-clause-kind g c =
 pub returns-then-truth-clause-put : goal.returns-then-truth-clause-put
 returns-then-truth-clause-put g c =
     let n = c.args.count in
-    let says : flag_signals (take n (replicate 64 true)) ≡ replicate n (carry (cell_of c.args.item.now)) = ap flag_signals (take-replicate n 64 true c.requires.block) ∙ flags_same n true ∙ ap (λ b. replicate n (carry (flag b))) (sym c.if-truth.true) ∙ ap (λ i. replicate n (carry (cell_of i))) (sym c.in-Bool.is) in
+    let says : flag_signals (take n (replicate 64 true)) ≡ replicate n (carry (cell_of c.args.item.now)) =
+    ap flag_signals (take-replicate n 64 true c.requires.block) ∙ flags_same n true ∙ ap (λ b. replicate n (carry (flag b))) (sym c.if-truth.true)
+    ∙ ap (λ i. replicate n (carry (cell_of i))) (sym c.in-Bool.is) in
     subst (λ ms. PutAll (g.E.Ends.view c.args.ends.now) c.args.to ms (g.E.Ends.view c.put_flags.new.self)) says c.put_flags.ensures.put
 
 pub returns-else-truth-clause-put : goal.returns-else-truth-clause-put
 returns-else-truth-clause-put g c =
     let n = c.args.count in
-    let says : flag_signals (take n (replicate 64 false)) ≡ replicate n (carry (cell_of c.args.item.now)) = ap flag_signals (take-replicate n 64 false c.requires.block) ∙ flags_same n false ∙ ap (λ b. replicate n (carry (flag b))) (sym c.if-truth.false) ∙ ap (λ i. replicate n (carry (cell_of i))) (sym c.in-Bool.is) in
+    let says : flag_signals (take n (replicate 64 false)) ≡ replicate n (carry (cell_of c.args.item.now)) =
+    ap flag_signals (take-replicate n 64 false c.requires.block) ∙ flags_same n false
+    ∙ ap (λ b. replicate n (carry (flag b))) (sym c.if-truth.false) ∙ ap (λ i. replicate n (carry (cell_of i))) (sym c.in-Bool.is) in
     subst (λ ms. PutAll (g.E.Ends.view c.args.ends.now) c.args.to ms (g.E.Ends.view c.put_flags-else-truth.new.self)) says c.put_flags-else-truth.ensures.put
 
 pub returns-in-Ok-clause-put : goal.returns-in-Ok-clause-put

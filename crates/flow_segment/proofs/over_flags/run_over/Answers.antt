@@ -7,7 +7,9 @@ use Rattle.flow_base.specs.Nodes.{want_for}
 use Rattle.flow_segment.specs.FlagBlocks.{RunsOver}
 use Rattle.flow_segment.specs.declared.over_flags.Ran.{Ran}
 use Rattle.flow_segment.proofs.FlagBlocks.{runs_none, next_first, next_second, next_written}
-use Rattle.flow_segment.proofs.over_flags.run_over.Goals.{in-Begin+in-Some, in-Take-eq0-default-default+in-Some-stage_after, in-Take-eq1-default-default+in-Some-stage_after-2, in-Give-eq0-default-default+else-ran-room}
+use Rattle.flow_segment.proofs.over_flags.run_over.Goals.{in-Begin+in-Some, in-Take-eq0-default-default+in-Some-stage_after}
+use Rattle.flow_segment.proofs.over_flags.run_over.Goals.{in-Take-eq1-default-default+in-Some-stage_after-2}
+use Rattle.flow_segment.proofs.over_flags.run_over.Goals.{in-Give-eq0-default-default+else-ran-room}
 use Rattle.flow_segment.proofs.over_flags.run_over.Goals as goal
 
 pub loop-init : goal.loop-init
@@ -41,7 +43,8 @@ loop-preserved g c =
           let k = on_flag w.in-Begin.at_f w.in-Begin.at_t in
           let is : begins k ≡ t.move ran.stage = w.in-Begin.ensures in
           let shown = w.in-Some.ensures in
-          let run = next_first t s xs ys zs ran.first ran.second ran.written ran.stage w.in-Some.next inv.ran k shown.shown (sym (ap (λ m. want_for (ask_of m)) is)) (λ y. sym (ap (λ m. state_after_read m y) is)) shown.leads in
+          let run = next_first t s xs ys zs ran.first ran.second ran.written ran.stage w.in-Some.next inv.ran k shown.shown
+          (sym (ap (λ m. want_for (ask_of m)) is)) (λ y. sym (ap (λ m. state_after_read m y) is)) shown.leads in
           record {
             counted = omega (arith, inv.counted, ap first w.ran-is, ap second w.ran-is, ap written w.ran-is);
             first = omega (arith, shown.shown, ap first w.ran-is);

@@ -17,6 +17,16 @@ loop-at-preserved g c =
     let in_block : count < length c.loop-at.block = omega (arith, inv.within, c.loop-at-test.true, c.requires.block) in
     let step = kept_put bs xs c.loop-at.block n count x c.loop-at-test.true in_xs in_block c.index-items-at.is inv.kept in
     elim (cases_Bool (slice_index_or bs n false)) [
-      | inl keeps ↦ (let one : c.from-count.result ≡ 1 = c.from-count.ensures ∙ ap bool_byte keeps in record { within = omega (arith, inv.within, one); kept = ap (λ k. take (count + k) (slice_set c.loop-at.block count x)) one ∙ step true keeps })
-      | inr drops ↦ (let none : c.from-count.result ≡ 0 = c.from-count.ensures ∙ ap bool_byte drops in record { within = omega (arith, inv.within, none); kept = ap (λ k. take (count + k) (slice_set c.loop-at.block count x)) none ∙ step false drops })
+      | inl keeps ↦ (let one : c.from-count.result ≡ 1 = c.from-count.ensures ∙ ap bool_byte keeps in
+          record {
+            within = omega (arith, inv.within, one);
+            kept = ap (λ k. take (count + k) (slice_set c.loop-at.block count x)) one
+                ∙ step true keeps;
+          })
+      | inr drops ↦ (let none : c.from-count.result ≡ 0 = c.from-count.ensures ∙ ap bool_byte drops in
+          record {
+            within = omega (arith, inv.within, none);
+            kept = ap (λ k. take (count + k) (slice_set c.loop-at.block count x)) none
+                ∙ step false drops;
+          })
     ]

@@ -13,6 +13,10 @@ loop-at-preserved c =
     let n = c.loop-at.at in
     let more = trues_more bs n c.loop-at-test.true in
     elim (cases_Bool (slice_index_or bs n false)) [
-      | inl counts ↦ (let one : c.from-found.result ≡ 1 = c.from-found.ensures ∙ ap bool_byte counts in let said = more ∙ ap (λ b. trues (take n bs) + cond b 1 0) counts in record { counted = omega (arith, inv.counted, one, said); within = omega (arith, inv.within, one) })
-      | inr passes ↦ (let none : c.from-found.result ≡ 0 = c.from-found.ensures ∙ ap bool_byte passes in let said = more ∙ ap (λ b. trues (take n bs) + cond b 1 0) passes in record { counted = omega (arith, inv.counted, none, said); within = omega (arith, inv.within, none) })
+      | inl counts ↦ (let one : c.from-found.result ≡ 1 = c.from-found.ensures ∙ ap bool_byte counts in let said = more
+          ∙ ap (λ b. trues (take n bs) + cond b 1 0) counts in
+          record { counted = omega (arith, inv.counted, one, said); within = omega (arith, inv.within, one) })
+      | inr passes ↦ (let none : c.from-found.result ≡ 0 = c.from-found.ensures ∙ ap bool_byte passes in let said = more
+          ∙ ap (λ b. trues (take n bs) + cond b 1 0) passes in
+          record { counted = omega (arith, inv.counted, none, said); within = omega (arith, inv.within, none) })
     ]

@@ -26,11 +26,14 @@ index_mut-requires g c =
 
 pub loop-node-preserved : goal.loop-node-preserved
 loop-node-preserved g c =
-    let turn = YieldsList-turn (YieldsList-from_vec c.args.nodes.items (cc) (cc)) c.loop-node.yielded c.loop-node.node-iterator c.loop-node.yielded_by c.next.result c.next.new.self c.in-Some.node c.in-Some.is c.next.ensures.steps in
+    let turn = YieldsList-turn (YieldsList-from_vec c.args.nodes.items (cc) (cc)) c.loop-node.yielded c.loop-node.node-iterator c.loop-node.yielded_by
+    c.next.result c.next.new.self c.in-Some.node c.in-Some.is c.next.ensures.steps in
     let below = share_below c.args.share.now c.args.threads _ c.requires.some c.requires.shares c.share_of-s.ensures in
     record {
       can = tt;
       finite = tt;
       count = length-set c.loop-node.dealt.items c.share_of-s.result c.push.new.self ∙ c.loop-node.invariant.count;
-      dealt = one_turn c.args.share.now c.args.nodes.items c.loop-node.yielded c.in-Some.node c.loop-node.dealt.items c.index_mut.result.now c.push.new.self c.share_of-s.result c.requires.numbered turn.0 turn.1 (cc) (omega (arith, below)) c.index_mut.ensures.value c.in_ok-push.ensures.items c.loop-node.invariant.dealt;
+      dealt = one_turn c.args.share.now c.args.nodes.items c.loop-node.yielded c.in-Some.node c.loop-node.dealt.items c.index_mut.result.now
+          c.push.new.self c.share_of-s.result c.requires.numbered turn.0 turn.1 (cc) (omega (arith, below)) c.index_mut.ensures.value
+          c.in_ok-push.ensures.items c.loop-node.invariant.dealt;
     }

@@ -21,7 +21,8 @@ pub loop-k-preserved : goal.loop-k-preserved
 loop-k-preserved g c =
     let some = list_some c.loop-k.dealt.items c.loop-k.invariant c.loop-k-test.true c.loop-k.auto.k c.share_of-s.ensures c.index_mut.ensures.value in
     let value = c.pop.ensures.value c.unwrap-node.result some in
-    one_gathered c.loop-k.dealt.items c.loop-k.invariant c.loop-k-test.true c.loop-k.auto.k c.share_of-s.ensures c.index_mut.ensures.value c.pop.new.self c.unwrap-node.result c.push.new.self.items (cc (value, c.unwrap-node.ensures)) c.pop.ensures.rest c.in_ok-push.ensures.items
+    one_gathered c.loop-k.dealt.items c.loop-k.invariant c.loop-k-test.true c.loop-k.auto.k c.share_of-s.ensures c.index_mut.ensures.value
+    c.pop.new.self c.unwrap-node.result c.push.new.self.items (cc (value, c.unwrap-node.ensures)) c.pop.ensures.rest c.in_ok-push.ensures.items
 
 pub returns-clause-nodes : goal.returns-clause-nodes
 returns-clause-nodes g c = (all_gathered c.loop-k.invariant c.reverse.new.self.items (omega (arith, c.loop-k-test.false)) c.reverse.ensures.items).1

@@ -19,14 +19,16 @@ pub run-requires-clause-reads : goal.run-requires-clause-reads
 run-requires-clause-reads g c =
     let mid = c.loop-k.nodes.items in
     let inside : c.loop-k.k < length mid = omega arith in
-    (node_there g.met.T.Transducer.laws c.args.nodes.now.items (g.E.Ends.view c.args.ends.now) c.requires.there c.requires.apart c.requires.own mid (g.E.Ends.view c.loop-k.ends) c.loop-k.k c.loop-k.moved c.loop-k.invariant.passed
+    (node_there g.met.T.Transducer.laws c.args.nodes.now.items (g.E.Ends.view c.args.ends.now) c.requires.there c.requires.apart c.requires.own mid
+    (g.E.Ends.view c.loop-k.ends) c.loop-k.k c.loop-k.moved c.loop-k.invariant.passed
     c.index_mut.result.now inside c.index_mut.ensures.value).reads
 
 pub run-requires-clause-writes : goal.run-requires-clause-writes
 run-requires-clause-writes g c =
     let mid = c.loop-k.nodes.items in
     let inside : c.loop-k.k < length mid = omega arith in
-    (node_there g.met.T.Transducer.laws c.args.nodes.now.items (g.E.Ends.view c.args.ends.now) c.requires.there c.requires.apart c.requires.own mid (g.E.Ends.view c.loop-k.ends) c.loop-k.k c.loop-k.moved c.loop-k.invariant.passed
+    (node_there g.met.T.Transducer.laws c.args.nodes.now.items (g.E.Ends.view c.args.ends.now) c.requires.there c.requires.apart c.requires.own mid
+    (g.E.Ends.view c.loop-k.ends) c.loop-k.k c.loop-k.moved c.loop-k.invariant.passed
     c.index_mut.result.now inside c.index_mut.ensures.value).writes
 
 pub run-requires-clause-kinds : goal.run-requires-clause-kinds
@@ -37,7 +39,9 @@ run-requires-clause-kinds g c =
     let x = c.index_mut.result.now in
     let v = g.E.Ends.view c.loop-k.ends in
     let inside : c.loop-k.k < length mid = omega arith in
-    λ q l. subst (TakesKind (v.kind (edge_of (outputs_of x) q))) (laws.same_kinds_out (placed_state x) q) ((node_there laws c.args.nodes.now.items (g.E.Ends.view c.args.ends.now) c.requires.there c.requires.apart c.requires.own mid v c.loop-k.k c.loop-k.moved c.loop-k.invariant.passed
+    λ q l. subst (TakesKind (v.kind (edge_of (outputs_of x) q))) (laws.same_kinds_out (placed_state x) q)
+    ((node_there laws c.args.nodes.now.items (g.E.Ends.view c.args.ends.now) c.requires.there c.requires.apart c.requires.own mid v c.loop-k.k
+    c.loop-k.moved c.loop-k.invariant.passed
     x inside c.index_mut.ensures.value).kinds q l)
 
 pub returns-in_err-moved-clause-lost : goal.returns-in_err-moved-clause-lost
@@ -45,7 +49,8 @@ returns-in_err-moved-clause-lost g c =
     let mid = c.loop-k.nodes.items in
     let inside : c.loop-k.k < length mid = omega arith in
     on_err c.from_residual.result
-    (passed_lost g.met.T.Transducer.laws c.args.nodes.now.items (g.E.Ends.view c.args.ends.now) c.requires.there c.requires.apart c.requires.own mid (g.E.Ends.view c.loop-k.ends) c.loop-k.k c.loop-k.moved c.loop-k.invariant.passed
+    (passed_lost g.met.T.Transducer.laws c.args.nodes.now.items (g.E.Ends.view c.args.ends.now) c.requires.there c.requires.apart c.requires.own mid
+    (g.E.Ends.view c.loop-k.ends) c.loop-k.k c.loop-k.moved c.loop-k.invariant.passed
     c.index_mut.result.now inside c.index_mut.ensures.value c.run.new.self (g.E.Ends.view c.run.new.ends) c.run.ensures.place c.run.ensures.ends c.in_err-moved.ensures.broke)
 
 pub returns-in_err-moved-clause-starves : goal.returns-in_err-moved-clause-starves
@@ -53,7 +58,8 @@ returns-in_err-moved-clause-starves g c =
     let mid = c.loop-k.nodes.items in
     let inside : c.loop-k.k < length mid = omega arith in
     on_err c.from_residual.result
-    (passed_starves g.met.T.Transducer.laws c.args.nodes.now.items (g.E.Ends.view c.args.ends.now) c.requires.there c.requires.apart c.requires.own mid (g.E.Ends.view c.loop-k.ends) c.loop-k.k c.loop-k.moved c.loop-k.invariant.passed
+    (passed_starves g.met.T.Transducer.laws c.args.nodes.now.items (g.E.Ends.view c.args.ends.now) c.requires.there c.requires.apart c.requires.own
+    mid (g.E.Ends.view c.loop-k.ends) c.loop-k.k c.loop-k.moved c.loop-k.invariant.passed
     c.index_mut.result.now inside c.index_mut.ensures.value c.run.new.self (g.E.Ends.view c.run.new.ends) c.run.ensures.place c.run.ensures.ends c.in_err-moved.ensures.broke)
 
 pub loop-k-preserved : goal.loop-k-preserved
@@ -66,9 +72,11 @@ loop-k-preserved g c =
       | then-running+in_ok-moved w ↦ record {
         same = subst (λ z. g.E.Ends.same c.args.ends.now z) (sym w.ends-is) (g.met.E.Ends.same_trans c.args.ends.now c.loop-k.ends w.run.new.ends c.loop-k.invariant.same w.run.ensures.same);
         passed =
-            passed_out (c.loop-k.k + 1) nodes (set mid c.loop-k.k w.run.new.self) c.if-running.nodes.items (view c.args.ends.now) (view w.run.new.ends) (view c.if-running.ends) (c.loop-k.moved || w.in_ok-moved.field-0) c.if-running.moved
+            passed_out (c.loop-k.k + 1) nodes (set mid c.loop-k.k w.run.new.self) c.if-running.nodes.items (view c.args.ends.now)
+            (view w.run.new.ends) (view c.if-running.ends) (c.loop-k.moved || w.in_ok-moved.field-0) c.if-running.moved
             (λ i. (w.nodes-is i).items) (ap view w.ends-is) w.moved-is
-            (passed_next g.met.T.Transducer.laws nodes (view c.args.ends.now) c.requires.there c.requires.apart c.requires.own mid (view c.loop-k.ends) c.loop-k.k c.loop-k.moved c.loop-k.invariant.passed
+            (passed_next g.met.T.Transducer.laws nodes (view c.args.ends.now) c.requires.there c.requires.apart c.requires.own mid
+            (view c.loop-k.ends) c.loop-k.k c.loop-k.moved c.loop-k.invariant.passed
             w.index_mut.result.now inside w.index_mut.ensures.value w.run.new.self (view w.run.new.ends) w.run.ensures.place w.run.ensures.ends w.in_ok-moved.field-0 w.in_ok-moved.ensures.visited);
       }
       | else-running+else-not-is_over w ↦ record {
@@ -76,7 +84,8 @@ loop-k-preserved g c =
         passed =
             passed_out (c.loop-k.k + 1) nodes mid c.if-running.nodes.items (view c.args.ends.now) (view c.loop-k.ends) (view c.if-running.ends) c.loop-k.moved c.if-running.moved
             (λ i. (w.nodes-is i).items) (ap view w.ends-is) w.moved-is
-            (passed_by nodes mid (view c.args.ends.now) (view c.loop-k.ends) c.loop-k.k c.loop-k.moved w.index.result.now inside w.index.ensures (sym w.is_over.ensures ∙ w.if-not-is_over.false) c.loop-k.invariant.passed);
+            (passed_by nodes mid (view c.args.ends.now) (view c.loop-k.ends) c.loop-k.k c.loop-k.moved w.index.result.now inside w.index.ensures
+            (sym w.is_over.ensures ∙ w.if-not-is_over.false) c.loop-k.invariant.passed);
       }
     ]
 

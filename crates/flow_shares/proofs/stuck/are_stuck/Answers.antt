@@ -33,5 +33,6 @@ loop-placed-preserved g c =
     record {
       same = g.met.E.Ends.same_trans c.args.ends.now c.loop-placed.ends c.is_stuck.new.ends c.loop-placed.invariant.same c.is_stuck.ensures.same;
       so_far = stuck_next g.met.T.Transducer.laws c.args.nodes.now c.requires.apart c.loop-placed.placed-index c.placed-item.result c.loop-placed-test.true c.placed-item.is
-          (view c.args.ends.now) (view c.loop-placed.ends) (view c.is_stuck.new.ends) c.is_stuck.ensures.ends c.is_stuck.ensures.looked c.loop-placed.invariant.so_far (c.is_stuck.ensures.stuck.0 c.if-not-is_stuck.false);
+          (view c.args.ends.now) (view c.loop-placed.ends) (view c.is_stuck.new.ends) c.is_stuck.ensures.ends c.is_stuck.ensures.looked
+          c.loop-placed.invariant.so_far (c.is_stuck.ensures.stuck.0 c.if-not-is_stuck.false);
     }

@@ -29,7 +29,13 @@ returns-in-Err-clause-first g c =
     let asked = g.S.Start.asked in
     let rest = c.loop-share.share-iterator.rest.items in
     let count : length threads.items + 1 ≤ length c.args.shares.items =
-    omega (arith, ap length was.started, length-append (map (λ thread. thread.promise.given.value) threads.items) rest, length-map threads.items (λ thread. thread.promise.given.value), ap length c.in-Some.ensures.steps.0) in
+    omega (
+      arith,
+      ap length was.started,
+      length-append (map (λ thread. thread.promise.given.value) threads.items) rest,
+      length-map threads.items (λ thread. thread.promise.given.value),
+      ap length c.in-Some.ensures.steps.0,
+    ) in
     asked_first (length threads.items + 1) (length c.args.shares.items) (asked c.args.start.now) (asked c.start_thread.new.start) count
     (asked_next (length threads.items) c.len-number.result (length threads.items + 1)
     (asked c.args.start.now) (asked c.loop-share.start) (asked c.start_thread.new.start) was.asked c.start_thread.ensures.asked

@@ -15,15 +15,18 @@ invariant_of-result g c =
       | in-Ok w ↦ (let nodes_are : back.1.0.items ≡ c.take_turns.new.nodes.items = λ i. (w.result-is i).1.0.items in
           let view_is : view back.1.1.0 ≡ view c.take_turns.new.ends = λ i. view (w.result-is i).1.1.0 in
           record {
-            there = there_out share.nodes.items c.take_turns.new.nodes.items back.1.0.items (view share.ends) (view c.take_turns.new.ends) (view back.1.1.0) nodes_are view_is took.places took.ends share.there;
+            there = there_out share.nodes.items c.take_turns.new.nodes.items back.1.0.items (view share.ends) (view c.take_turns.new.ends)
+                (view back.1.1.0) nodes_are view_is took.places took.ends share.there;
             apart = apart_out share.nodes.items c.take_turns.new.nodes.items back.1.0.items (view share.ends) (view c.take_turns.new.ends) (view back.1.1.0) nodes_are view_is took.places share.apart;
-            own = λ fed. own_out share.nodes.items c.take_turns.new.nodes.items back.1.0.items (view share.ends) (view c.take_turns.new.ends) (view back.1.1.0) nodes_are view_is took.places w.in-Ok.ensures.moved (share.own c.requires.fed);
+            own = λ fed. own_out share.nodes.items c.take_turns.new.nodes.items back.1.0.items (view share.ends) (view c.take_turns.new.ends)
+                (view back.1.1.0) nodes_are view_is took.places w.in-Ok.ensures.moved (share.own c.requires.fed);
           })
       | in-Err w ↦ (let nodes_are : back.1.0.items ≡ c.take_turns.new.nodes.items = λ i. (w.result-is i).1.0.items in
           let view_is : view back.1.1.0 ≡ view c.take_turns.new.ends = λ i. view (w.result-is i).1.1.0 in
           let starved : back.1.1.1.1.0 ≡ true = λ i. (w.result-is i).1.1.1.1.0 in
           record {
-            there = there_out share.nodes.items c.take_turns.new.nodes.items back.1.0.items (view share.ends) (view c.take_turns.new.ends) (view back.1.1.0) nodes_are view_is took.places took.ends share.there;
+            there = there_out share.nodes.items c.take_turns.new.nodes.items back.1.0.items (view share.ends) (view c.take_turns.new.ends)
+                (view back.1.1.0) nodes_are view_is took.places took.ends share.there;
             apart = apart_out share.nodes.items c.take_turns.new.nodes.items back.1.0.items (view share.ends) (view c.take_turns.new.ends) (view back.1.1.0) nodes_are view_is took.places share.apart;
             own = λ fed. absurd (let no : true ≡ false = sym starved ∙ fed in cc);
           })
@@ -39,7 +42,8 @@ returns-clause-often g c =
       | in-Ok w ↦ (let nodes_are : back.1.0.items ≡ c.take_turns.new.nodes.items = λ i. (w.result-is i).1.0.items in
           let view_is : view back.1.1.0 ≡ view c.take_turns.new.ends = λ i. view (w.result-is i).1.1.0 in
           let spent_is : back.1.1.1.0 ≡ w.in-Ok.field-0.spent = λ i. (w.result-is i).1.1.1.0 in
-          λ spent. often_out share.nodes.items c.take_turns.new.nodes.items back.1.0.items (view share.ends) (view c.take_turns.new.ends) (view back.1.1.0) nodes_are view_is took.places most_turns c.args.idle_turns (w.in-Ok.ensures.often (sym spent_is ∙ spent)))
+          λ spent. often_out share.nodes.items c.take_turns.new.nodes.items back.1.0.items (view share.ends) (view c.take_turns.new.ends)
+          (view back.1.1.0) nodes_are view_is took.places most_turns c.args.idle_turns (w.in-Ok.ensures.often (sym spent_is ∙ spent)))
       | in-Err w ↦ (let spent_is : back.1.1.1.0 ≡ false = λ i. (w.result-is i).1.1.1.0 in
           λ spent. absurd (let no : true ≡ false = sym spent ∙ spent_is in cc))
     ]

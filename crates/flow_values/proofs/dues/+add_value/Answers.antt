@@ -18,11 +18,13 @@ add_value-add_value-requires t c =
     let left : width (ty_of c.deref-in-Pair-Pair.result.now) ≡ width first = ap (λ x. width (ty_of x)) c.deref-in-Pair-Pair.ensures in
     let narrower = (parts_narrower first second).0 in
     let fits = c.requires.fits in
-    let are : is_a first (value_of c.in-Pair-Pair.a.value) && is_a second (value_of c.in-Pair-Pair.b.value) ≡ true = sym (ap₂ (λ x y. is_a (ty_of x) (value_of y)) c.in-Pair-Pair.is-0 c.in-Pair-Pair.is-1) ∙ c.requires.of_type in (
+    let are : is_a first (value_of c.in-Pair-Pair.a.value) && is_a second (value_of c.in-Pair-Pair.b.value) ≡ true =
+    sym (ap₂ (λ x y. is_a (ty_of x) (value_of y)) c.in-Pair-Pair.is-0 c.in-Pair-Pair.is-1) ∙ c.requires.of_type in (
       omega (arith, whole, left, narrower),
       (
         omega (arith, whole, left, narrower, fits),
-        ap₂ (λ x y. is_a (ty_of x) (value_of y)) c.deref-in-Pair-Pair.ensures c.deref-in-Pair-Pair-2.ensures ∙ (both_true (is_a first (value_of c.in-Pair-Pair.a.value)) (is_a second (value_of c.in-Pair-Pair.b.value)) are).0,
+        ap₂ (λ x y. is_a (ty_of x) (value_of y)) c.deref-in-Pair-Pair.ensures c.deref-in-Pair-Pair-2.ensures
+            ∙ (both_true (is_a first (value_of c.in-Pair-Pair.a.value)) (is_a second (value_of c.in-Pair-Pair.b.value)) are).0,
       ),
     )
 
@@ -36,18 +38,21 @@ add_value-add_value-requires-in-Pair-Pair t c =
     let narrower = (parts_narrower first second).1 in
     let right : width (ty_of c.deref-in-Pair-Pair-3.result.now) ≡ width second = ap (λ x. width (ty_of x)) c.deref-in-Pair-Pair-3.ensures in
     let fits = c.requires.fits in
-    let are : is_a first (value_of c.in-Pair-Pair.a.value) && is_a second (value_of c.in-Pair-Pair.b.value) ≡ true = sym (ap₂ (λ x y. is_a (ty_of x) (value_of y)) c.in-Pair-Pair.is-0 c.in-Pair-Pair.is-1) ∙ c.requires.of_type in (
+    let are : is_a first (value_of c.in-Pair-Pair.a.value) && is_a second (value_of c.in-Pair-Pair.b.value) ≡ true =
+    sym (ap₂ (λ x y. is_a (ty_of x) (value_of y)) c.in-Pair-Pair.is-0 c.in-Pair-Pair.is-1) ∙ c.requires.of_type in (
       omega (arith, whole, right, narrower),
       (
         omega (arith, both, left, right, fits),
-        ap₂ (λ x y. is_a (ty_of x) (value_of y)) c.deref-in-Pair-Pair-3.ensures c.deref-in-Pair-Pair-5.ensures ∙ (both_true (is_a first (value_of c.in-Pair-Pair.a.value)) (is_a second (value_of c.in-Pair-Pair.b.value)) are).1,
+        ap₂ (λ x y. is_a (ty_of x) (value_of y)) c.deref-in-Pair-Pair-3.ensures c.deref-in-Pair-Pair-5.ensures
+            ∙ (both_true (is_a first (value_of c.in-Pair-Pair.a.value)) (is_a second (value_of c.in-Pair-Pair.b.value)) are).1,
       ),
     )
 
 pub add_value-add_segment-requires : goal.add_value-add_segment-requires
 add_value-add_segment-requires t c =
     let item = ty_of c.in-Seq-Seq.item.value in
-    let same : width (ty_of c.args.ty.now) ≡ width (seq (ty_of c.deref-in-Seq-Seq.result.now)) = ap (λ x. width (ty_of x)) c.in-Seq-Seq.is-0 ∙ ap (λ x. width (seq (ty_of x))) (sym c.deref-in-Seq-Seq.ensures) in
+    let same : width (ty_of c.args.ty.now) ≡ width (seq (ty_of c.deref-in-Seq-Seq.result.now)) = ap (λ x. width (ty_of x)) c.in-Seq-Seq.is-0
+    ∙ ap (λ x. width (seq (ty_of x))) (sym c.deref-in-Seq-Seq.ensures) in
     let fits = c.requires.fits in (
       omega (arith, same),
       (

@@ -18,7 +18,8 @@ returns-in-Some c =
     let same = c.deref-in-Ints.ensures.value ∙ ap (λ v. v.items) c.deref.ensures in
     record {
       element = an_int n;
-      found = sym (found an_int (arc_value c.in-Ints.all).items c.deref-in-Ints.result.now c.args.all.now (Ints c.in-Ints.all) c.in-Ints.is (entries-Ints c.in-Ints.all) same c.args.place n (an_int n) refl c.in-Some.ensures.lookup.0 c.in-Some.ensures.lookup.1);
+      found = sym (found an_int (arc_value c.in-Ints.all).items c.deref-in-Ints.result.now c.args.all.now (Ints c.in-Ints.all) c.in-Ints.is
+          (entries-Ints c.in-Ints.all) same c.args.place n (an_int n) refl c.in-Some.ensures.lookup.0 c.in-Some.ensures.lookup.1);
       scalar = refl;
       carries = ap int (widened n narrow);
     }
@@ -30,7 +31,8 @@ returns-in-Some-get c =
     let same = c.deref-in-Wides-2.ensures.value ∙ ap (λ v. v.items) c.deref-in-Wides.ensures in
     record {
       element = an_int n;
-      found = sym (found an_int (arc_value c.in-Wides.all).items c.deref-in-Wides-2.result.now c.args.all.now (Wides c.in-Wides.all) c.in-Wides.is (entries-Wides c.in-Wides.all) same c.args.place n (an_int n) refl c.in-Some-get.ensures.lookup.0 c.in-Some-get.ensures.lookup.1);
+      found = sym (found an_int (arc_value c.in-Wides.all).items c.deref-in-Wides-2.result.now c.args.all.now (Wides c.in-Wides.all) c.in-Wides.is
+          (entries-Wides c.in-Wides.all) same c.args.place n (an_int n) refl c.in-Some-get.ensures.lookup.0 c.in-Some-get.ensures.lookup.1);
       scalar = refl;
       carries = ap int (to_z-of_z w128 n wide);
     }
@@ -41,7 +43,8 @@ returns-in-Some-get-2 c =
     let same = c.deref-in-Bools-2.ensures.value ∙ ap (λ v. v.items) c.deref-in-Bools.ensures in
     record {
       element = a_bool b;
-      found = sym (found a_bool (arc_value c.in-Bools.all).items c.deref-in-Bools-2.result.now c.args.all.now (Bools c.in-Bools.all) c.in-Bools.is (entries-Bools c.in-Bools.all) same c.args.place b (a_bool b) refl c.in-Some-get-2.ensures.lookup.0 c.in-Some-get-2.ensures.lookup.1);
+      found = sym (found a_bool (arc_value c.in-Bools.all).items c.deref-in-Bools-2.result.now c.args.all.now (Bools c.in-Bools.all) c.in-Bools.is
+          (entries-Bools c.in-Bools.all) same c.args.place b (a_bool b) refl c.in-Some-get-2.ensures.lookup.0 c.in-Some-get-2.ensures.lookup.1);
       scalar = refl;
       carries = refl;
     }

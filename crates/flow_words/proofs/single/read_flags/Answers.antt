@@ -13,8 +13,8 @@ loop-place-preserved c =
     record {
       places = length-set c.loop-place.flags i c.truth.result ∙ inv.places;
       read = λ none.
-        let (before, now) = or_parts c.loop-place.ended _ none in
-        read_next c.args.words.now c.loop-place.flags i c.truth.result _ c.loop-place-test.true (omega (arith, inv.places, c.requires.places, c.loop-place-test.true))
+          let (before, now) = or_parts c.loop-place.ended _ none in
+          read_next c.args.words.now c.loop-place.flags i c.truth.result _ c.loop-place-test.true (omega (arith, inv.places, c.requires.places, c.loop-place-test.true))
           (inv.read before) (c.truth.ensures (c.is_end-ended.ensures now));
     }
 

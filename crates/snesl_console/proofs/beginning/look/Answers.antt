@@ -1,7 +1,8 @@
 use Rattle.snesl_console.proofs.Beginnings.{next_there, parted_there, too_long_last, too_long_there, undecided_last}
 use Rattle.snesl_console.proofs.Streaming.{rest_is}
 use Rattle.snesl_console.proofs.beginning.look.Goals as goal
-use Rattle.snesl_console.proofs.beginning.look.Goals.{else-bytes-gt-LONGEST_PROGRAM-via-else-bytes-gt-LONGEST_PROGRAM, else-bytes-gt-LONGEST_PROGRAM-via-then-bytes-gt-LONGEST_PROGRAM+else-not-starts_with}
+use Rattle.snesl_console.proofs.beginning.look.Goals.{else-bytes-gt-LONGEST_PROGRAM-via-else-bytes-gt-LONGEST_PROGRAM}
+use Rattle.snesl_console.proofs.beginning.look.Goals.{else-bytes-gt-LONGEST_PROGRAM-via-then-bytes-gt-LONGEST_PROGRAM+else-not-starts_with}
 use Rattle.std.proofs.Common.{codes, drop, inl, inr, length, sym, take, ◌-◌, ◌∙◌}
 use Rattle.std.proofs.lemmas.Bool.Decides.{Decides-eqb}
 use Rattle.std.proofs.lemmas.Bool.{false≢true}

@@ -82,6 +82,7 @@ pub returns-else-eq-clause-weighed : goal.returns-else-eq-clause-weighed
 returns-else-eq-clause-weighed t c =
     let all = c.args.declarations.now in
     let earlier = c.in_ok-last.earlier.now in
-    found_before (λ (found : Found). weight_of found.0.now + weight found.1.now ≤ weight earlier) (λ (found : Found). weight_of found.0.now + weight found.1.now ≤ weight all) c.find_function-else-eq.result
+    found_before (λ (found : Found). weight_of found.0.now + weight found.1.now ≤ weight earlier)
+    (λ (found : Found). weight_of found.0.now + weight found.1.now ≤ weight all) c.find_function-else-eq.result
     (λ found h. weight-less all earlier c.in_ok-last.last.now _ c.in_ok-last.ensures.cases.0 h)
     c.find_function-else-eq.ensures.weighed

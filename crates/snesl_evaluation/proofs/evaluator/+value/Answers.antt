@@ -65,7 +65,8 @@ all_values-returns-in_err-value t c =
     let scope = c.args.scope.now in
     let exprs = c.args.exprs.now in
     let expr = c.expr-item.result in
-    halt_passes value_of (λ (values : Vec Datum Global). map value_of values.items) c.from_residual.result c.in_err-value.field-0.0 (eval_in context scope (tree_of expr)) (all_in context scope (trees_of exprs)) c.from_residual.ensures.1 c.in_err-value.ensures
+    halt_passes value_of (λ (values : Vec Datum Global). map value_of values.items) c.from_residual.result c.in_err-value.field-0.0
+    (eval_in context scope (tree_of expr)) (all_in context scope (trees_of exprs)) c.from_residual.ensures.1 c.in_err-value.ensures
     (λ kind at e. c.loop-expr.invariant ∙ values_faults context scope (map value_of c.loop-expr.values.items) exprs c.loop-expr.expr-index expr kind at c.loop-expr-test.true c.expr-item.is e)
 
 pub all_values-loop-expr-preserved : goal.all_values-loop-expr-preserved
@@ -89,7 +90,8 @@ all_columns-returns-in_err-sequence t c =
     let columns = λ (all : Vec Column Global). map (bound_items_of context.text.now) all.items in
     let binders = c.args.binders.now in
     let binder = c.binder-item.result in
-    halt_passes value_of columns c.from_residual.result c.in_err-sequence.field-0.0 (eval_in context scope (tree_of binder.source)) (binders_in context scope (binders_of binders)) c.from_residual.ensures.1 c.in_err-sequence.ensures
+    halt_passes value_of columns c.from_residual.result c.in_err-sequence.field-0.0 (eval_in context scope (tree_of binder.source))
+    (binders_in context scope (binders_of binders)) c.from_residual.ensures.1 c.in_err-sequence.ensures
     (λ kind at e. c.loop-binder.invariant ∙ columns_faults context scope (columns c.loop-binder.columns) binders c.loop-binder.binder-index binder kind at c.loop-binder-test.true c.binder-item.is
     (ap (λ answer. go answer (items_at binder.name.at)) e))
 
@@ -100,7 +102,9 @@ all_columns-returns-in_err-items t c =
     let columns = λ (all : Vec Column Global). map (bound_items_of context.text.now) all.items in
     let binders = c.args.binders.now in
     let binder = c.binder-item.result in
-    halt_passes (λ (all : Vec Datum Global). map value_of all.items) columns c.from_residual-in_err-items.result c.in_err-items.field-0.0 (items_at binder.name.at (value_of c.in_ok-sequence.sequence)) (binders_in context scope (binders_of binders)) c.from_residual-in_err-items.ensures.1 c.in_err-items.ensures
+    halt_passes (λ (all : Vec Datum Global). map value_of all.items) columns c.from_residual-in_err-items.result c.in_err-items.field-0.0
+    (items_at binder.name.at (value_of c.in_ok-sequence.sequence)) (binders_in context scope (binders_of binders))
+    c.from_residual-in_err-items.ensures.1 c.in_err-items.ensures
     (λ kind at e. c.loop-binder.invariant ∙ columns_faults context scope (columns c.loop-binder.columns) binders c.loop-binder.binder-index binder kind at c.loop-binder-test.true c.binder-item.is
     (ap (λ answer. go answer (items_at binder.name.at)) c.in_ok-sequence.ensures ∙ e))
 
@@ -111,7 +115,9 @@ all_columns-loop-binder-preserved t c =
     let binders = c.args.binders.now in
     let i = c.loop-binder.binder-index in
     c.loop-binder.invariant
-    ∙ columns_given context scope (map (bound_items_of context.text.now) c.loop-binder.columns.items) binders i c.binder-item.result (value_of c.in_ok-sequence.sequence) (map value_of c.in_ok-items.items.items) c.loop-binder-test.true c.binder-item.is c.in_ok-sequence.ensures c.in_ok-items.ensures
+    ∙ columns_given context scope (map (bound_items_of context.text.now) c.loop-binder.columns.items) binders i c.binder-item.result
+    (value_of c.in_ok-sequence.sequence) (map value_of c.in_ok-items.items.items) c.loop-binder-test.true c.binder-item.is c.in_ok-sequence.ensures
+    c.in_ok-items.ensures
     ∙ ap (λ done. behind done (binders_in context scope (binders_of (drop (i + 1) binders)))) (sym (c.in_ok-add_column.ensures context.text.now))
 
 pub all_columns-returns : goal.all_columns-returns
@@ -127,7 +133,8 @@ rows-returns-in_err-value t c =
     let f = λ (row : Environment). eval dialect (tree_of c.args.body.now) text (calls_in c.args.context.now) (row ++ environment_in text c.args.scope.now) in
     let i = c.loop-index.index in
     let level = level_seen text c.args.number c.args.columns.now ∙ c.requires in
-    halt_passes value_of (λ (values : Vec Datum Global). map value_of values.items) c.from_residual.result c.in_err-value.field-0.0 (f (names_at i columns)) (go_all f (rows_of c.args.number columns)) c.from_residual.ensures.1 c.in_err-value.ensures
+    halt_passes value_of (λ (values : Vec Datum Global). map value_of values.items) c.from_residual.result c.in_err-value.field-0.0
+    (f (names_at i columns)) (go_all f (rows_of c.args.number columns)) c.from_residual.ensures.1 c.in_err-value.ensures
     (λ kind at e. c.loop-index.invariant ∙ row_faults f c.args.number columns i (map value_of c.loop-index.values.items) kind at level (omega arith) e)
 
 pub rows-loop-index-preserved : goal.rows-loop-index-preserved
@@ -161,7 +168,9 @@ rows_where-returns-in_err-found t c =
     let f = λ (row : Environment). kept_at c.args.context.now (row ++ environment_in text c.args.scope.now) c.args.at (tree_of c.args.body.now) (tree_of c.args.condition.now) in
     let i = c.loop-index.index in
     let level = level_seen text c.args.number c.args.columns.now ∙ c.requires in
-    halt_passes (λ (found : Option Datum). option_to_list (option_map value_of found)) (λ (values : Vec Datum Global). map value_of values.items) c.from_residual.result c.in_err-found.field-0.0 (f (names_at i columns)) (go_join f (rows_of c.args.number columns)) c.from_residual.ensures.1 c.in_err-found.ensures
+    halt_passes (λ (found : Option Datum). option_to_list (option_map value_of found)) (λ (values : Vec Datum Global). map value_of values.items)
+    c.from_residual.result c.in_err-found.field-0.0 (f (names_at i columns)) (go_join f (rows_of c.args.number columns)) c.from_residual.ensures.1
+    c.in_err-found.ensures
     (λ kind at e. c.loop-index.invariant ∙ kept_faults f c.args.number columns i (map value_of c.loop-index.values.items) kind at level (omega arith) e)
 
 pub rows_where-loop-index-preserved : goal.rows_where-loop-index-preserved
@@ -215,7 +224,8 @@ value-returns-in-Let t c =
     let context = c.args.context.now in
     let scope = c.args.scope.now in
     let text = context.text.now in
-    let answer = λ (bound body : Expr). go (eval_in context scope (tree_of bound)) (λ v. eval context.dialect (tree_of body) text (calls_in context) ((spelling text c.in-Let.name, v) ∷ environment_in text scope)) in
+    let answer = λ (bound body : Expr). go (eval_in context scope (tree_of bound))
+    (λ v. eval context.dialect (tree_of body) text (calls_in context) ((spelling text c.in-Let.name, v) ∷ environment_in text scope)) in
     let e =
     ap (λ expr. eval_in context scope (tree_of expr)) c.in-Let.is
     ∙ ap (λ bound. answer bound c.in-Let.body.value) (sym c.deref-in-Let.ensures)
@@ -227,7 +237,8 @@ value-returns-in-If t c =
     let context = c.args.context.now in
     let scope = c.args.scope.now in
     let at = c.in-If.at in
-    let answer = λ (condition positive negative : Expr). go (eval_in context scope (tree_of condition)) (λ v. go (truth_at at v) (λ b. if b then eval_in context scope (tree_of positive) else eval_in context scope (tree_of negative))) in
+    let answer = λ (condition positive negative : Expr). go (eval_in context scope (tree_of condition))
+    (λ v. go (truth_at at v) (λ b. if b then eval_in context scope (tree_of positive) else eval_in context scope (tree_of negative))) in
     let e =
     ap (λ expr. eval_in context scope (tree_of expr)) c.in-If.is
     ∙ ap (λ condition. answer condition c.in-If.positive.value c.in-If.negative.value) (sym c.deref-in-If.ensures)
@@ -300,7 +311,8 @@ value-returns-in-Some t c =
     let context = c.args.context.now in
     let scope = c.args.scope.now in
     let at = c.in-Each.at in
-    let answer = λ (body : Expr) (binders : Binders) (condition : Expr). go (binders_in context scope binders) (λ columns. go (in_step at columns) (λ rows. seq_answer (where_in context scope at (tree_of body) (tree_of condition) rows))) in
+    let answer = λ (body : Expr) (binders : Binders) (condition : Expr). go (binders_in context scope binders)
+    (λ columns. go (in_step at columns) (λ rows. seq_answer (where_in context scope at (tree_of body) (tree_of condition) rows))) in
     let e =
     ap (λ expr. eval_in context scope (tree_of expr)) c.in-Each.is
     ∙ ap (λ condition. eval_in context scope (tree_of (Each at c.in-Each.body c.in-Each.binders condition))) c.in-Some.is

@@ -97,4 +97,5 @@ invariant-rows-loop-index l =
 abbrev pub invariant-rows_where-loop-index : goal.invariant-rows_where-loop-index
 invariant-rows_where-loop-index l =
     where_in l.context l.scope l.at (tree_of l.body) (tree_of l.condition) (rows_of l.number (map (bound_items_of l.context.text.now) l.columns))
-    ≡ go (where_in l.context l.scope l.at (tree_of l.body) (tree_of l.condition) (drop l.index (rows_of l.number (map (bound_items_of l.context.text.now) l.columns)))) (λ later. gives (map value_of l.values.items ++ later))
+    ≡ go (where_in l.context l.scope l.at (tree_of l.body) (tree_of l.condition)
+    (drop l.index (rows_of l.number (map (bound_items_of l.context.text.now) l.columns)))) (λ later. gives (map value_of l.values.items ++ later))

@@ -13,7 +13,8 @@ returns-in_err-n c =
     let f = int_at c.args.at in
     let all = c.args.all.now in
     let item = c.datum-item.result in
-    halt_passes (λ (x : ℤ). x) (λ (read : Vec ℤ Global). read.items) c.from_residual-in_err-n.result c.in_err-n.field-0.0 (f (value_of item)) (go_all f (map value_of all)) c.from_residual-in_err-n.ensures.1 c.in_err-n.ensures
+    halt_passes (λ (x : ℤ). x) (λ (read : Vec ℤ Global). read.items) c.from_residual-in_err-n.result c.in_err-n.field-0.0 (f (value_of item))
+    (go_all f (map value_of all)) c.from_residual-in_err-n.ensures.1 c.in_err-n.ensures
     (λ kind at e. c.loop-datum.invariant ∙ read_faults f value_of c.loop-datum.read.items all c.loop-datum.datum-index item kind at c.loop-datum-test.true c.datum-item.is e)
 
 pub loop-datum-preserved : goal.loop-datum-preserved

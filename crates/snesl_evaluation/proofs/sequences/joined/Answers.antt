@@ -12,7 +12,8 @@ returns-in_err-inner c =
     let f = items_at c.args.at in
     let all = c.args.all.now in
     let item = c.datum-item.result in
-    halt_passes (λ (all : Bor (List Datum)). map value_of all.now) (λ (values : Vec Datum Global). map value_of values.items) c.from_residual.result c.in_err-inner.field-0.0 (f (value_of item)) (go_join f (map value_of all)) c.from_residual.ensures.1 c.in_err-inner.ensures
+    halt_passes (λ (all : Bor (List Datum)). map value_of all.now) (λ (values : Vec Datum Global). map value_of values.items) c.from_residual.result
+    c.in_err-inner.field-0.0 (f (value_of item)) (go_join f (map value_of all)) c.from_residual.ensures.1 c.in_err-inner.ensures
     (λ kind at e. c.loop-datum.invariant ∙ joined_faults f value_of (map value_of c.loop-datum.values.items) all c.loop-datum.datum-index item kind at c.loop-datum-test.true c.datum-item.is e)
 
 pub loop-datum-preserved : goal.loop-datum-preserved

@@ -23,7 +23,8 @@ returns-in_err-taken c =
     let here : get_or flags i false ≡ false = search rules in
     let next = drop-cons flags i false (omega arith) ∙ ap (λ b. b ∷ drop (suc i) flags) here in
     halt_passes (λ (n : ℕ). map value_of c.take_item.new.part.items) (λ (values : Vec Datum Global). map value_of values.items) c.from_residual-in_err-taken.result c.in_err-taken.field-0.0
-    (go (or_fault Part at (slice_get vs taken)) (λ v. gives (part ++ v ∷ []))) (go (parts_answer at vs flags) (λ parts. gives (map sequence parts))) c.from_residual-in_err-taken.ensures.1 c.in_err-taken.ensures.taken
+    (go (or_fault Part at (slice_get vs taken)) (λ v. gives (part ++ v ∷ []))) (go (parts_answer at vs flags) (λ parts. gives (map sequence parts)))
+    c.from_residual-in_err-taken.ensures.1 c.in_err-taken.ensures.taken
     (λ kind place e.
     c.loop-flag.invariant
     ∙ ap (λ l. go (parts_answer at (drop taken vs) l) (behind at done part)) next
@@ -48,7 +49,8 @@ loop-flag-preserved c =
           ∙ ap (λ l. go (parts_answer at (drop taken vs) l) (behind at done part)) next
           ∙ part_ends at done part (drop taken vs) (drop (suc i) flags)
           ∙ at_same at vs flags taken c.if-flag.taken (suc i) (i + 1) (done ++ sequence part ∷ []) (map value_of c.if-flag.parts.items) [] (map value_of c.if-flag.part.items)
-          (sym w.taken-is) n (sym (ap (λ (v : Vec Datum Global). map value_of v.items) w.parts-is ∙ w.in_ok-end_part.ensures.done)) (sym (ap (λ (v : Vec Datum Global). map value_of v.items) w.part-is ∙ ap (map value_of) w.in_ok-end_part.ensures.begun))
+          (sym w.taken-is) n (sym (ap (λ (v : Vec Datum Global). map value_of v.items) w.parts-is ∙ w.in_ok-end_part.ensures.done))
+          (sym (ap (λ (v : Vec Datum Global). map value_of v.items) w.part-is ∙ ap (map value_of) w.in_ok-end_part.ensures.begun))
       | else-flag+in_ok-taken w ↦
           let here : get_or flags i false ≡ false = search rules in
           let next = drop-cons flags i false below ∙ ap (λ b. b ∷ drop (suc i) flags) here in
@@ -58,7 +60,8 @@ loop-flag-preserved c =
           ∙ ap (λ l. go (parts_answer at (drop taken vs) l) (behind at done part)) next
           ∙ part_grows at done part grown vs taken (drop (suc i) flags) w.in_ok-taken.ensures.taken
           ∙ at_same at vs flags (suc taken) c.if-flag.taken (suc i) (i + 1) done (map value_of c.if-flag.parts.items) grown (map value_of c.if-flag.part.items)
-          (more ∙ sym (w.taken-is ∙ w.in_ok-taken.ensures.next)) n (sym (ap (λ (v : Vec Datum Global). map value_of v.items) w.parts-is)) (sym (ap (λ (v : Vec Datum Global). map value_of v.items) w.part-is))
+          (more ∙ sym (w.taken-is ∙ w.in_ok-taken.ensures.next)) n (sym (ap (λ (v : Vec Datum Global). map value_of v.items) w.parts-is))
+          (sym (ap (λ (v : Vec Datum Global). map value_of v.items) w.part-is))
     ]
 
 pub returns-then-taken-items : goal.returns-then-taken-items
@@ -88,7 +91,8 @@ returns-then-not-is_empty c =
     let begun = length-map c.loop-flag.part.items value_of in
     let whole = c.loop-flag.part.ok.0 in
     let full : length part ≢ 0 = grind (arith, begun, whole) in
-    subst (λ halt. Answers (λ (values : Vec Datum Global). map value_of values.items) (Err halt) (go (parts_answer at vs flags) (λ parts. gives (map sequence parts)))) (sym c.fault-then-not-is_empty.ensures)
+    subst (λ halt. Answers (λ (values : Vec Datum Global). map value_of values.items) (Err halt)
+    (go (parts_answer at vs flags) (λ parts. gives (map sequence parts)))) (sym c.fault-then-not-is_empty.ensures)
     (c.loop-flag.invariant
     ∙ ap (λ l. go (parts_answer at (drop taken vs) l) (behind at done part)) (drop_all flags c.loop-flag.flag-index (omega arith))
     ∙ ap (λ l. go (parts_answer at l []) (behind at done part)) (drop_all vs taken none)

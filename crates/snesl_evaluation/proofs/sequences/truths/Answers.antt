@@ -11,7 +11,8 @@ returns-in_err-b c =
     let f = truth_at c.args.at in
     let all = c.args.all.now in
     let item = c.datum-item.result in
-    halt_passes (λ (x : Bool). x) (λ (read : Vec Bool Global). read.items) c.from_residual-in_err-b.result c.in_err-b.field-0.0 (f (value_of item)) (go_all f (map value_of all)) c.from_residual-in_err-b.ensures.1 c.in_err-b.ensures
+    halt_passes (λ (x : Bool). x) (λ (read : Vec Bool Global). read.items) c.from_residual-in_err-b.result c.in_err-b.field-0.0 (f (value_of item))
+    (go_all f (map value_of all)) c.from_residual-in_err-b.ensures.1 c.in_err-b.ensures
     (λ kind at e. c.loop-datum.invariant ∙ read_faults f value_of c.loop-datum.read.items all c.loop-datum.datum-index item kind at c.loop-datum-test.true c.datum-item.is e)
 
 pub loop-datum-preserved : goal.loop-datum-preserved

@@ -37,7 +37,8 @@ returns-in-Call c =
     ap (λ expr. all_in context scope (parts_of (tree_of expr))) c.in-Call.is
     ∙ ap (λ tree. all_in context scope (parts_of tree)) (tree_of-Call c.in-Call.at c.in-Call.function c.in-Call.arguments)
     ∙ ap (λ exprs. all_in context scope (trees_of exprs)) (sym c.deref-in-Call.ensures.value) in
-    values_where_ok c.all_values.result (all_in context scope (parts_of (tree_of c.args.expr.now))) (subst (Answers (λ values. map value_of values.items) c.all_values.result) (sym e) c.all_values.ensures)
+    values_where_ok c.all_values.result (all_in context scope (parts_of (tree_of c.args.expr.now)))
+    (subst (Answers (λ values. map value_of values.items) c.all_values.result) (sym e) c.all_values.ensures)
 
 pub returns-in-Each : goal.returns-in-Each
 returns-in-Each c =

@@ -47,7 +47,8 @@ invariant_of-result c =
     let usable : AllUsable steps = steps_usable c.dialect.result c.in_ok-steps.steps.items in
     let held : HoldsNetwork typed (states_of graph) (edges_of graph) c.in_ok-assembled.assembled.places.items = record {
       sources = no_source_set (typed_text typed) (typed_tree typed) (typed_inputs typed) (states_of graph) (edges_of graph) steps is assembled.network assembled.opens assembled.opened;
-      usable = subst (λ (l : List Step). (k : ℕ) (placed : Placed) → slice_get (layout l) k ≡ Some placed → IsUsable placed.operation) is (λ k placed there. (layout_fits steps [] steps usable wired k placed there).usable);
+      usable = subst (λ (l : List Step). (k : ℕ) (placed : Placed) → slice_get (layout l) k ≡ Some placed → IsUsable placed.operation) is
+          (λ k placed there. (layout_fits steps [] steps usable wired k placed there).usable);
       places_are = assembled.places ∙ ap places is;
     } in
     record { holds = ∣ held ∣₁ }

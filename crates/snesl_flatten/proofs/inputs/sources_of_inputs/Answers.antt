@@ -26,8 +26,11 @@ add_sources-requires-clause-placed c =
     let i = c.loop-number.number in
     let placed = subst (λ l. AreSpelledAt (dialect_of inputs) (text_in inputs) l (placed_in inputs)) c.requires.declares c.inputs_are_placed.ensures.placed in
     let kept = subst (λ (t : List ℕ). AreSpelledAt (dialect_of inputs) t ds (placed_in inputs)) (sym c.text.ensures) placed in
-    let there = declared_at c.args.declarations.now i c.index-declarations-number.result c.loop-number-test.true c.index-declarations-number.is in
-    (dialect_of inputs, placed_there (dialect_of inputs) (arc_value c.text.result.now).items ds (placed_in inputs) kept i (declaration_of c.index-declarations-number.result) there c.unwrap-place.result (sym c.unwrap-place.ensures ∙ c.place.ensures))
+    let there = declared_at c.args.declarations.now i c.index-declarations-number.result c.loop-number-test.true c.index-declarations-number.is in (
+      dialect_of inputs,
+      placed_there (dialect_of inputs) (arc_value c.text.result.now).items ds (placed_in inputs) kept i
+          (declaration_of c.index-declarations-number.result) there c.unwrap-place.result (sym c.unwrap-place.ensures ∙ c.place.ensures),
+    )
 
 pub add_sources-requires-clause-fits : goal.add_sources-requires-clause-fits
 add_sources-requires-clause-fits c =

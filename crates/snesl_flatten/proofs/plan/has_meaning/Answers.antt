@@ -14,5 +14,6 @@ returns c =
     let environment = environment_of inputs in
     network_means (typed_text typed) (typed_tree typed) (typed_inputs typed) environment (states_of graph) (edges_of graph) c.graph_is_a_network.ensures.network c.requires.sources
     (typed_ty typed) typed.typed
-    (subst (λ dialect. FitDeclarations dialect (typed_inputs typed) environment) c.requires.in_dialect (subst (λ declarations. FitDeclarations (dialect_of inputs) declarations environment) c.requires.fits c.inputs_fit.ensures))
+    (subst (λ dialect. FitDeclarations dialect (typed_inputs typed) environment) c.requires.in_dialect
+    (subst (λ declarations. FitDeclarations (dialect_of inputs) declarations environment) c.requires.fits c.inputs_fit.ensures))
     c.programs_are_planned.ensures c.soundness.ensures.programs c.plan_is_its_flow.ensures.forth c.plan_is_its_flow.ensures.back c.ended_is_lawful.ensures.complete c.print_tells.ensures

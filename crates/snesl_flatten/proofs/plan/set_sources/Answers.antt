@@ -33,9 +33,11 @@ index-requires c =
     let all = c.args.sources.items in
     let it = c.into_iter-source-iterator.ensures.into_iter_gives in
     let done = c.loop-source.yielded in
-    let turn = YieldsList-turn (YieldsList-from_vec all it.0 (omega (arith, it.1, c.args.sources.ok.0))) done c.loop-source.source-iterator c.loop-source.yielded_by c.next.result c.next.new.self c.in-Some.source c.in-Some.is c.next.ensures.steps in
+    let turn = YieldsList-turn (YieldsList-from_vec all it.0 (omega (arith, it.1, c.args.sources.ok.0))) done c.loop-source.source-iterator
+    c.loop-source.yielded_by c.next.result c.next.new.self c.in-Some.source c.in-Some.is c.next.ensures.steps in
     let there = kind_next all (all_kinds (typed_inputs typed)) c.requires.kinds done c.in-Some.source turn in
-    let within = next_within (typed_text typed) (typed_tree typed) (typed_inputs typed) (map cells_in done) (states_of c.loop-source.graph) (edges_of c.loop-source.graph) c.loop-source.invariant.sources _ there in
+    let within = next_within (typed_text typed) (typed_tree typed) (typed_inputs typed) (map cells_in done) (states_of c.loop-source.graph)
+    (edges_of c.loop-source.graph) c.loop-source.invariant.sources _ there in
     omega (arith, within, length-map done cells_in, c.loop-source.invariant.step, c.args.places.now.ok.0, ap length c.requires.places)
 
 pub replace-requires : goal.replace-requires
@@ -46,14 +48,16 @@ replace-requires c =
     let done = c.loop-source.yielded in
     let columns = map cells_in done in
     let graph = c.loop-source.graph in
-    let turn = YieldsList-turn (YieldsList-from_vec all it.0 (omega (arith, it.1, c.args.sources.ok.0))) done c.loop-source.source-iterator c.loop-source.yielded_by c.next.result c.next.new.self c.in-Some.source c.in-Some.is c.next.ensures.steps in
+    let turn = YieldsList-turn (YieldsList-from_vec all it.0 (omega (arith, it.1, c.args.sources.ok.0))) done c.loop-source.source-iterator
+    c.loop-source.yielded_by c.next.result c.next.new.self c.in-Some.source c.in-Some.is c.next.ensures.steps in
     let there = kind_next all (all_kinds (typed_inputs typed)) c.requires.kinds done c.in-Some.source turn in
     let has = c.loop-source.invariant.sources in
     let on : c.loop-source.step ≡ suc (length columns) = omega (arith, length-map done cells_in, c.loop-source.invariant.step) in
     let place = place_is c.args.places.now.items (places (unset_steps typed)) c.requires.places c.loop-source.step (suc (length columns)) c.index.result.now c.index.ensures on
     (next_within (typed_text typed) (typed_tree typed) (typed_inputs typed) columns (states_of graph) (edges_of graph) has _ there) in
     subst (λ s. MayReplace node_behaviour (states_of graph) c.index.result.now (a_source, s)) (sym (fresh_next all c.requires.fresh done c.in-Some.source turn))
-    (may_set (typed_text typed) (typed_tree typed) (typed_inputs typed) columns (states_of graph) (edges_of graph) has c.source_is_set.ensures c.openings_perform.ensures (items_in c.in-Some.source) there c.index.result.now place)
+    (may_set (typed_text typed) (typed_tree typed) (typed_inputs typed) columns (states_of graph) (edges_of graph) has c.source_is_set.ensures
+    c.openings_perform.ensures (items_in c.in-Some.source) there c.index.result.now place)
 
 pub loop-source-preserved : goal.loop-source-preserved
 loop-source-preserved c =
@@ -66,7 +70,8 @@ loop-source-preserved c =
     let graph = c.loop-source.graph in
     let states = states_of graph in
     let k = c.index.result.now in
-    let turn = YieldsList-turn (YieldsList-from_vec all it.0 (omega (arith, it.1, c.args.sources.ok.0))) done c.loop-source.source-iterator c.loop-source.yielded_by c.next.result c.next.new.self s c.in-Some.is c.next.ensures.steps in
+    let turn = YieldsList-turn (YieldsList-from_vec all it.0 (omega (arith, it.1, c.args.sources.ok.0))) done c.loop-source.source-iterator
+    c.loop-source.yielded_by c.next.result c.next.new.self s c.in-Some.is c.next.ensures.steps in
     let there = kind_next all (all_kinds (typed_inputs typed)) c.requires.kinds done s turn in
     let has = c.loop-source.invariant.sources in
     let on : c.loop-source.step ≡ suc (length columns) = omega (arith, length-map done cells_in, c.loop-source.invariant.step) in
@@ -78,9 +83,11 @@ loop-source-preserved c =
     record {
       step = omega (arith, c.loop-source.invariant.step, length-append done (s ∷ []));
       sources =
-          subst (λ (l : Columns). HasSources (typed_text typed) (typed_tree typed) (typed_inputs typed) l (states_of c.replace.new.self) (edges_of c.replace.new.self)) (sym (map-append cells_in done (s ∷ [])))
+          subst (λ (l : Columns). HasSources (typed_text typed) (typed_tree typed) (typed_inputs typed) l (states_of c.replace.new.self)
+          (edges_of c.replace.new.self)) (sym (map-append cells_in done (s ∷ [])))
           (subst (λ (l : List StreamNodeState). HasSources (typed_text typed) (typed_tree typed) (typed_inputs typed) (columns ++ cells_in s ∷ []) l (edges_of c.replace.new.self)) (sym is)
-          (subst (λ (l : List Edge). HasSources (typed_text typed) (typed_tree typed) (typed_inputs typed) (columns ++ cells_in s ∷ []) (set states k (a_source, source_opening (items_in s))) l) (sym c.replace.ensures.edges) set_has));
+          (subst (λ (l : List Edge). HasSources (typed_text typed) (typed_tree typed) (typed_inputs typed) (columns ++ cells_in s ∷ [])
+          (set states k (a_source, source_opening (items_in s))) l) (sym c.replace.ensures.edges) set_has));
       edges = c.replace.ensures.edges ∙ c.loop-source.invariant.edges;
       others =
           subst (AreButSources typed (states_of c.args.graph.now)) (sym is)

@@ -37,12 +37,17 @@ returns-in_err-wires c =
     let e = c.in_err-wires.field-0.0 in
     program_added c.args.steps.now (program_of typed) (typed_inputs typed) c.requires.next c.first_offset-at.result
     (c.first_offset-at.ensures ∙ ap (λ (p : Program). first_offset (tree_of p.expr)) is) c.args.steps.now
-    c.control.new.self c.bind_inputs.new.steps c.print_value.new.steps c.in_ok-control.control (declared c.decls.result.now) (bindings_of c.in_ok-inputs.inputs.items) (bindings_of c.deref-3.result.now) context
+    c.control.new.self c.bind_inputs.new.steps c.print_value.new.steps c.in_ok-control.control (declared c.decls.result.now)
+    (bindings_of c.in_ok-inputs.inputs.items) (bindings_of c.deref-3.result.now) context
     c.from_residual-in_err-wires.result c.decls.ensures (ap bindings_of c.deref-3.ensures.value) c.requires.dialect
     (c.deref.ensures.value ∙ ap (λ (p : Program). p.text.items) is) (c.deref-2.ensures.value ∙ ap (λ (p : Program). p.declarations.items) is)
     c.in_ok-control.ensures c.in_ok-inputs.ensures
-    (subst (λ (p : Program). Adds wires_of c.bind_inputs.new.steps c.print_value.new.steps (printed c.bind_inputs.new.steps c.first_offset-at.result context (tree_of p.expr) (bindings_of c.deref-3.result.now) c.in_ok-control.control) c.from_residual-in_err-wires.result) is
-    (exits wires_of c.bind_inputs.new.steps c.print_value.new.steps (printed c.bind_inputs.new.steps c.first_offset-at.result context (tree_of c.program-program.result.now.expr) (bindings_of c.deref-3.result.now) c.in_ok-control.control) e c.from_residual-in_err-wires.result
+    (subst (λ (p : Program). Adds wires_of c.bind_inputs.new.steps c.print_value.new.steps
+    (printed c.bind_inputs.new.steps c.first_offset-at.result context (tree_of p.expr) (bindings_of c.deref-3.result.now) c.in_ok-control.control)
+    c.from_residual-in_err-wires.result) is
+    (exits wires_of c.bind_inputs.new.steps c.print_value.new.steps
+    (printed c.bind_inputs.new.steps c.first_offset-at.result context (tree_of c.program-program.result.now.expr) (bindings_of c.deref-3.result.now)
+    c.in_ok-control.control) e c.from_residual-in_err-wires.result
     c.from_residual-in_err-wires.ensures c.in_err-wires.ensures))
 
 pub returns : goal.returns
@@ -52,9 +57,12 @@ returns c =
     let context : ProgramContext = record { text = c.deref.result; functions = c.deref-2.result } in
     program_added c.args.steps.now (program_of typed) (typed_inputs typed) c.requires.next c.first_offset-at.result
     (c.first_offset-at.ensures ∙ ap (λ (p : Program). first_offset (tree_of p.expr)) is) c.args.steps.now
-    c.control.new.self c.bind_inputs.new.steps c.print_value.new.steps c.in_ok-control.control (declared c.decls.result.now) (bindings_of c.in_ok-inputs.inputs.items) (bindings_of c.deref-3.result.now) context
+    c.control.new.self c.bind_inputs.new.steps c.print_value.new.steps c.in_ok-control.control (declared c.decls.result.now)
+    (bindings_of c.in_ok-inputs.inputs.items) (bindings_of c.deref-3.result.now) context
     (Ok c.in_ok-wires.wires) c.decls.ensures (ap bindings_of c.deref-3.ensures.value) c.requires.dialect
     (c.deref.ensures.value ∙ ap (λ (p : Program). p.text.items) is) (c.deref-2.ensures.value ∙ ap (λ (p : Program). p.declarations.items) is)
     c.in_ok-control.ensures c.in_ok-inputs.ensures
-    (subst (λ (p : Program). HasMade c.bind_inputs.new.steps c.print_value.new.steps (printed c.bind_inputs.new.steps c.first_offset-at.result context (tree_of p.expr) (bindings_of c.deref-3.result.now) c.in_ok-control.control) (wires_of c.in_ok-wires.wires)) is
+    (subst (λ (p : Program). HasMade c.bind_inputs.new.steps c.print_value.new.steps
+    (printed c.bind_inputs.new.steps c.first_offset-at.result context (tree_of p.expr) (bindings_of c.deref-3.result.now) c.in_ok-control.control)
+    (wires_of c.in_ok-wires.wires)) is
     c.in_ok-wires.ensures)

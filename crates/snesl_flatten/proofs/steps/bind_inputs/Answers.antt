@@ -14,8 +14,10 @@ returns-in_err-wires c =
     let i = c.loop-declaration.declaration-index in
     let d = c.declaration-item.result in
     let view = λ (bindings : Vec Binding Global). bindings_of bindings.items in
-    subst (λ l. Adds view c.args.steps.now c.input.new.self (inputs_sourced c.args.at unset_cells l (next_in c.args.steps.now)) c.from_residual.result) (sym (declared_split ds i d (omega arith) c.declaration-item.is))
-    (one_refused view c.args.steps.now c.loop-declaration.steps c.input.new.self c.args.at (declared (take i ds)) (declaration_of d) (declared (drop (i + 1) ds)) (bindings_of c.loop-declaration.bindings.items)
+    subst (λ l. Adds view c.args.steps.now c.input.new.self (inputs_sourced c.args.at unset_cells l (next_in c.args.steps.now))
+    c.from_residual.result) (sym (declared_split ds i d (omega arith) c.declaration-item.is))
+    (one_refused view c.args.steps.now c.loop-declaration.steps c.input.new.self c.args.at (declared (take i ds)) (declaration_of d)
+    (declared (drop (i + 1) ds)) (bindings_of c.loop-declaration.bindings.items)
     c.in_err-wires.field-0.0 c.from_residual.result c.from_residual.ensures c.loop-declaration.invariant c.in_err-wires.ensures)
 
 pub loop-declaration-preserved : goal.loop-declaration-preserved

@@ -3,7 +3,9 @@ use Rattle.std.proofs.lemmas.List.Sums.{fold_more}
 use Rattle.snesl_look.proofs.Declarations.{DeclarationSoFar, goes_on, restarts}
 use Rattle.snesl_look.specs.Functions.{depth_after_byte}
 use Rattle.snesl_look.proofs.functions.declaration_at.Goals as goal
-use Rattle.snesl_look.proofs.functions.declaration_at.Goals.{then-text-place-eq59+then-depth-eq0+else-place-offset, else-text-place-eq59, else-text-place-eq59-via-then-text-place-eq59+else-depth-eq0, else-text-place-eq59-via-else-text-place-eq59}
+use Rattle.snesl_look.proofs.functions.declaration_at.Goals.{then-text-place-eq59+then-depth-eq0+else-place-offset, else-text-place-eq59}
+use Rattle.snesl_look.proofs.functions.declaration_at.Goals.{else-text-place-eq59-via-then-text-place-eq59+else-depth-eq0}
+use Rattle.snesl_look.proofs.functions.declaration_at.Goals.{else-text-place-eq59-via-else-text-place-eq59}
 
 pub loop-place-preserved : goal.loop-place-preserved
 loop-place-preserved c =

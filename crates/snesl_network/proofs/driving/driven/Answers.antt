@@ -13,10 +13,21 @@ returns-in-Ok-clause-rests g c text input meant =
     c.flow_is_carried.ensures.begins c.flow_runs_to_end.ensures.rest c.requires.lawful c.rested_is_sound.ensures.fits c.in-Ok.ensures.run
 
 pub returns-in-Ok-clause-drive : goal.returns-in-Ok-clause-drive
-returns-in-Ok-clause-drive g c = record { rings = c.in-Ok.ensures.rings; rounds = c.in-Ok.ensures.rounds; epochs = c.in-Ok.ensures.epochs; share = c.in-Ok.ensures.share; shares = c.in-Ok.ensures.shares }
+returns-in-Ok-clause-drive g c =
+    record {
+      rings = c.in-Ok.ensures.rings;
+      rounds = c.in-Ok.ensures.rounds;
+      epochs = c.in-Ok.ensures.epochs;
+      share = c.in-Ok.ensures.share;
+      shares =
+          c.in-Ok.ensures.shares;
+    }
 
 pub returns-in-Err-NoThread-clause-refused : goal.returns-in-Err-NoThread-clause-refused
-returns-in-Err-NoThread-clause-refused g c text input meant = (c.in-Err-NoThread.ensures.threads (ap Err c.in-Err-NoThread.field-0-is), has_network text input (states_of c.args.graph) (edges_of c.args.graph) meant)
+returns-in-Err-NoThread-clause-refused g c text input meant = (
+  c.in-Err-NoThread.ensures.threads (ap Err c.in-Err-NoThread.field-0-is),
+  has_network text input (states_of c.args.graph) (edges_of c.args.graph) meant,
+)
 
 pub drive_with-requires-send-T : goal.drive_with-requires-send-T
 drive_with-requires-send-T g c κs within = search nodes_cross

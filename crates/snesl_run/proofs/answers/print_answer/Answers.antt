@@ -16,7 +16,8 @@ returns-in-Fault g c =
     printed_fault c.args.config.now c.args.program.now c.args.input.now
     g.W.Write.contents c.args.out.now c.run_alone.new.out c.print_made.new.out
     (write_effect g.E.Write.contents c.args.err.now c.print_made.new.err)
-    c.in-Fault.fault c.in-Ok.report c.fault_line.result c.print_made.result c.in-Ok.ensures.network c.in-Ok.ensures.wrote (sym c.outcome.ensures ∙ c.in-Fault.is) c.fault_line.ensures c.print_made.ensures
+    c.in-Fault.fault c.in-Ok.report c.fault_line.result c.print_made.result c.in-Ok.ensures.network c.in-Ok.ensures.wrote
+    (sym c.outcome.ensures ∙ c.in-Fault.is) c.fault_line.ensures c.print_made.ensures
 
 pub returns-in-Ok : goal.returns-in-Ok
 returns-in-Ok g c =

@@ -42,9 +42,11 @@ returns-clause-wrote g c =
           w.text.result.now w.in_ok-line-in-Value.line.items w.send.result w.in-Value.is (w.text.ensures text_in (λ node. refl)) w.in_ok-line-in-Value.ensures.line
           (subst (λ l. HasSent (write_effect g.W.Write.contents c.args.out.now w.send.new.out) l w.send.result) w.deref.ensures.value w.send.ensures) w.if-not-send.false)
       | in-Fault w ↦
-          subst (λ out. HasWritten c.args.program.now c.args.input.now (write_effect g.W.Write.contents c.args.out.now out) report) (sym w.out-is) (untouched (Failed _) w.in-Fault.is (λ e. absurd (cc)))
+          subst (λ out. HasWritten c.args.program.now c.args.input.now (write_effect g.W.Write.contents c.args.out.now out) report) (sym w.out-is)
+          (untouched (Failed _) w.in-Fault.is (λ e. absurd (cc)))
       | in-Stalled w ↦
-          subst (λ out. HasWritten c.args.program.now c.args.input.now (write_effect g.W.Write.contents c.args.out.now out) report) (sym w.out-is) (untouched (Stalled _) w.in-Stalled.is (λ e. absurd (cc)))
+          subst (λ out. HasWritten c.args.program.now c.args.input.now (write_effect g.W.Write.contents c.args.out.now out) report) (sym w.out-is)
+          (untouched (Stalled _) w.in-Stalled.is (λ e. absurd (cc)))
     ]
 
 pub returns-clause-value : goal.returns-clause-value

@@ -37,7 +37,8 @@ is_free-returns-then-not-hidden t c =
     let text = c.args.text.now in
     let name = c.args.name.now in
     let named =
-    let_named text name (tree_of c.args.expr.now) c.in-Let.at c.in-Let.place (tree_of c.in-Let.value.value) (tree_of c.in-Let.body.value) c.is_free-of_value.result c.is_spelled-hidden.result c.is_free-of_body.result
+    let_named text name (tree_of c.args.expr.now) c.in-Let.at c.in-Let.place (tree_of c.in-Let.value.value) (tree_of c.in-Let.body.value)
+    c.is_free-of_value.result c.is_spelled-hidden.result c.is_free-of_body.result
     (ap tree_of c.in-Let.is)
     (c.is_free-of_value.ensures ∙ ap (λ x. is_among name (free text (tree_of x))) c.deref-in-Let.ensures)
     c.is_spelled-hidden.ensures
@@ -49,7 +50,8 @@ is_free-returns-else-not-hidden t c =
     let text = c.args.text.now in
     let name = c.args.name.now in
     let named =
-    let_named text name (tree_of c.args.expr.now) c.in-Let.at c.in-Let.place (tree_of c.in-Let.value.value) (tree_of c.in-Let.body.value) c.is_free-of_value.result c.is_spelled-hidden.result c.is_free-of_body.result
+    let_named text name (tree_of c.args.expr.now) c.in-Let.at c.in-Let.place (tree_of c.in-Let.value.value) (tree_of c.in-Let.body.value)
+    c.is_free-of_value.result c.is_spelled-hidden.result c.is_free-of_body.result
     (ap tree_of c.in-Let.is)
     (c.is_free-of_value.ensures ∙ ap (λ x. is_among name (free text (tree_of x))) c.deref-in-Let.ensures)
     c.is_spelled-hidden.ensures

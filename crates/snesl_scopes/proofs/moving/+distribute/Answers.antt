@@ -19,7 +19,8 @@ returns-in_err-second-in-Two t c =
     let a = wires_of c.deref.result.now in
     let b = wires_of c.deref-in-Two.result.now in
     let parts : wires_of c.args.wires.now ≡ two a b = ap wires_of c.in-Two.is ∙ ap₂ (λ x y. two (wires_of x) (wires_of y)) (sym c.deref.ensures) (sym c.deref-in-Two.ensures) in
-    second_refused (distributed c.args.at c.args.flags) (λ a b k. refl) (wires_of c.args.wires.now) a b parts c.args.steps.now c.distribute.new.steps c.distribute-in-Two.new.steps c.distribute-in-Two.new.steps
+    second_refused (distributed c.args.at c.args.flags) (λ a b k. refl) (wires_of c.args.wires.now) a b parts c.args.steps.now c.distribute.new.steps
+    c.distribute-in-Two.new.steps c.distribute-in-Two.new.steps
     (wires_of c.in_ok-first-in-Two.first) c.in_err-second-in-Two.field-0.0 c.from_residual-in_err-second-in-Two.result c.from_residual-in_err-second-in-Two.ensures
     c.in_ok-first-in-Two.ensures c.in_err-second-in-Two.ensures
 

@@ -34,7 +34,8 @@ returns-in_ok-pair-in-Two t c =
 
 pub returns-in_err-flags-in-Segments : goal.returns-in_err-flags-in-Segments
 returns-in_err-flags-in-Segments t c =
-    flags_refused c.args.at c.args.truths c.in-Segments.groups (wires_of c.args.wires.now) (wires_of c.in-Segments.items.value) (ap wires_of c.in-Segments.is) c.args.steps.now c.flags.new.self c.flags.new.self
+    flags_refused c.args.at c.args.truths c.in-Segments.groups (wires_of c.args.wires.now) (wires_of c.in-Segments.items.value)
+    (ap wires_of c.in-Segments.is) c.args.steps.now c.flags.new.self c.flags.new.self
     c.in_err-flags-in-Segments.field-0.0 c.from_residual-in_err-flags-in-Segments.result c.from_residual-in_err-flags-in-Segments.ensures c.in_err-flags-in-Segments.ensures
 
 pub returns-in_err-inner-in-Segments : goal.returns-in_err-inner-in-Segments
@@ -46,7 +47,8 @@ returns-in_err-inner-in-Segments t c =
 pub returns-in_err-items-in-Segments : goal.returns-in_err-items-in-Segments
 returns-in_err-items-in-Segments t c =
     let items = wires_of c.deref-in-Segments.result.now in
-    let parts : wires_of c.args.wires.now ≡ segments c.in-Segments.groups items = ap wires_of c.in-Segments.is ∙ ap (λ x. segments c.in-Segments.groups (wires_of x)) (sym c.deref-in-Segments.ensures) in
+    let parts : wires_of c.args.wires.now ≡ segments c.in-Segments.groups items = ap wires_of c.in-Segments.is
+    ∙ ap (λ x. segments c.in-Segments.groups (wires_of x)) (sym c.deref-in-Segments.ensures) in
     items_refused c.args.at c.args.truths c.in-Segments.groups (wires_of c.args.wires.now) items parts c.args.steps.now
     c.flags.new.self c.in_ok-flags-in-Segments.flags c.in_ok-flags-in-Segments.ensures c.flags-in-Segments.new.self c.in_ok-inner-in-Segments.inner c.in_ok-inner-in-Segments.ensures
     c.keep-in-Segments.new.steps c.keep-in-Segments.new.steps c.in_err-items-in-Segments.field-0.0 c.from_residual-in_err-items-in-Segments.result c.from_residual-in_err-items-in-Segments.ensures
@@ -55,7 +57,8 @@ returns-in_err-items-in-Segments t c =
 pub returns-in_ok-sequence-in-Segments : goal.returns-in_ok-sequence-in-Segments
 returns-in_ok-sequence-in-Segments t c =
     let items = wires_of c.deref-in-Segments.result.now in
-    let parts : wires_of c.args.wires.now ≡ segments c.in-Segments.groups items = ap wires_of c.in-Segments.is ∙ ap (λ x. segments c.in-Segments.groups (wires_of x)) (sym c.deref-in-Segments.ensures) in
+    let parts : wires_of c.args.wires.now ≡ segments c.in-Segments.groups items = ap wires_of c.in-Segments.is
+    ∙ ap (λ x. segments c.in-Segments.groups (wires_of x)) (sym c.deref-in-Segments.ensures) in
     sequence_made c.args.at c.args.truths c.in-Segments.groups (wires_of c.args.wires.now) items parts c.args.steps.now
     c.flags.new.self c.in_ok-flags-in-Segments.flags c.in_ok-flags-in-Segments.ensures c.flags-in-Segments.new.self c.in_ok-inner-in-Segments.inner c.in_ok-inner-in-Segments.ensures
     c.keep-in-Segments.new.steps (wires_of c.in_ok-items-in-Segments.items) (wires_of c.in_ok-sequence-in-Segments.sequence) c.in_ok-items-in-Segments.ensures c.in_ok-sequence-in-Segments.ensures

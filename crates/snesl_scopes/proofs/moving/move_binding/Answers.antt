@@ -30,7 +30,9 @@ returns-in_err-wires c =
     let names = names_in c.args.part.now in
     let tested : c.is_bound.result ≡ is_bound name before = c.is_bound.ensures ∙ ap (λ l. is_bound name (bindings_of l)) c.deref.ensures.value in
     one_refused (moved_by c.args.at c.args.movement) names (binding_of c.args.binding.now) before c.args.steps.now c.move_wires.new.steps c.move_wires.new.steps _
-    c.in_err-wires.field-0.0 c.from_residual.result (named_moves name before names (sym tested ∙ c.if-is_bound.false) (sym c.names.ensures ∙ c.if-not-names.false)) c.from_residual.ensures c.in_err-wires.ensures
+    c.in_err-wires.field-0.0 c.from_residual.result
+    (named_moves name before names (sym tested ∙ c.if-is_bound.false) (sym c.names.ensures ∙ c.if-not-names.false)) c.from_residual.ensures
+    c.in_err-wires.ensures
 
 pub returns : goal.returns
 returns c =

@@ -11,7 +11,8 @@ returns-then-of_condition c =
     let h = c.binds-hidden.result in
     let d = c.condition_names-of_condition.result in
     let b = c.is_free-of_body.result in
-    let named = part_named part.text.now name (binders_of part.binders.now) (condition_in part.condition) (tree_of part.body.now) h d b c.binds-hidden.ensures c.condition_names-of_condition.ensures c.is_free-of_body.ensures in
+    let named = part_named part.text.now name (binders_of part.binders.now) (condition_in part.condition) (tree_of part.body.now) h d b
+    c.binds-hidden.ensures c.condition_names-of_condition.ensures c.is_free-of_body.ensures in
     at_first d b c.if-of_condition.true (at_inner false h (d || b) refl c.if-not-hidden.true named)
 
 pub returns-else-of_condition : goal.returns-else-of_condition
@@ -21,7 +22,8 @@ returns-else-of_condition c =
     let h = c.binds-hidden.result in
     let d = c.condition_names-of_condition.result in
     let b = c.is_free-of_body.result in
-    let named = part_named part.text.now name (binders_of part.binders.now) (condition_in part.condition) (tree_of part.body.now) h d b c.binds-hidden.ensures c.condition_names-of_condition.ensures c.is_free-of_body.ensures in
+    let named = part_named part.text.now name (binders_of part.binders.now) (condition_in part.condition) (tree_of part.body.now) h d b
+    c.binds-hidden.ensures c.condition_names-of_condition.ensures c.is_free-of_body.ensures in
     at_second d b c.if-of_condition.false (at_inner false h (d || b) refl c.if-not-hidden.true named)
 
 pub returns-else-not-hidden : goal.returns-else-not-hidden
@@ -31,5 +33,6 @@ returns-else-not-hidden c =
     let h = c.binds-hidden.result in
     let d = c.condition_names-of_condition.result in
     let b = c.is_free-of_body.result in
-    let named = part_named part.text.now name (binders_of part.binders.now) (condition_in part.condition) (tree_of part.body.now) h d b c.binds-hidden.ensures c.condition_names-of_condition.ensures c.is_free-of_body.ensures in
+    let named = part_named part.text.now name (binders_of part.binders.now) (condition_in part.condition) (tree_of part.body.now) h d b
+    c.binds-hidden.ensures c.condition_names-of_condition.ensures c.is_free-of_body.ensures in
     at_hidden false h (d || b) refl c.if-not-hidden.false named

@@ -13,7 +13,8 @@ returns-in_ok-append_line-in-Some c =
     let first = c.append_line.new.table.items in
     let second = c.append_line-in-Some in
     on_ok second.result
-    (with_busiest (final_view c.args.rested.now) c.args.table.now.items c.in-Some.edge c.counts.result.0 first second.new.table.items c.in-Some.ensures c.counts.ensures.sent c.in_ok-append_line-in-Some.ensures)
+    (with_busiest (final_view c.args.rested.now) c.args.table.now.items c.in-Some.edge c.counts.result.0 first second.new.table.items
+    c.in-Some.ensures c.counts.ensures.sent c.in_ok-append_line-in-Some.ensures)
     second.ensures
 
 pub returns-in-None : goal.returns-in-None

@@ -58,32 +58,38 @@ returns-in-Iota-len1 c =
 pub returns-in-ScanAdd-len1 : goal.returns-in-ScanAdd-len1
 returns-in-ScanAdd-len1 c =
     let given = alone c.args.arguments.now c.numbers-item.result c.in-ScanAdd-len1.len_at_least c.in-ScanAdd-len1.len_below c.numbers-item.is in
-    adds_called c.args.steps.now c.scan_add.new.steps c.args.at c.args.function builtin.ScanAdd c.args.arguments.now (c.numbers-item.result ∷ []) c.scan_add.result c.in-ScanAdd-len1.is-0 given c.scan_add.ensures
+    adds_called c.args.steps.now c.scan_add.new.steps c.args.at c.args.function builtin.ScanAdd c.args.arguments.now (c.numbers-item.result ∷ [])
+    c.scan_add.result c.in-ScanAdd-len1.is-0 given c.scan_add.ensures
 
 pub returns-in-ReduceAdd-len1 : goal.returns-in-ReduceAdd-len1
 returns-in-ReduceAdd-len1 c =
     let given = alone c.args.arguments.now c.items-item.result c.in-ReduceAdd-len1.len_at_least c.in-ReduceAdd-len1.len_below c.items-item.is in
-    adds_called c.args.steps.now c.reduce.new.steps c.args.at c.args.function builtin.ReduceAdd c.args.arguments.now (c.items-item.result ∷ []) c.reduce.result c.in-ReduceAdd-len1.is-0 given c.reduce.ensures
+    adds_called c.args.steps.now c.reduce.new.steps c.args.at c.args.function builtin.ReduceAdd c.args.arguments.now (c.items-item.result ∷ [])
+    c.reduce.result c.in-ReduceAdd-len1.is-0 given c.reduce.ensures
 
 pub returns-in-ReduceMax-len1 : goal.returns-in-ReduceMax-len1
 returns-in-ReduceMax-len1 c =
     let given = alone c.args.arguments.now c.items-item-then-this-lt2-4.result c.in-ReduceMax-len1.len_at_least c.in-ReduceMax-len1.len_below c.items-item-then-this-lt2-4.is in
-    adds_called c.args.steps.now c.reduce-in-ReduceMax-len1.new.steps c.args.at c.args.function builtin.ReduceMax c.args.arguments.now (c.items-item-then-this-lt2-4.result ∷ []) c.reduce-in-ReduceMax-len1.result c.in-ReduceMax-len1.is-0 given c.reduce-in-ReduceMax-len1.ensures
+    adds_called c.args.steps.now c.reduce-in-ReduceMax-len1.new.steps c.args.at c.args.function builtin.ReduceMax c.args.arguments.now
+    (c.items-item-then-this-lt2-4.result ∷ []) c.reduce-in-ReduceMax-len1.result c.in-ReduceMax-len1.is-0 given c.reduce-in-ReduceMax-len1.ensures
 
 pub returns-in-ReduceAnd-len1 : goal.returns-in-ReduceAnd-len1
 returns-in-ReduceAnd-len1 c =
     let given = alone c.args.arguments.now c.items-item-then-this-lt2-5.result c.in-ReduceAnd-len1.len_at_least c.in-ReduceAnd-len1.len_below c.items-item-then-this-lt2-5.is in
-    adds_called c.args.steps.now c.reduce-in-ReduceAnd-len1.new.steps c.args.at c.args.function builtin.ReduceAnd c.args.arguments.now (c.items-item-then-this-lt2-5.result ∷ []) c.reduce-in-ReduceAnd-len1.result c.in-ReduceAnd-len1.is-0 given c.reduce-in-ReduceAnd-len1.ensures
+    adds_called c.args.steps.now c.reduce-in-ReduceAnd-len1.new.steps c.args.at c.args.function builtin.ReduceAnd c.args.arguments.now
+    (c.items-item-then-this-lt2-5.result ∷ []) c.reduce-in-ReduceAnd-len1.result c.in-ReduceAnd-len1.is-0 given c.reduce-in-ReduceAnd-len1.ensures
 
 pub returns-in-ReduceOr-len1 : goal.returns-in-ReduceOr-len1
 returns-in-ReduceOr-len1 c =
     let given = alone c.args.arguments.now c.items-item-then-this-lt2-6.result c.in-ReduceOr-len1.len_at_least c.in-ReduceOr-len1.len_below c.items-item-then-this-lt2-6.is in
-    adds_called c.args.steps.now c.reduce-in-ReduceOr-len1.new.steps c.args.at c.args.function builtin.ReduceOr c.args.arguments.now (c.items-item-then-this-lt2-6.result ∷ []) c.reduce-in-ReduceOr-len1.result c.in-ReduceOr-len1.is-0 given c.reduce-in-ReduceOr-len1.ensures
+    adds_called c.args.steps.now c.reduce-in-ReduceOr-len1.new.steps c.args.at c.args.function builtin.ReduceOr c.args.arguments.now
+    (c.items-item-then-this-lt2-6.result ∷ []) c.reduce-in-ReduceOr-len1.result c.in-ReduceOr-len1.is-0 given c.reduce-in-ReduceOr-len1.ensures
 
 pub returns-in-Concat-len1 : goal.returns-in-Concat-len1
 returns-in-Concat-len1 c =
     let given = alone c.args.arguments.now c.sequence-item.result c.in-Concat-len1.len_at_least c.in-Concat-len1.len_below c.sequence-item.is in
-    adds_called c.args.steps.now c.concatenate.new.steps c.args.at c.args.function builtin.Concat c.args.arguments.now (c.sequence-item.result ∷ []) c.concatenate.result c.in-Concat-len1.is-0 given c.concatenate.ensures
+    adds_called c.args.steps.now c.concatenate.new.steps c.args.at c.args.function builtin.Concat c.args.arguments.now (c.sequence-item.result ∷ [])
+    c.concatenate.result c.in-Concat-len1.is-0 given c.concatenate.ensures
 
 pub returns-in-Part-len2 : goal.returns-in-Part-len2
 returns-in-Part-len2 c =
@@ -95,12 +101,14 @@ returns-in-Part-len2 c =
 pub returns-in-The-len1 : goal.returns-in-The-len1
 returns-in-The-len1 c =
     let given = alone c.args.arguments.now c.sequence-item-then-this-lt2-10.result c.in-The-len1.len_at_least c.in-The-len1.len_below c.sequence-item-then-this-lt2-10.is in
-    adds_called c.args.steps.now c.the.new.steps c.args.at c.args.function builtin.The c.args.arguments.now (c.sequence-item-then-this-lt2-10.result ∷ []) c.the.result c.in-The-len1.is-0 given c.the.ensures
+    adds_called c.args.steps.now c.the.new.steps c.args.at c.args.function builtin.The c.args.arguments.now
+    (c.sequence-item-then-this-lt2-10.result ∷ []) c.the.result c.in-The-len1.is-0 given c.the.ensures
 
 pub returns-in-Tab-len1 : goal.returns-in-Tab-len1
 returns-in-Tab-len1 c =
     let given = alone c.args.arguments.now c.sequence-item-then-this-lt2-11.result c.in-Tab-len1.len_at_least c.in-Tab-len1.len_below c.sequence-item-then-this-lt2-11.is in
-    adds_called c.args.steps.now c.tab.new.steps c.args.at c.args.function builtin.Tab c.args.arguments.now (c.sequence-item-then-this-lt2-11.result ∷ []) c.tab.result c.in-Tab-len1.is-0 given c.tab.ensures
+    adds_called c.args.steps.now c.tab.new.steps c.args.at c.args.function builtin.Tab c.args.arguments.now
+    (c.sequence-item-then-this-lt2-11.result ∷ []) c.tab.result c.in-Tab-len1.is-0 given c.tab.ensures
 
 pub returns-in-Seq-len1 : goal.returns-in-Seq-len1
 returns-in-Seq-len1 c =

@@ -71,7 +71,8 @@ returns-in_err-second-in-Two t c =
     let w = wires_of c.in_ok-first-in-Two.first in
     let e = c.in_err-second-in-Two.field-0.0 in
     let result = c.from_residual-in_err-second-in-Two.result in
-    let left = ap wires_of c.in-Two.is ∙ ap (λ (x : Wires). two (wires_of x) (wires_of c.in-Two.second.value)) (sym c.deref.ensures) ∙ ap (λ (x : Wires). two u (wires_of x)) (sym c.deref-in-Two.ensures) in
+    let left = ap wires_of c.in-Two.is ∙ ap (λ (x : Wires). two (wires_of x) (wires_of c.in-Two.second.value)) (sym c.deref.ensures)
+    ∙ ap (λ (x : Wires). two u (wires_of x)) (sym c.deref-in-Two.ensures) in
     subst (λ (m : Making WiresOf). Adds wires_of old new m result) (pairs at f g (wires_of c.args.left.now) (wires_of c.args.right.now) u v u' v' (next_in old) left c.first.ensures c.second.ensures)
     (made_then wires_of old middle new (mixed at f g u u' (next_in old)) (second_of at f g v v') w result c.in_ok-first-in-Two.ensures
     (exits_first wires_of wires_of middle new new (mixed at f g v v' (next_in middle)) (λ x k. done (two w x) k) e result c.from_residual-in_err-second-in-Two.ensures c.in_err-second-in-Two.ensures))
@@ -90,8 +91,10 @@ returns-in_ok-mixed-in-Two t c =
     let v' = wires_of c.second.result.now in
     let w = wires_of c.in_ok-first-in-Two.first in
     let x = wires_of c.in_ok-second-in-Two.second in
-    let left = ap wires_of c.in-Two.is ∙ ap (λ (x : Wires). two (wires_of x) (wires_of c.in-Two.second.value)) (sym c.deref.ensures) ∙ ap (λ (x : Wires). two u (wires_of x)) (sym c.deref-in-Two.ensures) in
-    subst (λ (m : Making WiresOf). HasMade old new m (wires_of c.in_ok-mixed-in-Two.mixed)) (pairs at f g (wires_of c.args.left.now) (wires_of c.args.right.now) u v u' v' (next_in old) left c.first.ensures c.second.ensures)
+    let left = ap wires_of c.in-Two.is ∙ ap (λ (x : Wires). two (wires_of x) (wires_of c.in-Two.second.value)) (sym c.deref.ensures)
+    ∙ ap (λ (x : Wires). two u (wires_of x)) (sym c.deref-in-Two.ensures) in
+    subst (λ (m : Making WiresOf). HasMade old new m (wires_of c.in_ok-mixed-in-Two.mixed))
+    (pairs at f g (wires_of c.args.left.now) (wires_of c.args.right.now) u v u' v' (next_in old) left c.first.ensures c.second.ensures)
     (subst (HasMade old new (of_pairs at f g u v u' v' (next_in old))) (sym c.in_ok-mixed-in-Two.ensures)
     (made_then (λ y. y) old middle new (mixed at f g u u' (next_in old)) (second_of at f g v v') w (Ok (two w x)) c.in_ok-first-in-Two.ensures
     (then_done middle new (mixed at f g v v' (next_in middle)) (λ x. two w x) x c.in_ok-second-in-Two.ensures)))
@@ -112,7 +115,8 @@ returns-in_err-flags-in-Segments t c =
     let result = c.from_residual-in_err-flags-in-Segments.result in
     let new = c.flags.new.self in
     subst (λ (m : Making WiresOf). Adds wires_of old new m result) (sequences at f g (wires_of c.args.left.now) right p q u v (next_in old) left c.stream-q.ensures refl)
-    (exits_first (λ n. wire bool n) wires_of old new new (flags_stepped at interleave_groups (f ∷ g ∷ p ∷ q ∷ []) (next_in old)) (left_of at f g p q u v) e result c.from_residual-in_err-flags-in-Segments.ensures c.in_err-flags-in-Segments.ensures)
+    (exits_first (λ n. wire bool n) wires_of old new new (flags_stepped at interleave_groups (f ∷ g ∷ p ∷ q ∷ []) (next_in old))
+    (left_of at f g p q u v) e result c.from_residual-in_err-flags-in-Segments.ensures c.in_err-flags-in-Segments.ensures)
 
 pub returns-in_err-f-in-Segments : goal.returns-in_err-f-in-Segments
 returns-in_err-f-in-Segments t c =
@@ -133,7 +137,8 @@ returns-in_err-f-in-Segments t c =
     let h = wire bool c.in_ok-flags-in-Segments.flags in
     subst (λ (m : Making WiresOf). Adds wires_of old new m result) (sequences at f g (wires_of c.args.left.now) right p q u v (next_in old) left c.stream-q.ensures refl)
     (made_then wires_of old one new (flags_stepped at interleave_groups (f ∷ g ∷ p ∷ q ∷ []) (next_in old)) (left_of at f g p q u v) h result c.in_ok-flags-in-Segments.ensures
-    (exits_first (λ n. wire bool n) wires_of one new new (flags_stepped at concat_flags (f ∷ p ∷ []) (next_in one)) (right_of at f g q u v h) e result c.from_residual-in_err-f-in-Segments.ensures c.in_err-f-in-Segments.ensures))
+    (exits_first (λ n. wire bool n) wires_of one new new (flags_stepped at concat_flags (f ∷ p ∷ []) (next_in one)) (right_of at f g q u v h) e result
+    c.from_residual-in_err-f-in-Segments.ensures c.in_err-f-in-Segments.ensures))
 
 pub returns-in_err-g-in-Segments : goal.returns-in_err-g-in-Segments
 returns-in_err-g-in-Segments t c =
@@ -157,7 +162,8 @@ returns-in_err-g-in-Segments t c =
     subst (λ (m : Making WiresOf). Adds wires_of old new m result) (sequences at f g (wires_of c.args.left.now) right p q u v (next_in old) left c.stream-q.ensures refl)
     (made_then wires_of old one new (flags_stepped at interleave_groups (f ∷ g ∷ p ∷ q ∷ []) (next_in old)) (left_of at f g p q u v) h result c.in_ok-flags-in-Segments.ensures
     (made_then wires_of one two' new (flags_stepped at concat_flags (f ∷ p ∷ []) (next_in one)) (right_of at f g q u v h) a result c.in_ok-f-in-Segments.ensures
-    (exits_first (λ n. wire bool n) wires_of two' new new (flags_stepped at concat_flags (g ∷ q ∷ []) (next_in two')) (items_of at f g u v h a) e result c.from_residual-in_err-g-in-Segments.ensures c.in_err-g-in-Segments.ensures)))
+    (exits_first (λ n. wire bool n) wires_of two' new new (flags_stepped at concat_flags (g ∷ q ∷ []) (next_in two')) (items_of at f g u v h a) e
+    result c.from_residual-in_err-g-in-Segments.ensures c.in_err-g-in-Segments.ensures)))
 
 pub returns-in_err-items-in-Segments : goal.returns-in_err-items-in-Segments
 returns-in_err-items-in-Segments t c =
@@ -184,7 +190,8 @@ returns-in_err-items-in-Segments t c =
     (made_then wires_of old one new (flags_stepped at interleave_groups (f ∷ g ∷ p ∷ q ∷ []) (next_in old)) (left_of at f g p q u v) h result c.in_ok-flags-in-Segments.ensures
     (made_then wires_of one two' new (flags_stepped at concat_flags (f ∷ p ∷ []) (next_in one)) (right_of at f g q u v h) a result c.in_ok-f-in-Segments.ensures
     (made_then wires_of two' three new (flags_stepped at concat_flags (g ∷ q ∷ []) (next_in two')) (items_of at f g u v h a) b result c.in_ok-g-in-Segments.ensures
-    (exits_first wires_of wires_of three new new (mixed at (stream_of a) (stream_of b) u v (next_in three)) (λ w k. done (segments (stream_of h) w) k) e result c.from_residual-in_err-items-in-Segments.ensures c.in_err-items-in-Segments.ensures))))
+    (exits_first wires_of wires_of three new new (mixed at (stream_of a) (stream_of b) u v (next_in three)) (λ w k. done (segments (stream_of h) w) k)
+    e result c.from_residual-in_err-items-in-Segments.ensures c.in_err-items-in-Segments.ensures))))
 
 pub returns-in_ok-mixed-in-Segments : goal.returns-in_ok-mixed-in-Segments
 returns-in_ok-mixed-in-Segments t c =
@@ -207,7 +214,8 @@ returns-in_ok-mixed-in-Segments t c =
     let b = wire bool c.in_ok-g-in-Segments.g in
     let w = wires_of c.in_ok-items-in-Segments.items in
     let result = segments (stream_of h) w in
-    subst (λ (m : Making WiresOf). HasMade old new m (wires_of c.in_ok-mixed-in-Segments.mixed)) (sequences at f g (wires_of c.args.left.now) right p q u v (next_in old) left c.stream-q.ensures c.items.ensures)
+    subst (λ (m : Making WiresOf). HasMade old new m (wires_of c.in_ok-mixed-in-Segments.mixed))
+    (sequences at f g (wires_of c.args.left.now) right p q u v (next_in old) left c.stream-q.ensures c.items.ensures)
     (subst (HasMade old new (of_segments at f g p q u v (next_in old))) (sym c.in_ok-mixed-in-Segments.ensures)
     (made_then (λ y. y) old one new (flags_stepped at interleave_groups (f ∷ g ∷ p ∷ q ∷ []) (next_in old)) (left_of at f g p q u v) h (Ok result) c.in_ok-flags-in-Segments.ensures
     (made_then (λ y. y) one two' new (flags_stepped at concat_flags (f ∷ p ∷ []) (next_in one)) (right_of at f g q u v h) a (Ok result) c.in_ok-f-in-Segments.ensures

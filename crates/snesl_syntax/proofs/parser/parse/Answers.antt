@@ -37,7 +37,8 @@ returns-in_err-whole-clause-refusals c =
 
 pub invariant_of-result : goal.invariant_of-result
 invariant_of-result c =
-    let found : Tokens (dialect_of c.args.text.now) 0 c.args.text.now c.deref.result.now = subst (Tokens (dialect_of c.args.text.now) 0 c.args.text.now) (sym c.deref.ensures.value) c.in_ok-tokens.ensures.found in
+    let found : Tokens (dialect_of c.args.text.now) 0 c.args.text.now c.deref.result.now =
+    subst (Tokens (dialect_of c.args.text.now) 0 c.args.text.now) (sym c.deref.ensures.value) c.in_ok-tokens.ensures.found in
     record {
       spelled = ∣ copy_spells c.args.text.now c.in_ok-copy.copy.items c.deref.result.now (whole_program c.in_ok-whole.whole)
           (omega arith) found c.in_ok-whole.ensures c.in_ok-copy.ensures.items ∣₁;

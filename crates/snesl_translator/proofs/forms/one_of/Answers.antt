@@ -13,7 +13,9 @@ use Rattle.snesl_translator.proofs.forms.one_of.Goals as goal
 
 pub returns-in_err-both : goal.returns-in_err-both
 returns-in_err-both c =
-    exits_first wires_of wires_of c.args.steps.now c.append.new.steps c.append.new.steps _ (λ w k. tested c.args.at the_check (stream_of w ∷ []) (item_wires w) k) c.in_err-both.field-0.0 c.from_residual.result c.from_residual.ensures c.in_err-both.ensures
+    exits_first wires_of wires_of c.args.steps.now c.append.new.steps c.append.new.steps _
+    (λ w k. tested c.args.at the_check (stream_of w ∷ []) (item_wires w) k) c.in_err-both.field-0.0 c.from_residual.result c.from_residual.ensures
+    c.in_err-both.ensures
 
 pub returns : goal.returns
 returns c =

@@ -20,14 +20,18 @@ loop-index-preserved c =
     let others = parameters_bound text (map typed_of (drop (i + 1) parameters)) (map wires_of (drop (i + 1) arguments)) in
     c.loop-index.invariant
     ∙ ap (λ l. bindings_of before ++ l)
-    (parameter_bound text parameters arguments i parameter argument (omega (arith, c.loop-index-test.true, c.min-number.ensures)) (omega (arith, c.loop-index-test.true, c.min-number.ensures)) c.index-parameters-index.is c.index-arguments-index.is)
+    (parameter_bound text parameters arguments i parameter argument (omega (arith, c.loop-index-test.true, c.min-number.ensures))
+    (omega (arith, c.loop-index-test.true, c.min-number.ensures)) c.index-parameters-index.is c.index-arguments-index.is)
     ∙ bound_more before c.push.new.self.items (record { name = c.spelled-name.result; wires = c.in_ok-wires.wires }) _ others c.in_ok-push.ensures.items
-    (ap (λ (place : Span). (spelling text place, wires_of argument)) (ap (λ (p : Typing). p.name) c.index-parameters-index.is) ∙ ap (λ name. (name, wires_of argument)) (sym c.spelled-name.ensures) ∙ ap (λ u. (c.spelled-name.result.now, u)) (sym c.in_ok-wires.ensures))
+    (ap (λ (place : Span). (spelling text place, wires_of argument)) (ap (λ (p : Typing). p.name) c.index-parameters-index.is)
+    ∙ ap (λ name. (name, wires_of argument)) (sym c.spelled-name.ensures) ∙ ap (λ u. (c.spelled-name.result.now, u)) (sym c.in_ok-wires.ensures))
 
 pub returns : goal.returns
 returns c =
     let text = c.args.text.now in
     let before = c.loop-index.frame.items in
     sym (c.loop-index.invariant
-    ∙ ap (λ l. bindings_of before ++ l) (parameters_end text c.args.parameters.now c.args.arguments.now c.loop-index.index (omega (arith, c.loop-index-test.false, c.loop-index.auto.index-end, c.min-number.ensures)))
+    ∙ ap (λ l. bindings_of before ++ l)
+    (parameters_end text c.args.parameters.now c.args.arguments.now c.loop-index.index
+    (omega (arith, c.loop-index-test.false, c.loop-index.auto.index-end, c.min-number.ensures)))
     ∙ append-nil (bindings_of before))

@@ -18,7 +18,8 @@ returns-in_err-same_lengths c =
     let names = names_in c.args.part.now in
     let bound = bound_of c.args.scope.now in
     let sources = bindings_of c.args.sources.now in
-    subst (λ (f : ℕ). Adds rows_of c.args.steps.now c.same_lengths.new.steps (each_steps c.args.at names bound sources f (next_in c.args.steps.now)) c.from_residual-in_err-same_lengths.result) c.flags_of_first-flags.ensures
+    subst (λ (f : ℕ). Adds rows_of c.args.steps.now c.same_lengths.new.steps (each_steps c.args.at names bound sources f (next_in c.args.steps.now))
+    c.from_residual-in_err-same_lengths.result) c.flags_of_first-flags.ensures
     (exits_first (λ (x : Unit {0}). x) rows_of c.args.steps.now c.same_lengths.new.steps c.same_lengths.new.steps _ (λ _ k. each_names c.args.at names bound sources c.flags_of_first-flags.result k)
     c.in_err-same_lengths.field-0.0 c.from_residual-in_err-same_lengths.result c.from_residual-in_err-same_lengths.ensures c.in_err-same_lengths.ensures)
 
@@ -28,9 +29,11 @@ returns-in_err-outside c =
     let bound = bound_of c.args.scope.now in
     let sources = bindings_of c.args.sources.now in
     let f = c.flags_of_first-flags.result in
-    subst (λ (f : ℕ). Adds rows_of c.args.steps.now c.distribute_all.new.steps (each_steps c.args.at names bound sources f (next_in c.args.steps.now)) c.from_residual-in_err-outside.result) c.flags_of_first-flags.ensures
+    subst (λ (f : ℕ). Adds rows_of c.args.steps.now c.distribute_all.new.steps (each_steps c.args.at names bound sources f (next_in c.args.steps.now))
+    c.from_residual-in_err-outside.result) c.flags_of_first-flags.ensures
     (then_adds rows_of c.distribute_all.new.steps (λ dialect _ k. each_names c.args.at names bound sources f k) c.from_residual-in_err-outside.result c.in_ok-same_lengths.ensures
-    (exits_first (λ (bindings : Vec Binding Global). bindings_of bindings.items) rows_of c.same_lengths.new.steps c.distribute_all.new.steps c.distribute_all.new.steps _ (λ inner k. each_units c.args.at names bound sources f inner k)
+    (exits_first (λ (bindings : Vec Binding Global). bindings_of bindings.items) rows_of c.same_lengths.new.steps c.distribute_all.new.steps
+    c.distribute_all.new.steps _ (λ inner k. each_units c.args.at names bound sources f inner k)
     c.in_err-outside.field-0.0 c.from_residual-in_err-outside.result c.from_residual-in_err-outside.ensures c.in_err-outside.ensures))
 
 pub returns-in_err-units : goal.returns-in_err-units
@@ -40,7 +43,8 @@ returns-in_err-units c =
     let sources = bindings_of c.args.sources.now in
     let f = c.flags_of_first-flags.result in
     let inner = bindings_of c.in_ok-outside.outside.items in
-    subst (λ (f : ℕ). Adds rows_of c.args.steps.now c.unit_for_each.new.steps (each_steps c.args.at names bound sources f (next_in c.args.steps.now)) c.from_residual-in_err-units.result) c.flags_of_first-flags.ensures
+    subst (λ (f : ℕ). Adds rows_of c.args.steps.now c.unit_for_each.new.steps (each_steps c.args.at names bound sources f (next_in c.args.steps.now))
+    c.from_residual-in_err-units.result) c.flags_of_first-flags.ensures
     (then_adds rows_of c.unit_for_each.new.steps (λ dialect _ k. each_names c.args.at names bound sources f k) c.from_residual-in_err-units.result c.in_ok-same_lengths.ensures
     (then_adds rows_of c.unit_for_each.new.steps (λ dialect inner k. each_units c.args.at names bound sources f inner k) c.from_residual-in_err-units.result c.in_ok-outside.ensures
     (exits_first wires_of rows_of c.distribute_all.new.steps c.unit_for_each.new.steps c.unit_for_each.new.steps _ (λ w k. done (opened f (items_bound sources ++ inner) (stream_of w)) k)

@@ -26,7 +26,8 @@ returns-in_err-outside c =
     let bound = bound_of c.args.scope.now in
     let f = wires_of c.in_ok-segments.segments in
     then_adds rows_of c.keep_all.new.steps (λ dialect f k. where_names c.args.at names bound c.args.truths f k) c.from_residual-in_err-outside.result c.in_ok-segments.ensures
-    (exits_first (λ (bindings : Vec Binding Global). bindings_of bindings.items) rows_of c.flags_of.new.steps c.keep_all.new.steps c.keep_all.new.steps _ (λ inner k. where_units c.args.at names bound (stream_of f) inner k)
+    (exits_first (λ (bindings : Vec Binding Global). bindings_of bindings.items) rows_of c.flags_of.new.steps c.keep_all.new.steps
+    c.keep_all.new.steps _ (λ inner k. where_units c.args.at names bound (stream_of f) inner k)
     c.in_err-outside.field-0.0 c.from_residual-in_err-outside.result c.from_residual-in_err-outside.ensures c.in_err-outside.ensures)
 
 pub returns-in_err-units : goal.returns-in_err-units
@@ -39,7 +40,8 @@ returns-in_err-units c =
     (then_adds rows_of c.unit_for_each.new.steps (λ dialect inner k. where_units c.args.at names bound (stream_of f) inner k) c.from_residual-in_err-units.result c.in_ok-outside.ensures
     (exits_first wires_of rows_of c.keep_all.new.steps c.unit_for_each.new.steps c.unit_for_each.new.steps _ (λ w k. done (opened (stream_of f) inner (stream_of w)) k)
     c.in_err-units.field-0.0 c.from_residual-in_err-units.result c.from_residual-in_err-units.ensures
-    (subst (λ (g : ℕ). Adds wires_of c.keep_all.new.steps c.unit_for_each.new.steps (units_step c.args.at g (next_in c.keep_all.new.steps)) (Err c.in_err-units.field-0.0)) c.stream-flags.ensures c.in_err-units.ensures)))
+    (subst (λ (g : ℕ). Adds wires_of c.keep_all.new.steps c.unit_for_each.new.steps (units_step c.args.at g (next_in c.keep_all.new.steps))
+    (Err c.in_err-units.field-0.0)) c.stream-flags.ensures c.in_err-units.ensures)))
 
 pub returns : goal.returns
 returns c =

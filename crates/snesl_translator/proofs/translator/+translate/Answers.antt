@@ -50,7 +50,9 @@ binary_form-returns-in_err-v t c =
     let context = c.args.context.now in
     let scope = c.args.scope.now in
     let new = c.translate-2.new.steps in
-    then_adds wires_of new (λ d u k. and_then (tr_in d context scope (tree_of c.args.right.now) c.args.control k) (λ v k. binary_streams d c.args.at c.args.operator u v k)) c.from_residual-in_err-v.result c.in_ok-u.ensures
+    then_adds wires_of new
+    (λ d u k. and_then (tr_in d context scope (tree_of c.args.right.now) c.args.control k)
+    (λ v k. binary_streams d c.args.at c.args.operator u v k)) c.from_residual-in_err-v.result c.in_ok-u.ensures
     (exits_first wires_of wires_of c.translate.new.steps new new _ _ c.in_err-v.field-0.0 c.from_residual-in_err-v.result c.from_residual-in_err-v.ensures c.in_err-v.ensures)
 
 pub binary_form-returns : goal.binary_form-returns
@@ -58,7 +60,9 @@ binary_form-returns t c =
     let context = c.args.context.now in
     let scope = c.args.scope.now in
     let new = c.apply_operator.new.steps in
-    then_adds wires_of new (λ d u k. and_then (tr_in d context scope (tree_of c.args.right.now) c.args.control k) (λ v k. binary_streams d c.args.at c.args.operator u v k)) c.apply_operator.result c.in_ok-u.ensures
+    then_adds wires_of new
+    (λ d u k. and_then (tr_in d context scope (tree_of c.args.right.now) c.args.control k)
+    (λ v k. binary_streams d c.args.at c.args.operator u v k)) c.apply_operator.result c.in_ok-u.ensures
     (then_adds wires_of new (λ d v k. binary_streams d c.args.at c.args.operator (wires_of c.in_ok-u.u) v k) c.apply_operator.result c.in_ok-v.ensures c.apply_operator.ensures)
 
 pub prefix_form-returns-in_err-u : goal.prefix_form-returns-in_err-u
@@ -105,7 +109,9 @@ let_form-returns t c =
     let u = wires_of c.in_ok-u.u in
     let frame = ap bindings_of c.deref.ensures.value ∙ c.in_ok-frame.ensures ∙ ap (λ name. (name, u) ∷ []) c.spelled.ensures in
     then_adds wires_of new (λ d u k. tr d text (bodies_in d context) (tree_of c.args.body.now) ((spelling text c.args.name, u) ∷ bound) c.args.control k) c.in_frame.result c.in_ok-u.ensures
-    (subst (λ (l : Bound). Adds wires_of middle new (tr (dialect_of_steps middle) text (bodies_in (dialect_of_steps middle) context) (tree_of c.args.body.now) (l ++ bound) c.args.control (next_in middle)) c.in_frame.result)
+    (subst (λ (l : Bound). Adds wires_of middle new
+    (tr (dialect_of_steps middle) text (bodies_in (dialect_of_steps middle) context) (tree_of c.args.body.now) (l ++ bound) c.args.control
+    (next_in middle)) c.in_frame.result)
     frame c.in_frame.ensures)
 
 -- what runs for some instances only
@@ -137,7 +143,8 @@ single-returns-in_err-truths t c =
     let new = c.always_true.new.steps in
     let rest : ℕ → ℕ → Making WiresOf = λ n k. filtered_in (dialect_of_steps old) c.args.context.now c.args.scope.now c.args.at (tree_of c.args.item.now) n k in
     subst (λ (m : Making WiresOf). Adds wires_of old new m c.from_residual.result) (one_in_turn (trues c.args.at c.args.control (next_in old)) stream_of rest)
-    (exits_first (λ (n : ℕ). n) wires_of old new new (always_true c.args.at c.args.control (next_in old)) rest c.in_err-truths.field-0.0 c.from_residual.result c.from_residual.ensures c.in_err-truths.ensures)
+    (exits_first (λ (n : ℕ). n) wires_of old new new (always_true c.args.at c.args.control (next_in old)) rest c.in_err-truths.field-0.0
+    c.from_residual.result c.from_residual.ensures c.in_err-truths.ensures)
 
 pub single-returns : goal.single-returns
 single-returns t c =
@@ -240,7 +247,8 @@ filtered-returns-in_err-rows t c =
     let result = c.from_residual.result in
     let inside = λ (b : Bound) (control k : ℕ). tr d text (bodies_in d context) item b control k in
     subst (λ (m : Making WiresOf). Adds wires_of old new m result) (where_opens c.args.at (free text item) inside bound c.args.truths (next_in old))
-    (exits_first rows_of wires_of old new new (where_opened c.args.at (free text item) bound c.args.truths (next_in old)) (λ rows k. body_in d context rows item k) c.in_err-rows.field-0.0 result c.from_residual.ensures
+    (exits_first rows_of wires_of old new new (where_opened c.args.at (free text item) bound c.args.truths (next_in old))
+    (λ rows k. body_in d context rows item k) c.in_err-rows.field-0.0 result c.from_residual.ensures
     (subst (λ (names : Names). Adds rows_of old new (where_opened c.args.at names bound c.args.truths (next_in old)) (Err c.in_err-rows.field-0.0)) c.part_of-part.ensures c.in_err-rows.ensures))
 
 pub filtered-returns : goal.filtered-returns
@@ -256,25 +264,30 @@ filtered-returns t c =
     let inside = λ (b : Bound) (control k : ℕ). tr d text (bodies_in d context) item b control k in
     subst (λ (m : Making WiresOf). Adds wires_of old new m result) (where_opens c.args.at (free text item) inside bound c.args.truths (next_in old))
     (then_adds wires_of new (λ d rows k. body_in d context rows item k) result
-    (subst (λ (names : Names). HasMade old c.open_where.new.steps (where_opened c.args.at names bound c.args.truths (next_in old)) (rows_of c.in_ok-rows.rows)) c.part_of-part.ensures c.in_ok-rows.ensures)
+    (subst (λ (names : Names). HasMade old c.open_where.new.steps (where_opened c.args.at names bound c.args.truths (next_in old))
+    (rows_of c.in_ok-rows.rows)) c.part_of-part.ensures c.in_ok-rows.ensures)
     c.in_rows.ensures)
 
 -- calls
 
 pub built_in-returns-in_err-us : goal.built_in-returns-in_err-us
 built_in-returns-in_err-us t c =
-    exits_first (λ (us : Vec Wires Global). map wires_of us.items) wires_of c.args.steps.now c.all_translated.new.steps c.all_translated.new.steps _ _ c.in_err-us.field-0.0 c.from_residual.result c.from_residual.ensures c.in_err-us.ensures
+    exits_first (λ (us : Vec Wires Global). map wires_of us.items) wires_of c.args.steps.now c.all_translated.new.steps c.all_translated.new.steps _ _
+    c.in_err-us.field-0.0 c.from_residual.result c.from_residual.ensures c.in_err-us.ensures
 
 pub built_in-returns : goal.built_in-returns
 built_in-returns t c =
     let middle = c.all_translated.new.steps in
     let new = c.apply_built_in.new.steps in
     then_adds wires_of new (λ d us k. call_streams d c.args.at c.args.function us k) c.apply_built_in.result c.in_ok-us.ensures
-    (subst (λ (l : List Wires). Adds wires_of middle new (call_streams (dialect_of_steps middle) c.args.at c.args.function (map wires_of l) (next_in middle)) c.apply_built_in.result) c.deref.ensures.value c.apply_built_in.ensures)
+    (subst (λ (l : List Wires). Adds wires_of middle new
+    (call_streams (dialect_of_steps middle) c.args.at c.args.function (map wires_of l) (next_in middle)) c.apply_built_in.result)
+    c.deref.ensures.value c.apply_built_in.ensures)
 
 pub call_form-returns-in_err-us : goal.call_form-returns-in_err-us
 call_form-returns-in_err-us t c =
-    exits_first (λ (us : Vec Wires Global). map wires_of us.items) wires_of c.args.steps.now c.all_translated.new.steps c.all_translated.new.steps _ _ c.in_err-us.field-0.0 c.from_residual.result c.from_residual.ensures c.in_err-us.ensures
+    exits_first (λ (us : Vec Wires Global). map wires_of us.items) wires_of c.args.steps.now c.all_translated.new.steps c.all_translated.new.steps _ _
+    c.in_err-us.field-0.0 c.from_residual.result c.from_residual.ensures c.in_err-us.ensures
 
 pub call_form-returns : goal.call_form-returns
 call_form-returns t c =
@@ -284,7 +297,9 @@ call_form-returns t c =
     let middle = c.all_translated.new.steps in
     let new = c.called.new.steps in
     then_adds wires_of new (λ d us k. bodies_in d context function.at name us c.args.control k) c.called.result c.in_ok-us.ensures
-    (subst (λ (l : List Wires). Adds wires_of middle new (bodies_in (dialect_of_steps middle) context function.at name (map wires_of l) c.args.control (next_in middle)) c.called.result) c.deref.ensures.value c.called.ensures)
+    (subst (λ (l : List Wires). Adds wires_of middle new
+    (bodies_in (dialect_of_steps middle) context function.at name (map wires_of l) c.args.control (next_in middle)) c.called.result)
+    c.deref.ensures.value c.called.ensures)
 
 -- literals
 
@@ -293,7 +308,9 @@ literal_listed : (dialect : Dialect) (context : ProgramContext) (scope : Scope) 
     → and_then (single_in dialect context scope at (tree_of first) control next) (λ u k. further_in dialect context scope at u (trees_of others) control k)
     ≡ tr_in dialect context scope (literal at (trees_of (first ∷ others))) control next
 literal_listed dialect context scope at control first others next =
-    sym (further_after dialect context.text.now (bodies_in dialect context) at (bound_of scope) control (λ b c n. single at (free context.text.now (tree_of first)) (λ b c n. tr dialect context.text.now (bodies_in dialect context) (tree_of first) b c n) b c n) (trees_of others) next)
+    sym (further_after dialect context.text.now (bodies_in dialect context) at (bound_of scope) control
+    (λ b c n. single at (free context.text.now (tree_of first))
+    (λ b c n. tr dialect context.text.now (bodies_in dialect context) (tree_of first) b c n) b c n) (trees_of others) next)
 
 pub literal_form-returns-in_err-sequence-in-Some : goal.literal_form-returns-in_err-sequence-in-Some
 literal_form-returns-in_err-sequence-in-Some t c =
@@ -308,7 +325,8 @@ literal_form-returns-in_err-sequence-in-Some t c =
     let result = c.from_residual.result in
     subst (λ (l : List Expr). Adds wires_of old new (tr_in d context scope (literal at (trees_of l)) control (next_in old)) result) (sym c.in-Some.ensures.cases.0)
     (subst (λ (m : Making WiresOf). Adds wires_of old new m result) (literal_listed d context scope at control c.in-Some.first.now others (next_in old))
-    (exits_first wires_of wires_of old new new _ (λ u k. further_in d context scope at u (trees_of others) control k) c.in_err-sequence-in-Some.field-0.0 result c.from_residual.ensures c.in_err-sequence-in-Some.ensures))
+    (exits_first wires_of wires_of old new new _ (λ u k. further_in d context scope at u (trees_of others) control k)
+    c.in_err-sequence-in-Some.field-0.0 result c.from_residual.ensures c.in_err-sequence-in-Some.ensures))
 
 pub literal_form-returns-in_ok-sequence-in-Some : goal.literal_form-returns-in_ok-sequence-in-Some
 literal_form-returns-in_ok-sequence-in-Some t c =
@@ -341,7 +359,8 @@ further-loop-item-init t c = done_made c.args.steps.now (wires_of c.args.sequenc
 
 pub further-loop-item-preserved : goal.further-loop-item-preserved
 further-loop-item-preserved t c =
-    item_after c.args.context.now c.args.scope.now c.args.at c.args.control (wires_of c.args.sequence) (wires_of c.loop-item.all) (wires_of c.in_ok-last.last) (wires_of c.in_ok-all.all) c.args.items.now c.loop-item.item-index c.item-item.result
+    item_after c.args.context.now c.args.scope.now c.args.at c.args.control (wires_of c.args.sequence) (wires_of c.loop-item.all)
+    (wires_of c.in_ok-last.last) (wires_of c.in_ok-all.all) c.args.items.now c.loop-item.item-index c.item-item.result
     c.loop-item-test.true c.item-item.is c.loop-item.invariant c.in_ok-last.ensures c.in_ok-all.ensures
 
 pub further-returns-in_err-last : goal.further-returns-in_err-last
@@ -354,8 +373,11 @@ further-returns-in_err-last t c =
     let new = c.single.new.steps in
     let refusal = c.in_err-last.field-0.0 in
     exits wires_of c.args.steps.now new _ refusal c.from_residual.result c.from_residual.ensures
-    (item_not_after context scope at control new (wires_of c.args.sequence) (wires_of c.loop-item.all) c.args.items.now c.loop-item.item-index c.item-item.result refusal c.loop-item-test.true c.item-item.is c.loop-item.invariant
-    (refused_first wires_of wires_of middle new new (single_in (dialect_of_steps middle) context scope at (tree_of c.item-item.result) control (next_in middle)) (λ v k. appended at (wires_of c.loop-item.all) v k) refusal c.in_err-last.ensures))
+    (item_not_after context scope at control new (wires_of c.args.sequence) (wires_of c.loop-item.all) c.args.items.now c.loop-item.item-index
+    c.item-item.result refusal c.loop-item-test.true c.item-item.is c.loop-item.invariant
+    (refused_first wires_of wires_of middle new new
+    (single_in (dialect_of_steps middle) context scope at (tree_of c.item-item.result) control (next_in middle))
+    (λ v k. appended at (wires_of c.loop-item.all) v k) refusal c.in_err-last.ensures))
 
 pub further-returns-in_err-all : goal.further-returns-in_err-all
 further-returns-in_err-all t c =
@@ -367,18 +389,21 @@ further-returns-in_err-all t c =
     let new = c.append.new.steps in
     let refusal = c.in_err-all.field-0.0 in
     exits wires_of c.args.steps.now new _ refusal c.from_residual-in_err-all.result c.from_residual-in_err-all.ensures
-    (item_not_after context scope at control new (wires_of c.args.sequence) all c.args.items.now c.loop-item.item-index c.item-item.result refusal c.loop-item-test.true c.item-item.is c.loop-item.invariant
+    (item_not_after context scope at control new (wires_of c.args.sequence) all c.args.items.now c.loop-item.item-index c.item-item.result refusal
+    c.loop-item-test.true c.item-item.is c.loop-item.invariant
     (then_adds wires_of new (λ d v k. appended at all v k) (Err refusal) c.in_ok-last.ensures c.in_err-all.ensures))
 
 pub further-returns : goal.further-returns
 further-returns t c =
-    all_after c.args.context.now c.args.scope.now c.args.at c.args.control (wires_of c.args.sequence) (wires_of c.loop-item.all) c.args.items.now c.loop-item.item-index c.loop-item-test.false c.loop-item.invariant
+    all_after c.args.context.now c.args.scope.now c.args.at c.args.control (wires_of c.args.sequence) (wires_of c.loop-item.all) c.args.items.now
+    c.loop-item.item-index c.loop-item-test.false c.loop-item.invariant
 
 -- comprehensions
 
 pub each_form-returns-in_err-sources : goal.each_form-returns-in_err-sources
 each_form-returns-in_err-sources t c =
-    exits_first (λ (sources : Vec Binding Global). bindings_of sources.items) wires_of c.args.steps.now c.all_sources.new.steps c.all_sources.new.steps _ _ c.in_err-sources.field-0.0 c.from_residual.result c.from_residual.ensures c.in_err-sources.ensures
+    exits_first (λ (sources : Vec Binding Global). bindings_of sources.items) wires_of c.args.steps.now c.all_sources.new.steps
+    c.all_sources.new.steps _ _ c.in_err-sources.field-0.0 c.from_residual.result c.from_residual.ensures c.in_err-sources.ensures
 
 pub each_form-returns : goal.each_form-returns
 each_form-returns t c =
@@ -410,7 +435,8 @@ each_over-returns-in_err-rows t c =
     let d = dialect_of_steps first in
     let sources = bindings_of c.args.sources.now in
     let new = c.open_each.new.steps in
-    exits_first rows_of wires_of first new new (each_opened at names sources bound (next_in first)) (λ rows k. body_in d context rows body k) c.in_err-rows.field-0.0 c.from_residual.result c.from_residual.ensures
+    exits_first rows_of wires_of first new new (each_opened at names sources bound (next_in first)) (λ rows k. body_in d context rows body k)
+    c.in_err-rows.field-0.0 c.from_residual.result c.from_residual.ensures
     (subst (λ (ns : Names). Adds rows_of first new (each_opened at ns sources bound (next_in first)) (Err c.in_err-rows.field-0.0)) c.part_of-part.ensures c.in_err-rows.ensures)
 
 pub each_over-returns : goal.each_over-returns
@@ -427,7 +453,8 @@ each_over-returns t c =
 
 pub each_where-returns-in_err-sources : goal.each_where-returns-in_err-sources
 each_where-returns-in_err-sources t c =
-    exits_first (λ (sources : Vec Binding Global). bindings_of sources.items) wires_of c.args.steps.now c.all_sources.new.steps c.all_sources.new.steps _ _ c.in_err-sources.field-0.0 c.from_residual.result c.from_residual.ensures c.in_err-sources.ensures
+    exits_first (λ (sources : Vec Binding Global). bindings_of sources.items) wires_of c.args.steps.now c.all_sources.new.steps
+    c.all_sources.new.steps _ _ c.in_err-sources.field-0.0 c.from_residual.result c.from_residual.ensures c.in_err-sources.ensures
 
 pub each_where-returns : goal.each_where-returns
 each_where-returns t c =
@@ -461,7 +488,8 @@ where_over-returns-in_err-rows t c =
     let d = dialect_of_steps first in
     let sources = bindings_of c.args.sources.now in
     let new = c.open_each.new.steps in
-    exits_first rows_of wires_of first new new (each_opened at names sources bound (next_in first)) (λ rows k. where_in d context rows at body condition k) c.in_err-rows.field-0.0 c.from_residual.result c.from_residual.ensures
+    exits_first rows_of wires_of first new new (each_opened at names sources bound (next_in first))
+    (λ rows k. where_in d context rows at body condition k) c.in_err-rows.field-0.0 c.from_residual.result c.from_residual.ensures
     (subst (λ (ns : Names). Adds rows_of first new (each_opened at ns sources bound (next_in first)) (Err c.in_err-rows.field-0.0)) c.part_where-part.ensures c.in_err-rows.ensures)
 
 pub where_over-returns : goal.where_over-returns
@@ -533,7 +561,9 @@ where_true-returns-in_err-d t c =
     let d = dialect_of_steps old in
     let first = c.translate.new.steps in
     let seen = bound_seen rows.items.items rows.outside.items c.deref-2.ensures.value c.deref.ensures.value in
-    exits_first wires_of wires_of old first first _ (λ w k. and_then (filtered at (free text body) (λ b c n. tr d text (bodies_in d context) body b c n) bound (stream_of w) k) (λ w k. concatenated at (segments rows.flags w) k)) c.in_err-d.field-0.0 c.from_residual.result c.from_residual.ensures
+    exits_first wires_of wires_of old first first _
+    (λ w k. and_then (filtered at (free text body) (λ b c n. tr d text (bodies_in d context) body b c n) bound (stream_of w) k)
+    (λ w k. concatenated at (segments rows.flags w) k)) c.in_err-d.field-0.0 c.from_residual.result c.from_residual.ensures
     (subst (λ (b : Bound). Adds wires_of old first (tr d text (bodies_in d context) condition b rows.control (next_in old)) (Err c.in_err-d.field-0.0)) seen c.in_err-d.ensures)
 
 pub where_true-returns-in_err-w : goal.where_true-returns-in_err-w
@@ -554,7 +584,9 @@ where_true-returns-in_err-w t c =
     let e = dialect_of_steps first in
     let inside = λ (b : Bound) (control k : ℕ). tr e text (bodies_in e context) body b control k in
     let result = c.from_residual-in_err-w.result in
-    then_adds wires_of second (λ d w k. and_then (filtered at (free text body) (λ b c n. tr d text (bodies_in d context) body b c n) bound (stream_of w) k) (λ w k. concatenated at (segments rows.flags w) k)) result
+    then_adds wires_of second
+    (λ d w k. and_then (filtered at (free text body) (λ b c n. tr d text (bodies_in d context) body b c n) bound (stream_of w) k)
+    (λ w k. concatenated at (segments rows.flags w) k)) result
     (subst (λ (b : Bound). HasMade old first (tr d text (bodies_in d context) condition b rows.control (next_in old)) (wires_of c.in_ok-d.d)) seen c.in_ok-d.ensures)
     (exits_first wires_of wires_of first second second _ (λ w k. concatenated at (segments rows.flags w) k) c.in_err-w.field-0.0 result c.from_residual-in_err-w.ensures
     (subst (λ (n : ℕ). Adds wires_of first second (filtered at (free text body) inside bound n (next_in first)) (Err c.in_err-w.field-0.0)) c.stream.ensures
@@ -579,7 +611,9 @@ where_true-returns-in_err-all t c =
     let inside = λ (b : Bound) (control k : ℕ). tr e text (bodies_in e context) body b control k in
     let new = c.flat.new.steps in
     let result = c.from_residual-in_err-all.result in
-    then_adds wires_of new (λ d w k. and_then (filtered at (free text body) (λ b c n. tr d text (bodies_in d context) body b c n) bound (stream_of w) k) (λ w k. concatenated at (segments rows.flags w) k)) result
+    then_adds wires_of new
+    (λ d w k. and_then (filtered at (free text body) (λ b c n. tr d text (bodies_in d context) body b c n) bound (stream_of w) k)
+    (λ w k. concatenated at (segments rows.flags w) k)) result
     (subst (λ (b : Bound). HasMade old first (tr d text (bodies_in d context) condition b rows.control (next_in old)) (wires_of c.in_ok-d.d)) seen c.in_ok-d.ensures)
     (then_adds wires_of new (λ d w k. concatenated at (segments rows.flags w) k) result
     (subst (λ (n : ℕ). HasMade first second (filtered at (free text body) inside bound n (next_in first)) (wires_of c.in_ok-w.w)) c.stream.ensures
@@ -604,7 +638,9 @@ where_true-returns t c =
     let e = dialect_of_steps first in
     let inside = λ (b : Bound) (control k : ℕ). tr e text (bodies_in e context) body b control k in
     let new = c.flat.new.steps in
-    then_adds wires_of new (λ d w k. and_then (filtered at (free text body) (λ b c n. tr d text (bodies_in d context) body b c n) bound (stream_of w) k) (λ w k. concatenated at (segments rows.flags w) k)) (Ok c.in_ok-all.all)
+    then_adds wires_of new
+    (λ d w k. and_then (filtered at (free text body) (λ b c n. tr d text (bodies_in d context) body b c n) bound (stream_of w) k)
+    (λ w k. concatenated at (segments rows.flags w) k)) (Ok c.in_ok-all.all)
     (subst (λ (b : Bound). HasMade old first (tr d text (bodies_in d context) condition b rows.control (next_in old)) (wires_of c.in_ok-d.d)) seen c.in_ok-d.ensures)
     (then_adds wires_of new (λ d w k. concatenated at (segments rows.flags w) k) (Ok c.in_ok-all.all)
     (subst (λ (n : ℕ). HasMade first second (filtered at (free text body) inside bound n (next_in first)) (wires_of c.in_ok-w.w)) c.stream.ensures
@@ -615,7 +651,8 @@ where_true-returns t c =
 
 pub all_translated-loop-expr-init : goal.all_translated-loop-expr-init
 all_translated-loop-expr-init t c =
-    none_made c.args.steps.now (argument_in (dialect_of_steps c.args.steps.now) c.args.context.now c.args.scope.now c.args.control) c.args.exprs.now wires_of c.new-us.result.items c.new-us.ensures.items
+    none_made c.args.steps.now (argument_in (dialect_of_steps c.args.steps.now) c.args.context.now c.args.scope.now c.args.control) c.args.exprs.now
+    wires_of c.new-us.result.items c.new-us.ensures.items
 
 pub all_translated-loop-expr-preserved : goal.all_translated-loop-expr-preserved
 all_translated-loop-expr-preserved t c =
@@ -636,7 +673,8 @@ all_translated-returns-in_err-u t c =
     let listed = arguments_listed (dialect_of_steps old) context scope control c.args.exprs.now (next_in old) in
     exits given old new _ refusal c.from_residual.result c.from_residual.ensures
     (subst (λ (m : Making (List WiresOf)). Adds given old new m (Err refusal)) listed
-    (item_refused wires_of given new one c.args.exprs.now c.loop-expr.expr-index c.expr-item.result (map wires_of c.loop-expr.us.items) refusal c.loop-expr-test.true c.expr-item.is c.loop-expr.invariant c.in_err-u.ensures))
+    (item_refused wires_of given new one c.args.exprs.now c.loop-expr.expr-index c.expr-item.result (map wires_of c.loop-expr.us.items) refusal
+    c.loop-expr-test.true c.expr-item.is c.loop-expr.invariant c.in_err-u.ensures))
 
 pub all_translated-returns : goal.all_translated-returns
 all_translated-returns t c =
@@ -649,7 +687,8 @@ all_translated-returns t c =
 
 pub all_sources-loop-binder-init : goal.all_sources-loop-binder-init
 all_sources-loop-binder-init t c =
-    none_made c.args.steps.now (source_in (dialect_of_steps c.args.steps.now) c.args.context.now c.args.scope.now c.args.control) c.args.binders.now binding_of c.new-sources.result.items c.new-sources.ensures.items
+    none_made c.args.steps.now (source_in (dialect_of_steps c.args.steps.now) c.args.context.now c.args.scope.now c.args.control) c.args.binders.now
+    binding_of c.new-sources.result.items c.new-sources.ensures.items
 
 pub all_sources-loop-binder-preserved : goal.all_sources-loop-binder-preserved
 all_sources-loop-binder-preserved t c =
@@ -681,7 +720,10 @@ all_sources-returns-in_err-wires t c =
     let listed = sources_listed (dialect_of_steps old) context scope control c.args.binders.now (next_in old) in
     exits given old new _ refusal c.from_residual.result c.from_residual.ensures
     (subst (λ (m : Making (List (List ℕ × WiresOf))). Adds given old new m (Err refusal)) listed
-    (item_refused binding_of given new one c.args.binders.now c.loop-binder.binder-index c.binder-item.result (bindings_of c.loop-binder.sources.items) refusal c.loop-binder-test.true c.binder-item.is c.loop-binder.invariant (refused_first wires_of binding_of c.loop-binder.steps new new (tr_in (dialect_of_steps c.loop-binder.steps) context scope (tree_of c.binder-item.result.source) control (next_in c.loop-binder.steps))
+    (item_refused binding_of given new one c.args.binders.now c.loop-binder.binder-index c.binder-item.result
+    (bindings_of c.loop-binder.sources.items) refusal c.loop-binder-test.true c.binder-item.is c.loop-binder.invariant
+    (refused_first wires_of binding_of c.loop-binder.steps new new
+    (tr_in (dialect_of_steps c.loop-binder.steps) context scope (tree_of c.binder-item.result.source) control (next_in c.loop-binder.steps))
     (λ u k. done (spelling context.text.now c.binder-item.result.name, u) k) refusal c.in_err-wires.ensures)))
 
 pub all_sources-returns : goal.all_sources-returns

@@ -102,7 +102,9 @@ invariant-all_translated-loop-expr l =
 
 abbrev pub invariant-further-loop-item : goal.invariant-further-loop-item
 invariant-further-loop-item l =
-    HasMade l.fn.steps l.steps (further_in (dialect_of_steps l.fn.steps) l.context l.scope l.at (wires_of l.fn.sequence) (trees_of (take l.item-index l.items)) l.control (next_in l.fn.steps)) (wires_of l.all)
+    HasMade l.fn.steps l.steps
+    (further_in (dialect_of_steps l.fn.steps) l.context l.scope l.at (wires_of l.fn.sequence) (trees_of (take l.item-index l.items)) l.control
+    (next_in l.fn.steps)) (wires_of l.all)
 
 abbrev pub invariant-all_sources-loop-binder : goal.invariant-all_sources-loop-binder
 invariant-all_sources-loop-binder l =

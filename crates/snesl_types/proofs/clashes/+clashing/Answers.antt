@@ -30,7 +30,8 @@ part_clash-returns-in-Let t c =
 
 pub part_clash-returns-in-Call : goal.part_clash-returns-in-Call
 part_clash-returns-in-Call t c =
-    let tree = ap tree_of c.in-Call.is ∙ tree_of-Call c.in-Call.at c.in-Call.function c.in-Call.arguments ∙ ap (λ l. call c.in-Call.at c.in-Call.function (trees_of l)) (sym c.deref-in-Call.ensures.value) in
+    let tree = ap tree_of c.in-Call.is ∙ tree_of-Call c.in-Call.at c.in-Call.function c.in-Call.arguments
+    ∙ ap (λ l. call c.in-Call.at c.in-Call.function (trees_of l)) (sym c.deref-in-Call.ensures.value) in
     subst (λ x. IsFound (AnyClashesIn c.args.scope.now c.args.at (seen_parts x)) c.any_clash.result) (sym tree) c.any_clash.ensures
 
 pub part_clash-returns-in-Apply : goal.part_clash-returns-in-Apply

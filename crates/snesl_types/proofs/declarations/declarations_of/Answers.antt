@@ -39,7 +39,8 @@ returns-in_err-function-in-Function c =
     let whole = declarations_verdict dialect text nothing_declared (map declaration_of written) in
     let e = c.in_err-function-in-Function.field-0.0 in
     refused_by (declared_in text) whole e c.from_residual-in_err-function-in-Function.result c.from_residual-in_err-function-in-Function.ensures
-    (refusal_passes (function_verdict dialect text (signatures_in text c.deref-in-Function.result.now) f.name (map typed_of f.parameters.items) (type_tree f.result) (tree_of f.body)) whole e c.in_err-function-in-Function.ensures.signature (λ is.
+    (refusal_passes (function_verdict dialect text (signatures_in text c.deref-in-Function.result.now) f.name (map typed_of f.parameters.items)
+    (type_tree f.result) (tree_of f.body)) whole e c.in_err-function-in-Function.ensures.signature (λ is.
     c.loop-declaration.invariant
     ∙ declaration_refused text dialect earlier written c.loop-declaration.declaration-index c.declaration-item.result e c.loop-declaration-test.true c.declaration-item.is
     (ap (λ d. declaration_verdict dialect text earlier (declaration_of d)) c.in-Function.is

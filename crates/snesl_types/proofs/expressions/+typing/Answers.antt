@@ -17,7 +17,8 @@ use Rattle.snesl_types.proofs.expressions.+typing.Goals as goal
 pub type_by_rule-returns-in_err-types-in-Call : goal.type_by_rule-returns-in_err-types-in-Call
 type_by_rule-returns-in_err-types-in-Call t c =
     let scope = c.args.scope.now in
-    let tree = ap tree_of c.in-Call.is ∙ tree_of-Call c.in-Call.at c.in-Call.function c.in-Call.arguments ∙ ap (λ l. call c.in-Call.at c.in-Call.function (trees_of l)) (sym c.deref-in-Call.ensures.value) in
+    let tree = ap tree_of c.in-Call.is ∙ tree_of-Call c.in-Call.at c.in-Call.function c.in-Call.arguments
+    ∙ ap (λ l. call c.in-Call.at c.in-Call.function (trees_of l)) (sym c.deref-in-Call.ensures.value) in
     subst (λ x. IsVerdict ty_of (ruled_in scope x) c.from_residual-in_err-types-in-Call.result) (sym tree)
     (refused_first ty_of (all_typed_in scope [] (trees_of c.deref-in-Call.result.now)) _
     c.in_err-types-in-Call.field-0.0 c.from_residual-in_err-types-in-Call.result c.from_residual-in_err-types-in-Call.ensures c.in_err-types-in-Call.ensures)
@@ -25,7 +26,8 @@ type_by_rule-returns-in_err-types-in-Call t c =
 pub type_by_rule-returns-in_ok-types-in-Call : goal.type_by_rule-returns-in_ok-types-in-Call
 type_by_rule-returns-in_ok-types-in-Call t c =
     let scope = c.args.scope.now in
-    let tree = ap tree_of c.in-Call.is ∙ tree_of-Call c.in-Call.at c.in-Call.function c.in-Call.arguments ∙ ap (λ l. call c.in-Call.at c.in-Call.function (trees_of l)) (sym c.deref-in-Call.ensures.value) in
+    let tree = ap tree_of c.in-Call.is ∙ tree_of-Call c.in-Call.at c.in-Call.function c.in-Call.arguments
+    ∙ ap (λ l. call c.in-Call.at c.in-Call.function (trees_of l)) (sym c.deref-in-Call.ensures.value) in
     subst (λ x. IsVerdict ty_of (ruled_in scope x) c.builtin_type.result) (sym tree)
     (answered_second ty_of (all_typed_in scope [] (trees_of c.deref-in-Call.result.now)) _ (map ty_of c.deref-in-Call-2.result.now) c.builtin_type.result
     (c.in_ok-types-in-Call.ensures ∙ ap (λ l. Ok (map ty_of l)) (sym c.deref-in-Call-2.ensures.value)) c.builtin_type.ensures)
@@ -69,7 +71,8 @@ type_by_rule-returns-in_err-items-in-Each t c =
     subst (λ x. IsVerdict ty_of (ruled_in scope x) c.from_residual-in_err-items-in-Each.result) (sym each_tree)
     (refused_first ty_of (binders_typed_in scope [] (binders_of c.in-Each.binders.items)) _
     c.in_err-items-in-Each.field-0.0 c.from_residual-in_err-items-in-Each.result c.from_residual-in_err-items-in-Each.ensures
-    (subst (λ l. (c.in_err-items-in-Each.field-0.0 ≡ NoMemory) ⊎ (binders_typed_in scope [] (binders_of l) ≡ Err c.in_err-items-in-Each.field-0.0)) c.deref-in-Each.ensures.value c.in_err-items-in-Each.ensures))
+    (subst (λ l. (c.in_err-items-in-Each.field-0.0 ≡ NoMemory) ⊎ (binders_typed_in scope [] (binders_of l) ≡ Err c.in_err-items-in-Each.field-0.0))
+    c.deref-in-Each.ensures.value c.in_err-items-in-Each.ensures))
 
 pub type_by_rule-returns-in_err-condition-in-Each : goal.type_by_rule-returns-in_err-condition-in-Each
 type_by_rule-returns-in_err-condition-in-Each t c =
@@ -130,7 +133,8 @@ type_by_rule-returns-in_ok-body-in-Each t c =
     each_answered inner scope items within (tree_of c.args.expr.now) (tree_of c.in-Each.body.value) (binders_of c.in-Each.binders.items) (condition_in c.in-Each.condition) each_tree bound_by
     (ty_of c.in_ok-condition-in-Each.condition) (ty_of c.in_ok-body-in-Each.body) c.each_type.result
     c.in_ok-condition-in-Each.ensures (ap (λ x. typed_in inner (tree_of x)) (sym c.deref-in-Each-3.ensures) ∙ c.in_ok-body-in-Each.ensures)
-    (subst (λ l. IsVerdict ty_of (of_each c.in-Each.at (binders_of l) (ty_of c.in_ok-body-in-Each.body) (ty_of c.in_ok-condition-in-Each.condition)) c.each_type.result) c.deref-in-Each-4.ensures.value c.each_type.ensures)
+    (subst (λ l. IsVerdict ty_of (of_each c.in-Each.at (binders_of l) (ty_of c.in_ok-body-in-Each.body) (ty_of c.in_ok-condition-in-Each.condition))
+    c.each_type.result) c.deref-in-Each-4.ensures.value c.each_type.ensures)
 
 pub types_of-returns-in_err-ty : goal.types_of-returns-in_err-ty
 types_of-returns-in_err-ty t c =

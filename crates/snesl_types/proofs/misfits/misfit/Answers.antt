@@ -11,7 +11,8 @@ use Rattle.snesl_types.proofs.misfits.misfit.Goals as goal
 
 pub returns-in-Call : goal.returns-in-Call
 returns-in-Call c =
-    let tree = ap tree_of c.in-Call.is ∙ tree_of-Call c.in-Call.at c.in-Call.function c.in-Call.arguments ∙ ap (λ l. call c.in-Call.at c.in-Call.function (trees_of l)) (sym c.deref-in-Call.ensures.value) in
+    let tree = ap tree_of c.in-Call.is ∙ tree_of-Call c.in-Call.at c.in-Call.function c.in-Call.arguments
+    ∙ ap (λ l. call c.in-Call.at c.in-Call.function (trees_of l)) (sym c.deref-in-Call.ensures.value) in
     subst (λ x. IsFound (MisfitsIn c.args.scope.now x) c.arguments_misfit.result) (sym tree) c.arguments_misfit.ensures
 
 pub returns-in-Apply : goal.returns-in-Apply
@@ -30,4 +31,6 @@ returns-in-Each c =
     ∙ ap (λ l. each c.in-Each.at (tree_of c.in-Each.body.value) (binders_of l) (condition_in c.in-Each.condition)) (sym c.deref-in-Each.ensures.value) in
     subst (λ x. IsFound (MisfitsIn c.args.scope.now x) c.condition_misfit.result) (sym tree)
     (found_as (ConditionMisfitsIn c.args.scope.now (binders_of c.deref-in-Each.result.now) (condition_in c.in-Each.condition))
-    (MisfitsIn c.args.scope.now (each c.in-Each.at (tree_of c.in-Each.body.value) (binders_of c.deref-in-Each.result.now) (condition_in c.in-Each.condition))) c.condition_misfit.result (λ clash h. h c.in-Each.at (tree_of c.in-Each.body.value)) c.condition_misfit.ensures)
+    (MisfitsIn c.args.scope.now
+    (each c.in-Each.at (tree_of c.in-Each.body.value) (binders_of c.deref-in-Each.result.now) (condition_in c.in-Each.condition)))
+    c.condition_misfit.result (λ clash h. h c.in-Each.at (tree_of c.in-Each.body.value)) c.condition_misfit.ensures)

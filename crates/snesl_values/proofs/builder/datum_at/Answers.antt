@@ -30,7 +30,8 @@ returns-then-is_some c =
     let v = there c.tokens.last c.if-is_some.ensures in
     c.whole.ensures
     ∙ ap (λ l. read_value (frames_of l) value) c.deref.ensures.value
-    ∙ sym (spells_whole c.args.text.now c.tokens.at all value v.0 (let e : c.tokens.pending.len ≡ 0 = eqb-true c.tokens.pending.len 0 (sym c.if-is_empty.ensures) in omega (arith, e, c.tokens.pending.ok)) v.1)
+    ∙ sym (spells_whole c.args.text.now c.tokens.at all value v.0
+    (let e : c.tokens.pending.len ≡ 0 = eqb-true c.tokens.pending.len 0 (sym c.if-is_empty.ensures) in omega (arith, e, c.tokens.pending.ok)) v.1)
     ∙ c.tokens.invariant.same
 
 pub tokens-preserved-in_ok-last-in-Some-last : goal.tokens-preserved-in_ok-last-in-Some-last

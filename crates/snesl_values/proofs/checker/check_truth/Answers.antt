@@ -14,7 +14,8 @@ returns-in-None-clause-stops c = λ further.
     (no_truth c.args.dialect c.args.text.now further c.args.at c.in_default.ensures.another c.in-None.ensures.another)
 
 -- a truth value was read
-truth_read : (dialect : Dialect) (text : List ℕ) (from end : ℕ) (b : Bool) (t : Token) → value_tokens (a_bool b) ≡ t ∷ [] → IsNextToken text from t end → (v : Value) × IsValueRead dialect text from bool v end
+truth_read : (dialect : Dialect) (text : List ℕ) (from end : ℕ) (b : Bool) (t : Token) → value_tokens (a_bool b) ≡ t ∷ [] →
+    IsNextToken text from t end → (v : Value) × IsValueRead dialect text from bool v end
 truth_read dialect text from end b t e taken =
     (a_bool b, record { has_type = tt; reads = subst (λ ts. HasTokens text from ts end) (sym e) taken.reads; moves = taken.moves; within = taken.within })
 

@@ -71,7 +71,8 @@ returns-then-end-bytes-clause-unlawful c =
 pub returns-clause-spelled : goal.returns-clause-spelled
 unfolding environment_of
 returns-clause-spelled c =
-    subst (λ (t : List ℕ). InputMeans c.args.dialect (declared c.args.decls.now) c.args.bytes.now (spells (environment_at t c.in_ok-all.all.items))) (sym (ap (λ v. v.items) c.in_ok-text.ensures.ok ∙ c.in_ok-copy.ensures.items))
+    subst (λ (t : List ℕ). InputMeans c.args.dialect (declared c.args.decls.now) c.args.bytes.now (spells (environment_at t c.in_ok-all.all.items)))
+    (sym (ap (λ v. v.items) c.in_ok-text.ensures.ok ∙ c.in_ok-copy.ensures.items))
     (lawful (omega arith) c.in_ok-all.ensures.read.reads
     (no_next c.args.bytes.now c.in_ok-all.behind c.skip_blanks-end.result c.skip_blanks-end.ensures.offset (omega arith))
     c.in_ok-all.ensures.read.spells)
@@ -105,7 +106,8 @@ returns-clause-declares c = c.in_ok-decls.ensures
 pub returns-clause-fits : goal.returns-clause-fits
 unfolding environment_of
 returns-clause-fits c =
-    subst (λ (t : List ℕ). FitDeclarations c.args.dialect (declared c.args.decls.now) (environment_at t c.in_ok-all.all.items)) (sym (ap (λ v. v.items) c.in_ok-text.ensures.ok ∙ c.in_ok-copy.ensures.items)) c.in_ok-all.ensures.read.spells.fits
+    subst (λ (t : List ℕ). FitDeclarations c.args.dialect (declared c.args.decls.now) (environment_at t c.in_ok-all.all.items))
+    (sym (ap (λ v. v.items) c.in_ok-text.ensures.ok ∙ c.in_ok-copy.ensures.items)) c.in_ok-all.ensures.read.spells.fits
 
 pub returns-clause-kept : goal.returns-clause-kept
 unfolding text_in

@@ -133,7 +133,8 @@ returns-in-None-clause-read c =
     c.in-None.ensures.another
 
 -- where no declaration is left, all are placed
-pub all_placed : (dialect : Dialect) (text : List ℕ) (ds front left : List InputDeclaration) (all : List InputPlace) → ds ≡ front ++ left → left ≡ [] → AreSpelledAt dialect text front all → AreSpelledAt dialect text ds all
+pub all_placed : (dialect : Dialect) (text : List ℕ) (ds front left : List InputDeclaration) (all : List InputPlace) → ds ≡ front ++ left → left ≡ []
+    → AreSpelledAt dialect text front all → AreSpelledAt dialect text ds all
 all_placed dialect text ds front left all whole none placed = subst (λ l. AreSpelledAt dialect text l all) (sym (whole ∙ ap (λ l. front ++ l) none ∙ append-nil front)) placed
 
 pub returns-then-is_empty-clause-placed : goal.returns-then-is_empty-clause-placed

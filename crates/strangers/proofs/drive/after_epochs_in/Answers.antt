@@ -13,5 +13,22 @@ epoch-requires g c κs within =
 
 pub epoch_with-requires : goal.epoch_with-requires
 epoch_with-requires g c κs within =
-    let fed = subst (λ l. AreFed l) c.deref.ensures.value (c.are_fed.ensures.0 c.if-not-are_fed.false) in
-    (search rules, (search rules, (search rules, (search rules, (search rules, (search rules, (search rules, (search rules, (search rules, (c.in_ok-shares.ensures.dealt.lawful, (c.in_ok-once.ensures.epoch.graph, fed)))))))))))
+    let fed = subst (λ l. AreFed l) c.deref.ensures.value (c.are_fed.ensures.0 c.if-not-are_fed.false) in (
+      search rules,
+      (
+        search rules,
+        (
+          search rules,
+          (
+            search rules,
+            (
+              search rules,
+              (
+                search rules,
+                (search rules, (search rules, (search rules, (c.in_ok-shares.ensures.dealt.lawful, (c.in_ok-once.ensures.epoch.graph, fed))))),
+              ),
+            ),
+          ),
+        ),
+      ),
+    )

@@ -11,7 +11,8 @@ use Rattle.flow_assembly.proofs.network.Network.put_all_after.Goals as goal
 
 pub put_after-requires-clause-next : goal.put_after-requires-clause-next
 put_after-requires-clause-next c =
-    first_next (plan_of c.args.plan.now) c.args.at c.args.first c.loop-port.port c.args.kinds.now (get_or c.args.kinds.now c.loop-port.port UnitKind) c.loop-port-test.true (same_default c.args.kinds.now c.loop-port.port UnitKind _ c.loop-port-test.true)
+    first_next (plan_of c.args.plan.now) c.args.at c.args.first c.loop-port.port c.args.kinds.now (get_or c.args.kinds.now c.loop-port.port UnitKind)
+    c.loop-port-test.true (same_default c.args.kinds.now c.loop-port.port UnitKind _ c.loop-port-test.true)
     (states_so_far c.loop-port.self.builder) c.loop-port.invariant.next
 
 pub loop-port-preserved : goal.loop-port-preserved
@@ -20,9 +21,17 @@ loop-port-preserved c =
     let same = same_default c.args.kinds.now c.loop-port.port UnitKind kind c.loop-port-test.true in
     let e : c.args.first + c.loop-port.port + 1 ≡ c.args.first + (c.loop-port.port + 1) = omega arith in
     record {
-      so_far = subst (λ s. IsPutTo (plan_of c.args.plan.now) s c.put_after.new.self.supply.items c.put_after.new.self.places.items (states_so_far c.put_after.new.self.builder) (edges_so_far c.put_after.new.self.builder)) e c.in_ok-put_after.ensures.so_far;
-      next = later_next (plan_of c.args.plan.now) c.args.at c.args.first c.loop-port.port c.args.kinds.now kind c.loop-port-test.true same (states_so_far c.loop-port.self.builder) (states_so_far c.put_after.new.self.builder) c.loop-port.invariant.next c.in_ok-put_after.ensures.nodes;
-      nodes = omega (arith, c.in_ok-put_after.ensures.nodes, c.loop-port.invariant.nodes, count_next (plan_of c.args.plan.now) c.args.at c.args.first c.loop-port.port c.args.kinds.now kind c.loop-port-test.true same);
+      so_far = subst (λ s. IsPutTo (plan_of c.args.plan.now) s c.put_after.new.self.supply.items c.put_after.new.self.places.items
+          (states_so_far c.put_after.new.self.builder) (edges_so_far c.put_after.new.self.builder)) e c.in_ok-put_after.ensures.so_far;
+      next = later_next (plan_of c.args.plan.now) c.args.at c.args.first c.loop-port.port c.args.kinds.now kind c.loop-port-test.true same
+          (states_so_far c.loop-port.self.builder) (states_so_far c.put_after.new.self.builder) c.loop-port.invariant.next
+          c.in_ok-put_after.ensures.nodes;
+      nodes = omega (
+        arith,
+        c.in_ok-put_after.ensures.nodes,
+        c.loop-port.invariant.nodes,
+        count_next (plan_of c.args.plan.now) c.args.at c.args.first c.loop-port.port c.args.kinds.now kind c.loop-port-test.true same,
+      );
       supply = c.in_ok-put_after.ensures.supply ∙ c.loop-port.invariant.supply;
       places = c.in_ok-put_after.ensures.places ∙ c.loop-port.invariant.places;
     }

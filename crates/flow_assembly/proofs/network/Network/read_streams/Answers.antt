@@ -17,7 +17,8 @@ use Rattle.flow_assembly.proofs.network.Network.read_streams.Goals as goal
 pub join-requires-clause-may : goal.join-requires-clause-may
 join-requires-clause-may c =
     let is = slice_get-get_or c.args.reads.now c.loop-port.port 0 c.loop-port-test.true in
-    let known : get_or c.args.reads.now c.loop-port.port 0 < length c.loop-port.self.supply.items = omega (arith, c.requires.there c.loop-port.port (get_or c.args.reads.now c.loop-port.port 0) is, c.loop-port.invariant.supply) in
+    let known : get_or c.args.reads.now c.loop-port.port 0 < length c.loop-port.self.supply.items =
+    omega (arith, c.requires.there c.loop-port.port (get_or c.args.reads.now c.loop-port.port 0) is, c.loop-port.invariant.supply) in
     read_may (plan_of c.args.plan.now) (λ s. uses s (drop (length c.args.self.now.places.items) (plan_of c.args.plan.now))) c.args.reads.now c.loop-port.port c.args.node c.loop-port.self.supply.items
     (states_so_far c.loop-port.self.builder) (edges_so_far c.loop-port.self.builder) c.loop-port-test.true c.loop-port.invariant.joined known (c.requires.reads c.loop-port.port ∙ is)
     (kinds_after [] (plan_of c.args.plan.now)) c.openings_perform.ensures (plan_fits c.args.plan.now c.requires.wired) (omega (arith, c.requires.last, ap length c.loop-port.invariant.nodes))
@@ -25,15 +26,24 @@ join-requires-clause-may c =
 pub loop-port-preserved : goal.loop-port-preserved
 loop-port-preserved c =
     let is = slice_get-get_or c.args.reads.now c.loop-port.port 0 c.loop-port-test.true in
-    let known : get_or c.args.reads.now c.loop-port.port 0 < length c.loop-port.self.supply.items = omega (arith, c.requires.there c.loop-port.port (get_or c.args.reads.now c.loop-port.port 0) is, c.loop-port.invariant.supply) in
+    let known : get_or c.args.reads.now c.loop-port.port 0 < length c.loop-port.self.supply.items =
+    omega (arith, c.requires.there c.loop-port.port (get_or c.args.reads.now c.loop-port.port 0) is, c.loop-port.invariant.supply) in
     record {
-      joined = read_on (plan_of c.args.plan.now) (λ s. uses s (drop (length c.args.self.now.places.items) (plan_of c.args.plan.now))) c.args.reads.now c.loop-port.port c.args.node c.loop-port.self.supply.items
+      joined = read_on (plan_of c.args.plan.now) (λ s. uses s (drop (length c.args.self.now.places.items) (plan_of c.args.plan.now))) c.args.reads.now
+          c.loop-port.port c.args.node c.loop-port.self.supply.items
           (states_so_far c.loop-port.self.builder) (edges_so_far c.loop-port.self.builder) c.loop-port-test.true c.loop-port.invariant.joined known (c.requires.reads c.loop-port.port ∙ is)
           c.join.new.self.supply.items (states_so_far c.join.new.self.builder) (edges_so_far c.join.new.self.builder) c.in_ok-join.ensures.supply c.in_ok-join.ensures.nodes c.in_ok-join.ensures.edges;
-      within = read_within (plan_of c.args.plan.now) c.args.reads.now c.loop-port.port (states_so_far c.loop-port.self.builder) (states_so_far c.join.new.self.builder) (edges_so_far c.loop-port.self.builder) (edges_so_far c.join.new.self.builder) _
+      within = read_within (plan_of c.args.plan.now) c.args.reads.now c.loop-port.port (states_so_far c.loop-port.self.builder)
+          (states_so_far c.join.new.self.builder) (edges_so_far c.loop-port.self.builder) (edges_so_far c.join.new.self.builder) _
           c.loop-port-test.true c.loop-port.invariant.within c.in_ok-join.ensures.room c.in_ok-join.ensures.nodes c.in_ok-join.ensures.edges;
       nodes = c.in_ok-join.ensures.nodes ∙ c.loop-port.invariant.nodes;
-      supply = omega (arith, ap length c.in_ok-join.ensures.supply, length-set c.loop-port.self.supply.items (get_or c.args.reads.now c.loop-port.port 0) (port_after (supplier c.loop-port.self.supply.items (get_or c.args.reads.now c.loop-port.port 0))), c.loop-port.invariant.supply);
+      supply = omega (
+        arith,
+        ap length c.in_ok-join.ensures.supply,
+        length-set c.loop-port.self.supply.items (get_or c.args.reads.now c.loop-port.port 0)
+            (port_after (supplier c.loop-port.self.supply.items (get_or c.args.reads.now c.loop-port.port 0))),
+        c.loop-port.invariant.supply,
+      );
       places = c.in_ok-join.ensures.places ∙ c.loop-port.invariant.places;
     }
 
@@ -41,7 +51,8 @@ pub join-requires-clause-fits : goal.join-requires-clause-fits
 join-requires-clause-fits c =
     let reads = c.args.reads.now in
     let is = slice_get-get_or reads c.loop-port.port 0 c.loop-port-test.true in
-    let known : get_or reads c.loop-port.port 0 < length c.loop-port.self.supply.items = omega (arith, c.requires.there c.loop-port.port (get_or reads c.loop-port.port 0) is, c.loop-port.invariant.supply) in
+    let known : get_or reads c.loop-port.port 0 < length c.loop-port.self.supply.items =
+    omega (arith, c.requires.there c.loop-port.port (get_or reads c.loop-port.port 0) is, c.loop-port.invariant.supply) in
     omega (arith, c.loop-port.invariant.joined.fits (get_or reads c.loop-port.port 0) known, read_one reads c.loop-port.port c.loop-port-test.true)
 
 pub returns : goal.returns
@@ -51,7 +62,8 @@ returns c =
     let edges = edges_so_far at.self.builder in
     let plan = plan_of c.args.plan.now in
     record {
-      joined = read_all plan c.args.reads.now at.port states edges c.loop-port-test.false (λ s. uses s (drop (length c.args.self.now.places.items) plan)) c.args.node at.self.supply.items at.auto.port-end at.invariant.joined;
+      joined = read_all plan c.args.reads.now at.port states edges c.loop-port-test.false
+          (λ s. uses s (drop (length c.args.self.now.places.items) plan)) c.args.node at.self.supply.items at.auto.port-end at.invariant.joined;
       within = all_within plan c.args.reads.now at.port states edges c.loop-port-test.false at.invariant.within;
       nodes = at.invariant.nodes;
       supply = at.invariant.supply;

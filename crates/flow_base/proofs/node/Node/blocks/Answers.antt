@@ -27,7 +27,8 @@ returns g c =
     let along = c.over_slices-along in
     let whole = c.blocks-whole in
     let n = along.new.self in
-    let went = subst (λ p. Went ins outs b (node_state (state n.worker) p n.at) (view along.new.ends) (node_state (state whole.new.self) p n.at) (view whole.new.ends) whole.result) (sym along.ensures.works) (whole.ensures.went n.at) in
+    let went = subst (λ p. Went ins outs b (node_state (state n.worker) p n.at) (view along.new.ends) (node_state (state whole.new.self) p n.at)
+    (view whole.new.ends) whole.result) (sym along.ensures.works) (whole.ensures.went n.at) in
     record {
       walk = walk_then view g.E.Ends.same ins outs b g.met.E.Ends.same_trans along.ensures.walk (record {
         same = whole.ensures.same;

@@ -25,7 +25,8 @@ returns-clause-went g c =
     let node = node_of g.W.Worker.state g.W.Worker.machine in
     let view = g.E.Ends.view in
     let all : c.loop-made.made ≡ c.args.chunk = omega arith in
-    subst (λ n. WentOn c.args.inputs.now c.args.outputs.now node.behaviour (node.state c.args.self.now) (view c.args.ends.now) (node.state c.loop-made.self) (view c.loop-made.ends) (nat_lt 0 n)) all (went_made c.loop-made.invariant.made)
+    subst (λ n. WentOn c.args.inputs.now c.args.outputs.now node.behaviour (node.state c.args.self.now) (view c.args.ends.now)
+    (node.state c.loop-made.self) (view c.loop-made.ends) (nat_lt 0 n)) all (went_made c.loop-made.invariant.made)
 
 pub returns-in_err-step-clause-broke : goal.returns-in_err-step-clause-broke
 returns-in_err-step-clause-broke g c =

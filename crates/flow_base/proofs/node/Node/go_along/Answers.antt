@@ -47,7 +47,9 @@ skip_at-requires-2-clause-reads g c =
     reads_still a v1 c.args.inputs.now (same_ends_then a v v1 c.least_space.ensures.ends c.skip_at.ensures.taken.ends) c.requires.placed.reads
 
 pub skip_at-requires-2-clause-there : goal.skip_at-requires-2-clause-there
-skip_at-requires-2-clause-there g c = port_there c.args.inputs.now 1 c.along-moved.result.second (shown_signals c.shown_at-second.result) c.along-moved.ensures.within.second c.shown_at-second.ensures.none
+skip_at-requires-2-clause-there g c =
+    port_there c.args.inputs.now 1 c.along-moved.result.second (shown_signals c.shown_at-second.result) c.along-moved.ensures.within.second
+    c.shown_at-second.ensures.none
 
 pub skip_at-requires-2-clause-certain : goal.skip_at-requires-2-clause-certain
 skip_at-requires-2-clause-certain g c =
@@ -55,7 +57,9 @@ skip_at-requires-2-clause-certain g c =
     let view = g.E.Ends.view in
     let v = view c.least_space.new.ends in
     let made = c.along-moved.result in
-    second_certain ins c.requires.inputs v (view c.skip_at.new.ends) made.second (take made.first (v.coming (edge_of ins 0))) (shown_signals c.shown_at-second.result) c.skip_at.ensures.taken c.shown_at-second.ensures.shown c.along-moved.ensures.within.second c.shown_at-second.ensures.none
+    second_certain ins c.requires.inputs v (view c.skip_at.new.ends) made.second (take made.first (v.coming (edge_of ins 0)))
+    (shown_signals c.shown_at-second.result) c.skip_at.ensures.taken c.shown_at-second.ensures.shown c.along-moved.ensures.within.second
+    c.shown_at-second.ensures.none
 
 pub put_on_each-requires-clause-writes : goal.put_on_each-requires-clause-writes
 put_on_each-requires-clause-writes g c =
@@ -64,7 +68,9 @@ put_on_each-requires-clause-writes g c =
     let v = view c.least_space.new.ends in
     let v1 = view c.skip_at.new.ends in
     let v2 = view c.skip_at-2.new.ends in
-    writes_still a v2 c.args.outputs.now (same_ends_then a v1 v2 (same_ends_then a v v1 c.least_space.ensures.ends c.skip_at.ensures.taken.ends) c.skip_at-2.ensures.taken.ends) c.requires.placed.writes
+    writes_still a v2 c.args.outputs.now
+    (same_ends_then a v1 v2 (same_ends_then a v v1 c.least_space.ensures.ends c.skip_at.ensures.taken.ends) c.skip_at-2.ensures.taken.ends)
+    c.requires.placed.writes
 
 pub put_on_each-requires-clause-kinds : goal.put_on_each-requires-clause-kinds
 put_on_each-requires-clause-kinds g c =
@@ -81,7 +87,8 @@ put_on_each-requires-clause-kinds g c =
     let new = state c.along-moved.new.self in
     let ran = c.along-moved.ensures.ran in
     let same = same_ends_then a v1 v2 (same_ends_then a v v1 c.least_space.ensures.ends c.skip_at.ensures.taken.ends) c.skip_at-2.ensures.taken.ends in
-    subst (λ p. TakeKinds outs (m.kind_out p) v2) (sym (same_parameters m (behaviour_laws _ g.met.W.Worker.laws) old new ran.history 0 (ran.does 0))) (kinds_still a v2 outs (m.kind_out old.0) same c.requires.placed.kinds)
+    subst (λ p. TakeKinds outs (m.kind_out p) v2) (sym (same_parameters m (behaviour_laws _ g.met.W.Worker.laws) old new ran.history 0 (ran.does 0)))
+    (kinds_still a v2 outs (m.kind_out old.0) same c.requires.placed.kinds)
 
 pub put_on_each-requires-clause-room : goal.put_on_each-requires-clause-room
 put_on_each-requires-clause-room g c = λ q there.
@@ -154,18 +161,27 @@ returns-clause-walk g c =
     let xs = take made.first firsts in
     let ys = take made.second seconds in
     let first = subst (λ l. TakenAll v (edge_of ins 0) l v1) (shown firsts (v.coming (edge_of ins 0)) made.first c.shown_at-first.ensures.shown within.first) c.skip_at.ensures.taken in
-    let second = subst (λ l. TakenAll v1 (edge_of ins 1) l v2) (second_taken ins c.requires.inputs v v1 made.second (take made.first (v.coming (edge_of ins 0))) seconds c.skip_at.ensures.taken c.shown_at-second.ensures.shown within.second none_second) c.skip_at-2.ensures.taken in
+    let second = subst (λ l. TakenAll v1 (edge_of ins 1) l v2)
+    (second_taken ins c.requires.inputs v v1 made.second (take made.first (v.coming (edge_of ins 0))) seconds c.skip_at.ensures.taken
+    c.shown_at-second.ensures.shown within.second none_second) c.skip_at-2.ensures.taken in
     let parameters = same_parameters m (behaviour_laws _ g.met.W.Worker.laws) old new ran.history 0 (ran.does 0) in
     let put = subst (λ p. PutOnEach outs (length outs) (λ q. written_signals block made (m.kind_out p q)) v2 w) parameters c.put_on_each.ensures.put in
     let some : 0 < made.steps = omega (arith, c.if-steps-eq0.false) in
-    let went = along_went m block made ins outs n.at xs ys ran c.requires.inputs c.requires.outputs c.requires.placed.each_output (λ le. take_nothing made.first firsts (none_first le)) (λ le. take_nothing made.second seconds (none_second le)) some v v1 v2 w first second put in
+    let went = along_went m block made ins outs n.at xs ys ran c.requires.inputs c.requires.outputs c.requires.placed.each_output
+    (λ le. take_nothing made.first firsts (none_first le)) (λ le. take_nothing made.second seconds (none_second le)) some v v1 v2 w first second put
+    in
     let here = subst (λ p. Went ins outs b (node_state old p n.at) v (node_state new p n.at) w made.steps) (sym c.requires.works) went in
     let looked = went_alone b ins outs (went_none b ins outs (node.state n) a) v (c.least_space.ensures.alone ins) in
     let E = g.met.E.Ends in
     let start = c.args.ends.now in
     record {
-      same = E.same_trans start c.skip_at-2.new.ends c.put_on_each.new.ends (E.same_trans start c.skip_at.new.ends c.skip_at-2.new.ends (E.same_trans start c.least_space.new.ends c.skip_at.new.ends c.least_space.ensures.same c.skip_at.ensures.same) c.skip_at-2.ensures.same) c.put_on_each.ensures.same;
-      ends = same_ends_then a v2 w (same_ends_then a v1 v2 (same_ends_then a v v1 c.least_space.ensures.ends c.skip_at.ensures.taken.ends) c.skip_at-2.ensures.taken.ends) c.put_on_each.ensures.put.ends;
+      same = E.same_trans start c.skip_at-2.new.ends c.put_on_each.new.ends
+          (E.same_trans start c.skip_at.new.ends c.skip_at-2.new.ends
+          (E.same_trans start c.least_space.new.ends c.skip_at.new.ends c.least_space.ensures.same c.skip_at.ensures.same) c.skip_at-2.ensures.same)
+          c.put_on_each.ensures.same;
+      ends = same_ends_then a v2 w
+          (same_ends_then a v1 v2 (same_ends_then a v v1 c.least_space.ensures.ends c.skip_at.ensures.taken.ends) c.skip_at-2.ensures.taken.ends)
+          c.put_on_each.ensures.put.ends;
       within = within.steps;
       went = subst (Went ins outs b (node.state n) a (node_state new n.phase n.at) w) (let none : 0 + made.steps ≡ made.steps = omega arith in none) (went_further b ins outs looked here);
     }

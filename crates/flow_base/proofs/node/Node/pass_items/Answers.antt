@@ -33,7 +33,8 @@ returns-clause-all g c =
     let m = g.W.Worker.machine in
     let node = node_of g.W.Worker.state m in
     let s = node.state c.args.self.now in
-    λ no. subst (λ l. PassedOn node.behaviour s (flat_signals l) s (flat_signals c.loop-flat.out.items)) (take_all c.loop-flat.flat-index c.args.flats.now c.loop-flat-test.false) c.loop-flat.invariant.passed
+    λ no. subst (λ l. PassedOn node.behaviour s (flat_signals l) s (flat_signals c.loop-flat.out.items))
+    (take_all c.loop-flat.flat-index c.args.flats.now c.loop-flat-test.false) c.loop-flat.invariant.passed
 
 pub loop-flat-preserved : goal.loop-flat-preserved
 loop-flat-preserved g c =
@@ -44,7 +45,9 @@ loop-flat-preserved g c =
     let passes = says_passes m g.W.Worker.passes (node.state c.args.self.now) c.requires.passes in
     let fits = item_fits _ c.args.flats.now c.loop-flat.flat-index _ c.requires.come c.loop-flat-test.true in
     let item = sym c.is_end.ensures ∙ c.if-is_end.false in
-    let go = next_passed m g.met.W.Worker.laws g.W.Worker.passes (node.state c.args.self.now) c.requires.passes c.args.flats.now c.loop-flat.flat-index _ outs c.match-follows.out.items follows c.loop-flat-test.true c.loop-flat.invariant.passed (c.follows.ensures passes fits item) in
+    let go = next_passed m g.met.W.Worker.laws g.W.Worker.passes (node.state c.args.self.now) c.requires.passes c.args.flats.now
+    c.loop-flat.flat-index _ outs c.match-follows.out.items follows c.loop-flat-test.true c.loop-flat.invariant.passed
+    (c.follows.ensures passes fits item) in
     elim c.match-follows.branch [
       | in-Some w ↦ record {
         short = omega (arith, ap (λ (b : ArrayVec Flat). length b.items) w.out-is, w.push.ensures.len, c.loop-flat.invariant.short);

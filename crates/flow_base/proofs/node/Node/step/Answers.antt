@@ -56,7 +56,9 @@ returns-in_err-give-in-Read-clause-broke g c =
     let placed = c.requires.placed in
     let made = made_none laws placed in
     let starves : b.takes_memory s ≡ true = starves_err (b.takes_memory s) c.give.result c.in_err-give-in-Read.field-0.0 c.in_err-give-in-Read.was c.give.ensures.sure in
-    on_err c.from_residual.result (broke_reading laws placed made c.in-Read.port (signal_of c.in-Some.message) (node.state c.give.new.self) (view c.take.new.self) (sym c.want.ensures ∙ c.in-Read.is) c.in-Some.ensures.some c.in_err-give-in-Read.ensures.err starves)
+    on_err c.from_residual.result
+    (broke_reading laws placed made c.in-Read.port (signal_of c.in-Some.message) (node.state c.give.new.self) (view c.take.new.self)
+    (sym c.want.ensures ∙ c.in-Read.is) c.in-Some.ensures.some c.in_err-give-in-Read.ensures.err starves)
 
 pub returns-then-not-room-clause-visited : goal.returns-then-not-room-clause-visited
 returns-then-not-room-clause-visited g c =
@@ -114,7 +116,8 @@ put-requires-clause-fits g c =
     let placed = c.requires.placed in
     let u = g.E.Ends.view c.room.new.self in
     let wants : b.process.want s ≡ Write c.in-Write.port = sym c.want.ensures ∙ c.in-Write.is in
-    subst (FitsEdge (u.kind (edge_of c.args.outputs.now c.in-Write.port))) (sym c.in_ok-message-in-Write.ensures.ok.0) (put_fits laws placed (made_none laws placed) c.in-Write.port u c.room.ensures.looked.ends wants)
+    subst (FitsEdge (u.kind (edge_of c.args.outputs.now c.in-Write.port))) (sym c.in_ok-message-in-Write.ensures.ok.0)
+    (put_fits laws placed (made_none laws placed) c.in-Write.port u c.room.ensures.looked.ends wants)
 
 pub returns-in_ok-message-in-Write-clause-visited : goal.returns-in_ok-message-in-Write-clause-visited
 returns-in_ok-message-in-Write-clause-visited g c =
@@ -132,7 +135,8 @@ returns-in_ok-message-in-Write-clause-visited g c =
     let u = view c.room.new.self in
     let w = view c.put.new.self in
     let certain : 0 < u.room (edge_of outs c.in-Write.port) = c.room.ensures.value.0 (cc (c.if-not-room.false)) in
-    let after = made_put laws placed made c.in-Write.port sent.message t u w c.put.result wants sent.ensures.ok.0 sent.ensures.ok.1 c.room.ensures.looked certain c.put.ensures.ok c.put.ensures.refused c.put.ensures.closed c.put.ensures.succeeds in
+    let after = made_put laws placed made c.in-Write.port sent.message t u w c.put.result wants sent.ensures.ok.0 sent.ensures.ok.1
+    c.room.ensures.looked certain c.put.ensures.ok c.put.ensures.refused c.put.ensures.closed c.put.ensures.succeeds in
     visited laws placed after (λ h. cc)
 
 pub returns-in-Ended-clause-visited : goal.returns-in-Ended-clause-visited

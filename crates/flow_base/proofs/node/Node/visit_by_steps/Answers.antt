@@ -32,7 +32,9 @@ returns-clause-visited g c =
     let t = node.state c.work.new.self in
     let worked = made_first (behaviour_laws _ g.met.W.Worker.laws) placed c.work.ensures.ends c.in_ok-made.ensures.visited in
     let works : s.phase ≡ Working = elim c.match-matches.branch [ in-Working w ↦ w.in-Working.is | in_default w ↦ absurd (cc (w.matches-is, c.if-not-matches.false)) ] in
-    let stopped : t.phase ≡ Working → ⊥ = λ on. elim c.match-matches-2.branch [ in-Working-matches w ↦ absurd (cc (w.matches-is, c.if-matches.false)) | in_default-matches w ↦ w.in_default-matches.not-Working on ] in
+    let stopped : t.phase ≡ Working → ⊥ =
+    λ on. elim c.match-matches-2.branch
+    [ in-Working-matches w ↦ absurd (cc (w.matches-is, c.if-matches.false)) | in_default-matches w ↦ w.in_default-matches.not-Working on ] in
     let some : nat_lt 0 c.in_ok-made.made ≡ true = moved (behaviour_laws _ g.met.W.Worker.laws) placed worked (λ same. stopped (sym (ap (λ n. n.phase) same) ∙ works)) in
     subst (Visited c.args.inputs.now c.args.outputs.now node.behaviour s (view c.args.ends.now) (node.state c.close-2.new.self) (view c.close-2.new.ends))
     (or_left (nat_lt 0 c.in_ok-made.made) c.in_ok-close.field-0 some)

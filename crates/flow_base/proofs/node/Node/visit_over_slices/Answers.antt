@@ -38,7 +38,8 @@ returns-then-whole-eq0-clause-visited g c =
     let later = c.visit_by_steps in
     let made = made_went c.in_ok-whole.ensures.went (behaviour_laws _ g.met.W.Worker.laws) placed c.many.ensures.ends in
     let seen = Visited c.args.inputs.now c.args.outputs.now node.behaviour (node.state c.args.self.now) (view c.args.ends.now) (node.state later.new.self) (view later.new.ends) in
-    if_ok later.result (λ any next. subst seen (ap (λ n. nat_lt 0 n || any) c.if-whole-eq0.true) (visited_on (behaviour_laws _ g.met.W.Worker.laws) placed made later.ensures.ends next)) later.ensures.visited
+    if_ok later.result (λ any next. subst seen (ap (λ n. nat_lt 0 n || any) c.if-whole-eq0.true)
+    (visited_on (behaviour_laws _ g.met.W.Worker.laws) placed made later.ensures.ends next)) later.ensures.visited
 
 pub returns-then-whole-eq0-clause-broke : goal.returns-then-whole-eq0-clause-broke
 returns-then-whole-eq0-clause-broke g c =
@@ -54,4 +55,6 @@ returns-clause-visited g c =
     let placed = c.requires.placed in
     let made = made_went c.in_ok-whole.ensures.went (behaviour_laws _ g.met.W.Worker.laws) placed c.many.ensures.ends in
     let some = positive c.in_ok-whole.whole c.if-whole-eq0.false in
-    visited (behaviour_laws _ g.met.W.Worker.laws) placed (subst (Made node.behaviour c.args.inputs.now c.args.outputs.now (node.state c.args.self.now) (view c.args.ends.now) (node.state c.many.new.self) (view c.many.new.ends)) some made) (λ h. absurd (let no : true ≡ false = h in cc))
+    visited (behaviour_laws _ g.met.W.Worker.laws) placed
+    (subst (Made node.behaviour c.args.inputs.now c.args.outputs.now (node.state c.args.self.now) (view c.args.ends.now)
+    (node.state c.many.new.self) (view c.many.new.ends)) some made) (λ h. absurd (let no : true ≡ false = h in cc))

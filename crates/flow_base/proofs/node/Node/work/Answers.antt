@@ -10,7 +10,8 @@ use Rattle.flow_base.specs.Members.{node_of}
 use Rattle.flow_base.specs.Visits.{edge_of, IsStuck, Visited}
 use Rattle.flow_base.specs.NodeLaws.{behaviour_laws}
 use Rattle.flow_base.proofs.Carried.{same_ends_then}
-use Rattle.flow_base.proofs.Visits.{Made, input_there, output_there, put_fits, reads_at, made_none, made_read, made_wrote, made_looked, made_room, visited, broke_off, broke_reading, starves_err, no_room, on_err}
+use Rattle.flow_base.proofs.Visits.{Made, input_there, output_there, put_fits, reads_at, made_none, made_read, made_wrote, made_looked, made_room}
+use Rattle.flow_base.proofs.Visits.{visited, broke_off, broke_reading, starves_err, no_room, on_err}
 use Rattle.flow_base.proofs.node.Node.work.Goals.{in-Read+else-prove+in-Some+in_ok-read_on-in-Read+else-not-branch, in-Write+else-prove-2+else-not-room+in_ok-item-in-Write}
 use Rattle.flow_base.proofs.node.Node.work.Goals as goal
 
@@ -117,8 +118,12 @@ returns-in_err-read_on-in-Read-clause-broke g c =
     let placed = c.requires.placed in
     let made = c.loop-made.invariant.made in
     let works = c.loop-made.invariant.works in
-    let starves : b.takes_memory t ≡ true = ap (λ p. memory_in m p t) works ∙ starves_err (m.takes_memory t.worker.1) c.read_on.result c.in_err-read_on-in-Read.field-0.0 c.in_err-read_on-in-Read.was c.read_on.ensures.sure in
-    on_err c.from_residual.result (broke_reading laws placed made c.in-Read.port (signal_of c.in-Some.message) (node.state c.read_on.new.self) (view c.take.new.self) (ap (λ p. want_in m p t) works ∙ sym c.want_on.ensures ∙ c.in-Read.is) c.in-Some.ensures.some c.in_err-read_on-in-Read.ensures.err starves)
+    let starves : b.takes_memory t ≡ true = ap (λ p. memory_in m p t) works
+    ∙ starves_err (m.takes_memory t.worker.1) c.read_on.result c.in_err-read_on-in-Read.field-0.0 c.in_err-read_on-in-Read.was
+    c.read_on.ensures.sure in
+    on_err c.from_residual.result
+    (broke_reading laws placed made c.in-Read.port (signal_of c.in-Some.message) (node.state c.read_on.new.self) (view c.take.new.self)
+    (ap (λ p. want_in m p t) works ∙ sym c.want_on.ensures ∙ c.in-Read.is) c.in-Some.ensures.some c.in_err-read_on-in-Read.ensures.err starves)
 
 pub returns-in_err-item-in-Write-clause-broke : goal.returns-in_err-item-in-Write-clause-broke
 returns-in_err-item-in-Write-clause-broke g c =
@@ -133,9 +138,12 @@ returns-in_err-item-in-Write-clause-broke g c =
     let works = c.loop-made.invariant.works in
     let wants : b.process.want t ≡ Write c.in-Write.port = ap (λ p. want_in m p t) works ∙ sym c.want_on.ensures ∙ c.in-Write.is in
     let u = view c.room.new.self in
-    let starves : b.takes_memory t ≡ true = ap (λ p. memory_in m p t) works ∙ starves_err (m.takes_memory t.worker.1) c.give.result c.in_err-item-in-Write.field-0.0 c.in_err-item-in-Write.was c.give.ensures.sure in
+    let starves : b.takes_memory t ≡ true = ap (λ p. memory_in m p t) works
+    ∙ starves_err (m.takes_memory t.worker.1) c.give.result c.in_err-item-in-Write.field-0.0 c.in_err-item-in-Write.was c.give.ensures.sure in
     let looked = made_room laws placed made c.in-Write.port u wants c.room.ensures.looked in
-    on_err c.from_residual-in_err-item-in-Write.result (broke_off laws placed looked (node_state (g.W.Worker.state c.give.new.self) c.loop-made.self.phase c.loop-made.self.at) (ap (λ x. node_state x c.loop-made.self.phase c.loop-made.self.at) c.in_err-item-in-Write.ensures.err) starves)
+    on_err c.from_residual-in_err-item-in-Write.result
+    (broke_off laws placed looked (node_state (g.W.Worker.state c.give.new.self) c.loop-made.self.phase c.loop-made.self.at)
+    (ap (λ x. node_state x c.loop-made.self.phase c.loop-made.self.at) c.in_err-item-in-Write.ensures.err) starves)
 
 pub put_in_space-requires-clause-fits : goal.put_in_space-requires-clause-fits
 put_in_space-requires-clause-fits g c =
@@ -150,7 +158,8 @@ put_in_space-requires-clause-fits g c =
     let u = g.E.Ends.view c.room.new.self in
     let wants : b.process.want t ≡ Write c.in-Write.port = ap (λ p. want_in m p t) works ∙ sym c.want_on.ensures ∙ c.in-Write.is in
     let told : carry (written_cell (move_of m t.worker)) ≡ b.process.written t = sym (ap (λ p. written_signal m p t) works) in
-    subst (FitsEdge (u.kind (edge_of c.args.outputs.now c.in-Write.port))) (sym (ap carry c.in_ok-item-in-Write.ensures.ok.0 ∙ told)) (put_fits laws placed made c.in-Write.port u c.room.ensures.looked.ends wants)
+    subst (FitsEdge (u.kind (edge_of c.args.outputs.now c.in-Write.port))) (sym (ap carry c.in_ok-item-in-Write.ensures.ok.0 ∙ told))
+    (put_fits laws placed made c.in-Write.port u c.room.ensures.looked.ends wants)
 
 pub loop-made-preserved : goal.loop-made-preserved
 loop-made-preserved g c =
@@ -170,21 +179,29 @@ loop-made-preserved g c =
     let inv = c.loop-made.invariant in
     let next = node.state c.match-want_on.self in
     elim c.match-want_on.branch [
-      | in-Read+else-prove+in-Some+in_ok-read_on-in-Read+else-not-branch w ↦ (let wants : b.process.want t ≡ Read w.in-Read.port = ap (λ p. want_in m p t) works ∙ sym c.want_on.ensures ∙ w.in-Read.is in
+      | in-Read+else-prove+in-Some+in_ok-read_on-in-Read+else-not-branch w ↦
+          (let wants : b.process.want t ≡ Read w.in-Read.port = ap (λ p. want_in m p t) works ∙ sym c.want_on.ensures ∙ w.in-Read.is in
           let is : next ≡ b.process.read t (signal_of w.in-Some.message) = ap node.state w.self-is ∙ w.in_ok-read_on-in-Read.ensures.ok in
           record {
             same = subst (g.E.Ends.same c.args.ends.now) (sym w.ends-is) (g.met.E.Ends.same_trans c.args.ends.now c.loop-made.ends w.take.new.self inv.same w.take.ensures.same);
             works = ap (λ n. n.phase) w.self-is ∙ w.in_ok-read_on-in-Read.ensures.on (cc (w.if-not-branch.false));
-            made = subst (λ x. Made b ins outs s a next (view x) (nat_lt 0 (c.loop-made.made + 1))) (sym w.ends-is) (subst (Made b ins outs s a next (view w.take.new.self)) (stepped c.loop-made.made) (made_read laws placed made w.in-Read.port (signal_of w.in-Some.message) next (view w.take.new.self) wants w.in-Some.ensures.some is));
+            made = subst (λ x. Made b ins outs s a next (view x) (nat_lt 0 (c.loop-made.made + 1))) (sym w.ends-is)
+                (subst (Made b ins outs s a next (view w.take.new.self)) (stepped c.loop-made.made)
+                (made_read laws placed made w.in-Read.port (signal_of w.in-Some.message) next (view w.take.new.self) wants w.in-Some.ensures.some is));
           })
       | in-Write+else-prove-2+else-not-room+in_ok-item-in-Write w ↦ (let wants : b.process.want t ≡ Write w.in-Write.port = ap (λ p. want_in m p t) works ∙ sym c.want_on.ensures ∙ w.in-Write.is in
           let sent = w.in_ok-item-in-Write in
           let told : carry (written_cell (move_of m t.worker)) ≡ b.process.written t = sym (ap (λ p. written_signal m p t) works) in
           let is : next ≡ b.process.wrote t = ap node.state w.self-is ∙ ap (λ x. node_state x c.loop-made.self.phase c.loop-made.self.at) sent.ensures.ok.1 ∙ sym (ap (λ p. after_in m p t) works) in
           record {
-            same = subst (g.E.Ends.same c.args.ends.now) (sym w.ends-is) (g.met.E.Ends.same_trans c.args.ends.now w.room.new.self w.put_in_space.new.ends (g.met.E.Ends.same_trans c.args.ends.now c.loop-made.ends w.room.new.self inv.same w.room.ensures.same) w.put_in_space.ensures.same);
+            same = subst (g.E.Ends.same c.args.ends.now) (sym w.ends-is)
+                (g.met.E.Ends.same_trans c.args.ends.now w.room.new.self w.put_in_space.new.ends
+                (g.met.E.Ends.same_trans c.args.ends.now c.loop-made.ends w.room.new.self inv.same w.room.ensures.same) w.put_in_space.ensures.same);
             works = ap (λ n. n.phase) w.self-is ∙ works;
-            made = subst (λ x. Made b ins outs s a next (view x) (nat_lt 0 (c.loop-made.made + 1))) (sym w.ends-is) (subst (Made b ins outs s a next (view w.put_in_space.new.ends)) (stepped c.loop-made.made) (made_wrote laws placed made w.in-Write.port (signal_of (msg.Item sent.item)) next (view w.room.new.self) (view w.put_in_space.new.ends) wants (ap carry sent.ensures.ok.0 ∙ told) is w.room.ensures.looked w.put_in_space.ensures.wrote));
+            made = subst (λ x. Made b ins outs s a next (view x) (nat_lt 0 (c.loop-made.made + 1))) (sym w.ends-is)
+                (subst (Made b ins outs s a next (view w.put_in_space.new.ends)) (stepped c.loop-made.made)
+                (made_wrote laws placed made w.in-Write.port (signal_of (msg.Item sent.item)) next (view w.room.new.self) (view w.put_in_space.new.ends)
+                wants (ap carry sent.ensures.ok.0 ∙ told) is w.room.ensures.looked w.put_in_space.ensures.wrote));
           })
     ]
 
@@ -201,31 +218,37 @@ pub returns-in_default-clause-same : goal.returns-in_default-clause-same
 returns-in_default-clause-same g c = g.met.E.Ends.same_trans c.args.ends.now c.loop-made.ends c.take.new.self c.loop-made.invariant.same c.take.ensures.same
 
 pub returns-in_default-clause-ends : goal.returns-in_default-clause-ends
-returns-in_default-clause-ends g c = let view = g.E.Ends.view in same_ends_then (view c.args.ends.now) (view c.loop-made.ends) (view c.take.new.self) c.loop-made.invariant.made.ends c.in_default.ensures.none.0.ends
+returns-in_default-clause-ends g c = let view = g.E.Ends.view in
+    same_ends_then (view c.args.ends.now) (view c.loop-made.ends) (view c.take.new.self) c.loop-made.invariant.made.ends
+    c.in_default.ensures.none.0.ends
 
 pub returns-in_err-read_on-in-Read-clause-same : goal.returns-in_err-read_on-in-Read-clause-same
 returns-in_err-read_on-in-Read-clause-same g c = g.met.E.Ends.same_trans c.args.ends.now c.loop-made.ends c.take.new.self c.loop-made.invariant.same c.take.ensures.same
 
 pub returns-in_err-read_on-in-Read-clause-ends : goal.returns-in_err-read_on-in-Read-clause-ends
-returns-in_err-read_on-in-Read-clause-ends g c = let view = g.E.Ends.view in same_ends_then (view c.args.ends.now) (view c.loop-made.ends) (view c.take.new.self) c.loop-made.invariant.made.ends c.in-Some.ensures.some.ends
+returns-in_err-read_on-in-Read-clause-ends g c = let view = g.E.Ends.view in
+    same_ends_then (view c.args.ends.now) (view c.loop-made.ends) (view c.take.new.self) c.loop-made.invariant.made.ends c.in-Some.ensures.some.ends
 
 pub returns-then-not-branch-clause-same : goal.returns-then-not-branch-clause-same
 returns-then-not-branch-clause-same g c = g.met.E.Ends.same_trans c.args.ends.now c.loop-made.ends c.take.new.self c.loop-made.invariant.same c.take.ensures.same
 
 pub returns-then-not-branch-clause-ends : goal.returns-then-not-branch-clause-ends
-returns-then-not-branch-clause-ends g c = let view = g.E.Ends.view in same_ends_then (view c.args.ends.now) (view c.loop-made.ends) (view c.take.new.self) c.loop-made.invariant.made.ends c.in-Some.ensures.some.ends
+returns-then-not-branch-clause-ends g c = let view = g.E.Ends.view in
+    same_ends_then (view c.args.ends.now) (view c.loop-made.ends) (view c.take.new.self) c.loop-made.invariant.made.ends c.in-Some.ensures.some.ends
 
 pub returns-then-not-room-clause-same : goal.returns-then-not-room-clause-same
 returns-then-not-room-clause-same g c = g.met.E.Ends.same_trans c.args.ends.now c.loop-made.ends c.room.new.self c.loop-made.invariant.same c.room.ensures.same
 
 pub returns-then-not-room-clause-ends : goal.returns-then-not-room-clause-ends
-returns-then-not-room-clause-ends g c = let view = g.E.Ends.view in same_ends_then (view c.args.ends.now) (view c.loop-made.ends) (view c.room.new.self) c.loop-made.invariant.made.ends c.room.ensures.looked.ends
+returns-then-not-room-clause-ends g c = let view = g.E.Ends.view in
+    same_ends_then (view c.args.ends.now) (view c.loop-made.ends) (view c.room.new.self) c.loop-made.invariant.made.ends c.room.ensures.looked.ends
 
 pub returns-in_err-item-in-Write-clause-same : goal.returns-in_err-item-in-Write-clause-same
 returns-in_err-item-in-Write-clause-same g c = g.met.E.Ends.same_trans c.args.ends.now c.loop-made.ends c.room.new.self c.loop-made.invariant.same c.room.ensures.same
 
 pub returns-in_err-item-in-Write-clause-ends : goal.returns-in_err-item-in-Write-clause-ends
-returns-in_err-item-in-Write-clause-ends g c = let view = g.E.Ends.view in same_ends_then (view c.args.ends.now) (view c.loop-made.ends) (view c.room.new.self) c.loop-made.invariant.made.ends c.room.ensures.looked.ends
+returns-in_err-item-in-Write-clause-ends g c = let view = g.E.Ends.view in
+    same_ends_then (view c.args.ends.now) (view c.loop-made.ends) (view c.room.new.self) c.loop-made.invariant.made.ends c.room.ensures.looked.ends
 
 pub returns-in-Ended-clause-same : goal.returns-in-Ended-clause-same
 returns-in-Ended-clause-same g c = c.loop-made.invariant.same

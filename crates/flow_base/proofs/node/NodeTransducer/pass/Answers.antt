@@ -17,4 +17,5 @@ returns-then-pass_items-clause-passed g c =
     let ended = c.if-pass_items.ensures.ended refl in
     let said : flat_signals c.args.block.now.items ≡ ended.0 ++ stop ∷ [] = ap flat_signals (sym c.as_slice.ensures.value) ∙ ended.1 in
     λ _. subst (λ l. PassedOn node.behaviour n l t (flat_signals c.pass_end.new.out.items)) (sym said)
-    (end_passed m g.met.W.Worker.laws g.W.Worker.passes n is ended.0 c.pass_items.new.out.items c.pass_end.new.out.items t (c.if-not-may_pass.ensures.one refl) ended.2 c.pass_end.ensures.state c.pass_end.ensures.out)
+    (end_passed m g.met.W.Worker.laws g.W.Worker.passes n is ended.0 c.pass_items.new.out.items c.pass_end.new.out.items t
+    (c.if-not-may_pass.ensures.one refl) ended.2 c.pass_end.ensures.state c.pass_end.ensures.out)

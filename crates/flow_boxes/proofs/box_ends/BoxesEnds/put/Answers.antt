@@ -17,13 +17,19 @@ pub returns-clause-ok : goal.returns-clause-ok
 returns-clause-ok c =
     let s = c.args.self.now in
     let h = writer-below s.outboxes.items c.args.edge c.requires.writes in
-    on_ok c.put.result (λ p. writer-put s.capacity s.outboxes.items s.inboxes.items c.args.edge _ c.in-Some.outbox c.put.new.self h c.index_mut.ensures.value c.in-Some.is c.args.message p.0 p.1 p.2) c.put.ensures.ok
+    on_ok c.put.result (λ p. writer-put s.capacity s.outboxes.items s.inboxes.items c.args.edge _ c.in-Some.outbox c.put.new.self h
+    c.index_mut.ensures.value c.in-Some.is c.args.message p.0 p.1 p.2) c.put.ensures.ok
 
 pub returns-clause-refused : goal.returns-clause-refused
 returns-clause-refused c =
     let s = c.args.self.now in
     let h = writer-below s.outboxes.items c.args.edge c.requires.writes in
-    if_err _ _ c.put.result (λ x p. (p.0, writer-kept s.capacity s.outboxes.items s.inboxes.items c.args.edge _ c.in-Some.outbox c.put.new.self h c.index_mut.ensures.value c.in-Some.is p.1 p.2 p.3)) c.put.ensures.refused
+    if_err _ _ c.put.result
+    (λ x p. (
+      p.0,
+      writer-kept s.capacity s.outboxes.items s.inboxes.items c.args.edge _ c.in-Some.outbox c.put.new.self h c.index_mut.ensures.value
+          c.in-Some.is p.1 p.2 p.3,
+    )) c.put.ensures.refused
 
 pub returns-clause-full : goal.returns-clause-full
 returns-clause-full c =

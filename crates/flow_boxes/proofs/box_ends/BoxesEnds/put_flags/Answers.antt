@@ -20,11 +20,15 @@ pub returns-clause-same : goal.returns-clause-same
 returns-clause-same c =
     let s = c.args.self.now in
     let h = writer-below s.outboxes.items c.args.edge c.requires.writes in
-    block-keeps s.capacity s.outboxes.items s.inboxes.items c.args.edge _ c.in-Some.outbox c.put_flags.new.self h c.index_mut.ensures.value c.in-Some.is (flag_messages c.args.flags.now) c.put_flags.ensures.put
+    block-keeps s.capacity s.outboxes.items s.inboxes.items c.args.edge _ c.in-Some.outbox c.put_flags.new.self h c.index_mut.ensures.value
+    c.in-Some.is (flag_messages c.args.flags.now) c.put_flags.ensures.put
 
 pub returns-clause-put : goal.returns-clause-put
 returns-clause-put c =
     let s = c.args.self.now in
     let h = writer-below s.outboxes.items c.args.edge c.requires.writes in
     let new = c.put_flags.new.self in
-    subst (λ (l : List Signal). PutAll (contents_of s.capacity s.outboxes.items s.inboxes.items).ends c.args.edge l (contents_of s.capacity (set s.outboxes.items c.args.edge (Some new)) s.inboxes.items).ends) (signals-block BoolItem c.args.flags.now) (writer-put_all s.capacity s.outboxes.items s.inboxes.items c.args.edge _ c.in-Some.outbox new h c.index_mut.ensures.value c.in-Some.is (flag_messages c.args.flags.now) c.put_flags.ensures.put)
+    subst (λ (l : List Signal). PutAll (contents_of s.capacity s.outboxes.items s.inboxes.items).ends c.args.edge l
+    (contents_of s.capacity (set s.outboxes.items c.args.edge (Some new)) s.inboxes.items).ends) (signals-block BoolItem c.args.flags.now)
+    (writer-put_all s.capacity s.outboxes.items s.inboxes.items c.args.edge _ c.in-Some.outbox new h c.index_mut.ensures.value c.in-Some.is
+    (flag_messages c.args.flags.now) c.put_flags.ensures.put)

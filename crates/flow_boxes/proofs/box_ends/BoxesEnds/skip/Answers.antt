@@ -15,7 +15,12 @@ skip-requires c =
     let s = c.args.self.now in
     let h = reader-below s.inboxes.items c.args.edge c.requires.reads in
     let i = c.in-Some.inbox in
-    omega (arith, c.requires.certain, ap length (had_coming s.capacity s.outboxes.items s.inboxes.items c.args.edge _ i i h c.index_mut.ensures.value c.in-Some.is), signals-length (content_of i.store))
+    omega (
+      arith,
+      c.requires.certain,
+      ap length (had_coming s.capacity s.outboxes.items s.inboxes.items c.args.edge _ i i h c.index_mut.ensures.value c.in-Some.is),
+      signals-length (content_of i.store),
+    )
 
 pub returns-clause-same : goal.returns-clause-same
 returns-clause-same c =
@@ -36,4 +41,7 @@ returns-clause-taken c =
     let now = content_of i.store in
     let parts = sym (take-append-drop n now) ∙ ap (λ k. take n now ++ k) (sym c.skip.ensures.rest) in
     let said = signals-take n now ∙ ap (take n) (sym (had_coming s.capacity s.outboxes.items s.inboxes.items c.args.edge _ i i h c.index_mut.ensures.value c.in-Some.is)) in
-    subst (λ (l : List Signal). TakenAll (contents_of s.capacity s.outboxes.items s.inboxes.items).ends c.args.edge l (contents_of s.capacity s.outboxes.items (set s.inboxes.items c.args.edge (Some new))).ends) said (reader-taken_all s.capacity s.outboxes.items s.inboxes.items c.args.edge _ i new h c.index_mut.ensures.value c.in-Some.is (take n now) c.skip.ensures.received parts)
+    subst (λ (l : List Signal). TakenAll (contents_of s.capacity s.outboxes.items s.inboxes.items).ends c.args.edge l
+    (contents_of s.capacity s.outboxes.items (set s.inboxes.items c.args.edge (Some new))).ends) said
+    (reader-taken_all s.capacity s.outboxes.items s.inboxes.items c.args.edge _ i new h c.index_mut.ensures.value c.in-Some.is (take n now)
+    c.skip.ensures.received parts)

@@ -21,7 +21,9 @@ pub returns-clause-some : goal.returns-clause-some
 returns-clause-some c =
     let s = c.args.self.now in
     let h = reader-below s.inboxes.items c.args.edge c.requires in
-    if_some _ _ c.take.result (λ m p. reader-taken s.capacity s.outboxes.items s.inboxes.items c.args.edge _ c.in-Some.inbox c.take.new.self h c.index_mut.ensures.value c.in-Some.is m p.0 p.1) c.take.ensures.some
+    if_some _ _ c.take.result
+    (λ m p. reader-taken s.capacity s.outboxes.items s.inboxes.items c.args.edge _ c.in-Some.inbox c.take.new.self h c.index_mut.ensures.value
+    c.in-Some.is m p.0 p.1) c.take.ensures.some
 
 pub returns-clause-none : goal.returns-clause-none
 returns-clause-none c =

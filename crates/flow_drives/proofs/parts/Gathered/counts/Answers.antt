@@ -10,7 +10,8 @@ pub counts-requires : goal.counts-requires
 counts-requires g c =
     let gathered = c.args.self.now in
     let shared = c.in-Shared.shared in
-    let there = ends_there view_of BoxesJoin boxes_join_ends shared.share.items (edges_of gathered.graph) shared.ends.items shared.capacity (gathered.there.shared shared c.in-Shared.is) c.args.edge c.requires c.edge-ends.result c.edge-ends.ensures in
+    let there = ends_there view_of BoxesJoin boxes_join_ends shared.share.items (edges_of gathered.graph) shared.ends.items shared.capacity
+    (gathered.there.shared shared c.in-Shared.is) c.args.edge c.requires c.edge-ends.result c.edge-ends.ensures in
     record { writer = there.0; reader = there.1; writes = there.2; reads = there.3 }
 
 pub returns-in-Shared-clause-sent : goal.returns-in-Shared-clause-sent
@@ -18,7 +19,8 @@ returns-in-Shared-clause-sent g c =
     let gathered = c.args.self.now in
     let shared = c.in-Shared.shared in
     let edges = edges_of gathered.graph in
-    sent_counted view_of BoxesJoin boxes_join_ends shared.share.items edges shared.ends.items shared.capacity (gathered.there.shared shared c.in-Shared.is) c.args.edge c.requires c.edge-ends.result c.edge-ends.ensures
+    sent_counted view_of BoxesJoin boxes_join_ends shared.share.items edges shared.ends.items shared.capacity
+    (gathered.there.shared shared c.in-Shared.is) c.args.edge c.requires c.edge-ends.result c.edge-ends.ensures
     (traffic_in edges gathered.all_ends) (ap (traffic_in edges) c.in-Shared.is) c.counts.result.0 c.counts.ensures.sent
 
 pub returns-in-Shared-clause-received : goal.returns-in-Shared-clause-received
@@ -26,5 +28,6 @@ returns-in-Shared-clause-received g c =
     let gathered = c.args.self.now in
     let shared = c.in-Shared.shared in
     let edges = edges_of gathered.graph in
-    received_counted view_of BoxesJoin boxes_join_ends shared.share.items edges shared.ends.items shared.capacity (gathered.there.shared shared c.in-Shared.is) c.args.edge c.requires c.edge-ends.result c.edge-ends.ensures
+    received_counted view_of BoxesJoin boxes_join_ends shared.share.items edges shared.ends.items shared.capacity
+    (gathered.there.shared shared c.in-Shared.is) c.args.edge c.requires c.edge-ends.result c.edge-ends.ensures
     (traffic_in edges gathered.all_ends) (ap (traffic_in edges) c.in-Shared.is) c.counts.result.1 c.counts.ensures.received

@@ -17,7 +17,9 @@ pub returns-in_default : goal.returns-in_default
 returns-in_default c = moved_nothing length_machine (length_view c.args.self.now) c.args.first c.args.second c.args.space c.args.most c.args.block.now c.nothing.result c.nothing.ensures
 
 pub returns-then-not-stays_in_range : goal.returns-then-not-stays_in_range
-returns-then-not-stays_in_range c = moved_nothing length_machine (length_view c.args.self.now) c.args.first c.args.second c.args.space c.args.most c.args.block.now c.nothing-then-not-stays_in_range.result c.nothing-then-not-stays_in_range.ensures
+returns-then-not-stays_in_range c =
+    moved_nothing length_machine (length_view c.args.self.now) c.args.first c.args.second c.args.space c.args.most c.args.block.now
+    c.nothing-then-not-stays_in_range.result c.nothing-then-not-stays_in_range.ensures
 
 -- the counts stay within 64 bits
 pub lengths_along-passed-requires-clause-narrow : goal.lengths_along-passed-requires-clause-narrow
@@ -54,7 +56,8 @@ returns c =
     let stays = c.stays_in_range.ensures.range (search rules) in
     let range : count + length (take n bs) ≤ greatest_integer d = omega (arith, stays, long, fewer) in
     let steps : length (take n bs) + length lengths ≡ n + k = omega (arith, long, written) in
-    let ran = single_ran m d (flag_signals (take n bs)) [] (int_signals lengths) (lengths_steps d count more (take n bs) lengths range is) first second block made refl (flags_shown first bs n c.flags-flags.ensures (omega (arith, fewer, small))) refl refl steps in
+    let ran = single_ran m d (flag_signals (take n bs)) [] (int_signals lengths) (lengths_steps d count more (take n bs) lengths range is) first
+    second block made refl (flags_shown first bs n c.flags-flags.ensures (omega (arith, fewer, small))) refl refl steps in
     subst (λ s. MovesAlong m (d, s) (d, Counting more) first second c.args.space c.args.most block made) (sym c.in-Counting.is) (record {
       within = record {
         first = omega (arith, fewer, small, flags_within first bs c.flags-flags.ensures);

@@ -8,7 +8,9 @@ use Rattle.flow_folds.proofs.ReduceBlocks.{last_flag}
 use Rattle.flow_folds.proofs.reduce.Reduce.pass_sum.Goals as goal
 
 pub returns-then-flags-passed-clause-stage : goal.returns-then-flags-passed-clause-stage
-returns-then-flags-passed-clause-stage c = sym (last_flag c.args.self.now.stage c.args.total c.args.flags.now c.args.passed true (omega (arith, c.if-passed-eq0.false)) c.requires c.if-flags-passed.true)
+returns-then-flags-passed-clause-stage c =
+    sym (last_flag c.args.self.now.stage c.args.total c.args.flags.now c.args.passed true (omega (arith, c.if-passed-eq0.false)) c.requires
+    c.if-flags-passed.true)
 
 pub returns-clause-stage : goal.returns-clause-stage
 returns-clause-stage c =

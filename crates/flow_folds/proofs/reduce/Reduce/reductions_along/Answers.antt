@@ -57,5 +57,6 @@ returns-in_default c =
       elements = omega (arith, inv.elements, took.ensures.elements, length_rest c.args.elements.now loop.read);
       most = inv.most;
       kind = inv.kind;
-      along = elements_more p c.args.self.now.stage loop.stage took.result.1 c.args.flags.now c.args.elements.now loop.values loop.passed loop.read took.result.0 loop.ended inv.along took.ensures.along;
+      along = elements_more p c.args.self.now.stage loop.stage took.result.1 c.args.flags.now c.args.elements.now loop.values loop.passed loop.read
+          took.result.0 loop.ended inv.along took.ensures.along;
     }

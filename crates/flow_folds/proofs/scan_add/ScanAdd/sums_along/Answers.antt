@@ -23,7 +23,9 @@ loop-place-preserved-then-flags-place c =
       fewer = omega (arith, inv.fewer);
       shown = inv.shown;
       held = refl;
-      along = subst (λ l. SumsAlong d c.args.self.now.stage l xs sums Start) (sym flags) (end_more d c.args.self.now.stage loop.stage (take loop.place bs) xs sums inv.along (awaits d loop.stage (to_z w128 loop.before-bits) (to_z w128 loop.last-bits) inv.held));
+      along = subst (λ l. SumsAlong d c.args.self.now.stage l xs sums Start) (sym flags)
+          (end_more d c.args.self.now.stage loop.stage (take loop.place bs) xs sums inv.along
+          (awaits d loop.stage (to_z w128 loop.before-bits) (to_z w128 loop.last-bits) inv.held));
     }
 
 -- and one with its element
@@ -51,7 +53,8 @@ loop-place-preserved c =
     let sum = to_z w64 (of_z w64 narrow) in
     let sums = take_more_set loop.sums read sum (omega arith) in
     let is = sym c.in-Ok.ensures ∙ ap Ok (sym sum_is) in
-    let more = element_more d s loop.stage (take place bs) (take read xs) (take read loop.sums) x sum inv.along (next_sum d loop.stage (to_z w128 loop.before-bits) (to_z w128 loop.last-bits) sum inv.held is) in
+    let more = element_more d s loop.stage (take place bs) (take read xs) (take read loop.sums) x sum inv.along
+    (next_sum d loop.stage (to_z w128 loop.before-bits) (to_z w128 loop.last-bits) sum inv.held is) in
     let in_sums = subst (λ l. SumsAlong d s (take place bs ++ false ∷ []) (take read xs ++ x ∷ []) l (Flag sum x)) (sym sums) more in
     let in_elements = subst (λ l. SumsAlong d s (take place bs ++ false ∷ []) l (take (read + 1) (set loop.sums read sum)) (Flag sum x)) (sym elements) in_sums in
     let in_flags = subst (λ l. SumsAlong d s l (take (read + 1) xs) (take (read + 1) (set loop.sums read sum)) (Flag sum x)) (sym flags) in_elements in

@@ -47,5 +47,7 @@ returns c =
         ints = omega (arith, along.ensures.fewer, fewer, c.min.ensures, c.min-ahead.ensures);
         steps = omega (arith, along.ensures.fewer, fewer, c.min.ensures, c.min-ahead.ensures);
       };
-      ran = single_ran m d (flag_signals (take n bs)) (int_signals (take k xs)) (int_signals sums) (sums_steps d s along.result.2 (take n bs) (take k xs) sums is) first second block made refl (flags_shown first bs n c.flags-flags.ensures in_flags) (ints_shown second xs k c.ints-elements.ensures along.ensures.elements) refl steps;
+      ran = single_ran m d (flag_signals (take n bs)) (int_signals (take k xs)) (int_signals sums)
+          (sums_steps d s along.result.2 (take n bs) (take k xs) sums is) first second block made refl
+          (flags_shown first bs n c.flags-flags.ensures in_flags) (ints_shown second xs k c.ints-elements.ensures along.ensures.elements) refl steps;
     }

@@ -62,5 +62,7 @@ returns-then-count-eq0-clause-went g c = λ ins.
     let scan = c.scan_ints-count in
     let there : 0 < length outs = omega (arith, c.requires.one) in
     let none : scan.result ≡ 0 = c.if-count-eq0.true in
-    let same : text_source_state c.loop-made.self ≡ text_source_state scan.new.self = subst (λ k. Sends (text_source_state c.loop-made.self) (int_signals (take k scan.new.ints)) (text_source_state scan.new.self)) none scan.ensures.sends in
+    let same : text_source_state c.loop-made.self ≡ text_source_state scan.new.self =
+    subst (λ k. Sends (text_source_state c.loop-made.self) (int_signals (take k scan.new.ints)) (text_source_state scan.new.self)) none
+    scan.ensures.sends in
     went_nowhere ins outs (c.loop-made.invariant.went ins) there c.space.ensures.looked (text_source_state scan.new.self) same

@@ -11,7 +11,11 @@ pub returns-then-not-has_room-clause-closed : goal.returns-then-not-has_room-cla
 returns-then-not-has_room-clause-closed c =
     let s = c.has_room-has_room.new.self in
     let seen = ap (λ ms. ended (signals ms)) (sym c.has_room-has_room.ensures.put) ∙ closed_seen (sent s.edge) s.gathered.items s.closed ∙ sym c.is_closed-then-not-has_room.ensures in
-    elim c.if-is_closed-2.branch [ then-is_closed-2 w ↦ (λ _. seen ∙ w.if-is_closed-2.true, λ _. w.why-is) | else-is_closed-2 w ↦ (λ closed. absurd (let no = w.why-is in cc), λ over. absurd (let no = w.if-is_closed-2.false in cc)) ]
+    elim c.if-is_closed-2.branch [
+      | then-is_closed-2 w ↦ (λ _. seen ∙ w.if-is_closed-2.true, λ _. w.why-is)
+      | else-is_closed-2 w ↦
+          (λ closed. absurd (let no = w.why-is in cc), λ over. absurd (let no = w.if-is_closed-2.false in cc))
+    ]
 
 pub returns-then-gathers-clause-closed : goal.returns-then-gathers-clause-closed
 returns-then-gathers-clause-closed c =
@@ -29,7 +33,9 @@ invariant_of-self-2 c =
     let some = c.has_room-has_room.ensures.value.0 c.if-not-has_room.false in
     let room : 0 < certain_room edge = omega (arith, some, alone.2, s.sure) in
     let put = ok_holds c.put.result (c.put.ensures.succeeds c.gathers.ensures.open room) c.put.ensures.ok in
-    let longer : length (sent c.put.new.self) ≡ length (sent s.edge) + gathered + 1 = ap length put.0 ∙ length-append (sent edge) (c.args.message ∷ []) ∙ ap (λ n. n + 1) (ap length alone.1 ∙ length-append (sent s.edge) (many_messages s.gathered.items)) in
+    let longer : length (sent c.put.new.self) ≡ length (sent s.edge) + gathered + 1 = ap length put.0
+    ∙ length-append (sent edge) (c.args.message ∷ [])
+    ∙ ap (λ n. n + 1) (ap length alone.1 ∙ length-append (sent s.edge) (many_messages s.gathered.items)) in
     record {
       kind = c.gathers.ensures.kind ∙ s.kind ∙ sym (ap (λ of. of.0) (c.put.ensures.same.0 ∙ c.gathers.ensures.same.0));
       sure = omega (arith, some, none, put.1, alone.2, s.sure);

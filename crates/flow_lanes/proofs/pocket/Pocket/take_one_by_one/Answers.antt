@@ -13,7 +13,9 @@ loop-preserved c =
     let inv = c.loop.invariant in
     let now = c.take.ensures in
     let old = c.args.self.now in
-    let more = drained (taken_from old) (taken_from c.loop.self) (taken_from c.take.new.self) (held_in old) (held_in c.loop.self) (held_in c.take.new.self) c.loop.counter c.take.result (omega (arith, c.loop-test.true, c.requires)) inv.taken inv.ahead now.some now.succeeds in
+    let more = drained (taken_from old) (taken_from c.loop.self) (taken_from c.take.new.self) (held_in old) (held_in c.loop.self)
+    (held_in c.take.new.self) c.loop.counter c.take.result (omega (arith, c.loop-test.true, c.requires)) inv.taken inv.ahead now.some now.succeeds
+    in
     record { edge = now.edge ∙ inv.edge; back = (now.back.0 ∙ inv.back.0, now.back.1 ∙ inv.back.1); places = now.places ∙ inv.places; taken = more.0; ahead = more.1 }
 
 pub returns-clause-edge : goal.returns-clause-edge

@@ -14,7 +14,8 @@ returns-clause-kept c =
     let m = c.meet_lane.ensures in
     let ws' = set ws e (Some c.meet_lane.new.writer) in
     kept-trans (view_of_rings ws rs) (view_of_rings ws' rs) _
-    (kept-room _ _ e (writer-looked ws rs e _ c.in-Some-Some.writer c.meet_lane.new.writer (joins-writer ws e _ c.requires) c.index_mut.ensures.value c.in-Some-Some.is-0 m.writer.0 m.writer.1 m.looked.0))
+    (kept-room _ _ e (writer-looked ws rs e _ c.in-Some-Some.writer c.meet_lane.new.writer (joins-writer ws e _ c.requires) c.index_mut.ensures.value
+    c.in-Some-Some.is-0 m.writer.0 m.writer.1 m.looked.0))
     (kept-messages _ _ e (reader-looked ws' rs e _ c.in-Some-Some.reader c.meet_lane.new.reader (joins-reader _ rs e c.requires) c.index_mut-2.ensures.value c.in-Some-Some.is-1 m.reader.1 m.looked.1))
 
 pub returns-clause-met : goal.returns-clause-met
@@ -22,7 +23,8 @@ returns-clause-met c =
     let ws = c.args.self.now.writers.items in
     let rs = c.args.self.now.readers.items in
     let m = c.meet_lane.ensures in
-    met_here ws rs _ _ c.args.edge c.meet_lane.new.writer c.meet_lane.new.reader c.meet_lane.result (joins-writer ws c.args.edge _ c.requires) (joins-reader _ rs c.args.edge c.requires) refl refl m.fifo m.count m.room m.whole m.out
+    met_here ws rs _ _ c.args.edge c.meet_lane.new.writer c.meet_lane.new.reader c.meet_lane.result (joins-writer ws c.args.edge _ c.requires)
+    (joins-reader _ rs c.args.edge c.requires) refl refl m.fifo m.count m.room m.whole m.out
 
 pub returns-clause-same : goal.returns-clause-same
 returns-clause-same c =

@@ -7,4 +7,6 @@ pub returns : goal.returns
 returns c =
     let rs = c.args.self.now.readers.items in
     let r = c.in-Some.reader in
-    if_some _ _ c.front.result (λ m first. reader-front c.args.self.now.writers.items rs c.args.edge _ r r (at_line-there reads_of rs c.args.edge c.requires) c.index.ensures c.in-Some.is m.now first) c.front.ensures
+    if_some _ _ c.front.result
+    (λ m first. reader-front c.args.self.now.writers.items rs c.args.edge _ r r (at_line-there reads_of rs c.args.edge c.requires) c.index.ensures
+    c.in-Some.is m.now first) c.front.ensures

@@ -12,22 +12,35 @@ pub put-requires : goal.put-requires
 put-requires c =
     let ws = c.args.self.now.writers.items in
     let w = c.in-Some.writer in
-    record { fits = subst (λ of. FitsEdge of (signal_of c.args.message)) (had_kind ws c.args.self.now.readers.items c.args.edge _ w w (at_line-there writes_of ws c.args.edge c.requires.writes) c.index_mut.ensures.value c.in-Some.is (same_writer_refl w)) c.requires.fits }
+    record {
+      fits = subst (λ of. FitsEdge of (signal_of c.args.message))
+          (had_kind ws c.args.self.now.readers.items c.args.edge _ w w (at_line-there writes_of ws c.args.edge c.requires.writes)
+          c.index_mut.ensures.value c.in-Some.is (same_writer_refl w)) c.requires.fits;
+    }
 
 pub returns-clause-ok : goal.returns-clause-ok
 returns-clause-ok c =
     let ws = c.args.self.now.writers.items in
-    on_ok c.put.result (λ p. writer-put ws c.args.self.now.readers.items c.args.edge _ c.in-Some.writer _ (at_line-there writes_of ws c.args.edge c.requires.writes) c.index_mut.ensures.value c.in-Some.is c.put.ensures.same c.args.message p.0 p.1) c.put.ensures.ok
+    on_ok c.put.result (λ p. writer-put ws c.args.self.now.readers.items c.args.edge _ c.in-Some.writer _
+    (at_line-there writes_of ws c.args.edge c.requires.writes) c.index_mut.ensures.value c.in-Some.is c.put.ensures.same c.args.message p.0 p.1)
+    c.put.ensures.ok
 
 pub returns-clause-refused : goal.returns-clause-refused
 returns-clause-refused c =
     let ws = c.args.self.now.writers.items in
-    if_err _ _ c.put.result (λ e p. (p.0, writer-looked ws c.args.self.now.readers.items c.args.edge _ c.in-Some.writer _ (at_line-there writes_of ws c.args.edge c.requires.writes) c.index_mut.ensures.value c.in-Some.is c.put.ensures.same p.1 p.2)) c.put.ensures.refused
+    if_err _ _ c.put.result
+    (λ e p. (
+      p.0,
+      writer-looked ws c.args.self.now.readers.items c.args.edge _ c.in-Some.writer _
+          (at_line-there writes_of ws c.args.edge c.requires.writes) c.index_mut.ensures.value c.in-Some.is c.put.ensures.same p.1 p.2,
+    ))
+    c.put.ensures.refused
 
 pub returns-clause-full : goal.returns-clause-full
 returns-clause-full c =
     let ws = c.args.self.now.writers.items in
-    λ full. writer-room ws c.args.self.now.readers.items c.args.edge _ c.in-Some.writer c.put.new.self (at_line-there writes_of ws c.args.edge c.requires.writes) c.index_mut.ensures.value c.in-Some.is c.put.ensures.same ∙ c.put.ensures.full full
+    λ full. writer-room ws c.args.self.now.readers.items c.args.edge _ c.in-Some.writer c.put.new.self
+    (at_line-there writes_of ws c.args.edge c.requires.writes) c.index_mut.ensures.value c.in-Some.is c.put.ensures.same ∙ c.put.ensures.full full
 
 pub returns-clause-same : goal.returns-clause-same
 returns-clause-same c =
@@ -38,5 +51,6 @@ pub returns-clause-closed : goal.returns-clause-closed
 returns-clause-closed c =
     let s = c.args.self.now in
     let ws = s.writers.items in
-    let sent = had_sent ws s.readers.items c.args.edge _ c.in-Some.writer c.put.new.self (at_line-there writes_of ws c.args.edge c.requires.writes) c.index_mut.ensures.value c.in-Some.is c.put.ensures.same in
+    let sent = had_sent ws s.readers.items c.args.edge _ c.in-Some.writer c.put.new.self (at_line-there writes_of ws c.args.edge c.requires.writes)
+    c.index_mut.ensures.value c.in-Some.is c.put.ensures.same in
     (λ no. ap (λ (l : List Signal). ended l) sent ∙ c.put.ensures.closed.0 no, λ over. c.put.ensures.closed.1 (sym (ap (λ (l : List Signal). ended l) sent) ∙ over))

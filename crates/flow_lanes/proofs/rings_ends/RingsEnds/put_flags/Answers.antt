@@ -40,9 +40,12 @@ returns-clause-put c =
     let h = at_line-there writes_of ws e c.requires.writes in
     let now = c.put_flags.ensures in
     let ms = flag_messages c.args.flags.now in
-    subst (λ (l : List Signal). PutAll (view_of_rings ws rs) e l (view_of_rings (set ws e (Some v)) rs)) (signals-block BoolItem c.args.flags.now) (writer-put_all ws rs e _ w v h c.index_mut.ensures.value c.in-Some.is now.same ms now.put (omega (arith, now.room, length-map c.args.flags.now (λ b. ItemMsg (BoolItem b)))))
+    subst (λ (l : List Signal). PutAll (view_of_rings ws rs) e l (view_of_rings (set ws e (Some v)) rs)) (signals-block BoolItem c.args.flags.now)
+    (writer-put_all ws rs e _ w v h c.index_mut.ensures.value c.in-Some.is now.same ms now.put
+    (omega (arith, now.room, length-map c.args.flags.now (λ b. ItemMsg (BoolItem b)))))
 
 pub returns-clause-same : goal.returns-clause-same
 returns-clause-same c =
     let ws = c.args.self.now.writers.items in
-    same_writers _ _ c.args.edge _ _ c.in-Some.writer c.put_flags.new.self c.index_mut.ensures.value c.in-Some.is (at_line-there writes_of ws c.args.edge c.requires.writes) c.put_flags.ensures.same refl refl
+    same_writers _ _ c.args.edge _ _ c.in-Some.writer c.put_flags.new.self c.index_mut.ensures.value c.in-Some.is
+    (at_line-there writes_of ws c.args.edge c.requires.writes) c.put_flags.ensures.same refl refl

@@ -40,9 +40,12 @@ returns-clause-put c =
     let h = at_line-there writes_of ws e c.requires.writes in
     let now = c.put_units.ensures in
     let ms = unit_messages c.args.count in
-    subst (λ (l : List Signal). PutAll (view_of_rings ws rs) e l (view_of_rings (set ws e (Some v)) rs)) (signals-units UnitItem c.args.count) (writer-put_all ws rs e _ w v h c.index_mut.ensures.value c.in-Some.is now.same ms now.put (omega (arith, now.room, length-replicate c.args.count (ItemMsg UnitItem))))
+    subst (λ (l : List Signal). PutAll (view_of_rings ws rs) e l (view_of_rings (set ws e (Some v)) rs)) (signals-units UnitItem c.args.count)
+    (writer-put_all ws rs e _ w v h c.index_mut.ensures.value c.in-Some.is now.same ms now.put
+    (omega (arith, now.room, length-replicate c.args.count (ItemMsg UnitItem))))
 
 pub returns-clause-same : goal.returns-clause-same
 returns-clause-same c =
     let ws = c.args.self.now.writers.items in
-    same_writers _ _ c.args.edge _ _ c.in-Some.writer c.put_units.new.self c.index_mut.ensures.value c.in-Some.is (at_line-there writes_of ws c.args.edge c.requires.writes) c.put_units.ensures.same refl refl
+    same_writers _ _ c.args.edge _ _ c.in-Some.writer c.put_units.new.self c.index_mut.ensures.value c.in-Some.is
+    (at_line-there writes_of ws c.args.edge c.requires.writes) c.put_units.ensures.same refl refl

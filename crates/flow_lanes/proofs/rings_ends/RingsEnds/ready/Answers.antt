@@ -13,7 +13,8 @@ returns-clause-looked c =
 pub returns-clause-value : goal.returns-clause-value
 returns-clause-value c =
     let rs = c.args.self.now.readers.items in
-    rw (reader-held c.args.self.now.writers.items rs c.args.edge _ c.in-Some.reader c.ready.new.self (at_line-there reads_of rs c.args.edge c.requires) c.index_mut.ensures.value c.in-Some.is) c.ready.ensures.value
+    rw (reader-held c.args.self.now.writers.items rs c.args.edge _ c.in-Some.reader c.ready.new.self
+    (at_line-there reads_of rs c.args.edge c.requires) c.index_mut.ensures.value c.in-Some.is) c.ready.ensures.value
 
 pub returns-clause-same : goal.returns-clause-same
 returns-clause-same c =

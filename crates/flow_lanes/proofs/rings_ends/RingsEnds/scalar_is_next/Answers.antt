@@ -14,9 +14,13 @@ returns-clause-looked c =
 pub returns-clause-value : goal.returns-clause-value
 returns-clause-value c =
     let rs = c.args.self.now.readers.items in
-    c.scalar_is_next.ensures.value ∙ sym (ap scalar_first (now_coming c.args.self.now.writers.items rs c.args.edge _ c.in-Some.reader c.scalar_is_next.new.self (at_line-there reads_of rs c.args.edge c.requires) c.index_mut.ensures.value c.in-Some.is))
+    c.scalar_is_next.ensures.value
+    ∙ sym (ap scalar_first
+    (now_coming c.args.self.now.writers.items rs c.args.edge _ c.in-Some.reader c.scalar_is_next.new.self
+    (at_line-there reads_of rs c.args.edge c.requires) c.index_mut.ensures.value c.in-Some.is))
 
 pub returns-clause-same : goal.returns-clause-same
 returns-clause-same c =
     let rs = c.args.self.now.readers.items in
-    same_readers _ _ c.args.edge _ _ c.in-Some.reader c.scalar_is_next.new.self c.index_mut.ensures.value c.in-Some.is (at_line-there reads_of rs c.args.edge c.requires) c.scalar_is_next.ensures.same refl refl
+    same_readers _ _ c.args.edge _ _ c.in-Some.reader c.scalar_is_next.new.self c.index_mut.ensures.value c.in-Some.is
+    (at_line-there reads_of rs c.args.edge c.requires) c.scalar_is_next.ensures.same refl refl

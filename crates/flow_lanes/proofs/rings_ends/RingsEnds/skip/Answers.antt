@@ -26,7 +26,9 @@ returns-clause-taken c =
     let v = c.skip.new.self in
     let h = at_line-there reads_of rs e c.requires.reads in
     let said = signals-take c.args.count (certain_held r) ∙ ap (take c.args.count) (sym (had_coming ws rs e _ r r h c.index_mut.ensures.value c.in-Some.is)) in
-    subst (λ (l : List Signal). TakenAll (view_of_rings ws rs) e l (view_of_rings ws (set rs e (Some v)))) said (reader-taken_all ws rs e _ r v h c.index_mut.ensures.value c.in-Some.is (take c.args.count (certain_held r)) c.skip.ensures.taken c.skip.ensures.ahead)
+    subst (λ (l : List Signal). TakenAll (view_of_rings ws rs) e l (view_of_rings ws (set rs e (Some v)))) said
+    (reader-taken_all ws rs e _ r v h c.index_mut.ensures.value c.in-Some.is (take c.args.count (certain_held r)) c.skip.ensures.taken
+    c.skip.ensures.ahead)
 
 pub returns-clause-same : goal.returns-clause-same
 returns-clause-same c =

@@ -8,7 +8,9 @@ use Rattle.flow_lanes.proofs.rings_ends.RingsEnds.take.Goals as goal
 pub returns-clause-some : goal.returns-clause-some
 returns-clause-some c =
     let rs = c.args.self.now.readers.items in
-    if_some _ _ c.take.result (λ m p. reader-taken c.args.self.now.writers.items rs c.args.edge _ c.in-Some.reader c.take.new.self (at_line-there reads_of rs c.args.edge c.requires) c.index_mut.ensures.value c.in-Some.is m p.0 p.1) c.take.ensures.some
+    if_some _ _ c.take.result
+    (λ m p. reader-taken c.args.self.now.writers.items rs c.args.edge _ c.in-Some.reader c.take.new.self
+    (at_line-there reads_of rs c.args.edge c.requires) c.index_mut.ensures.value c.in-Some.is m p.0 p.1) c.take.ensures.some
 
 pub returns-clause-none : goal.returns-clause-none
 returns-clause-none c =
@@ -25,7 +27,13 @@ pub returns-clause-succeeds : goal.returns-clause-succeeds
 returns-clause-succeeds c some =
     let ws = c.args.self.now.writers.items in
     let rs = c.args.self.now.readers.items in
-    c.take.ensures.succeeds (omega (arith, some, had_held ws rs c.args.edge _ c.in-Some.reader c.take.new.self (at_line-there reads_of rs c.args.edge c.requires) c.index_mut.ensures.value c.in-Some.is))
+    c.take.ensures.succeeds
+    (omega (
+      arith,
+      some,
+      had_held ws rs c.args.edge _ c.in-Some.reader c.take.new.self (at_line-there reads_of rs c.args.edge c.requires) c.index_mut.ensures.value
+          c.in-Some.is,
+    ))
 
 pub returns-clause-same : goal.returns-clause-same
 returns-clause-same c =

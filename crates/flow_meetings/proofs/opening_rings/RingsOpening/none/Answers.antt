@@ -6,7 +6,8 @@ use Rattle.flow_lanes.specs.Rings.{ends_of, writes_of, reads_of, writer_at, read
 use Rattle.flow_meetings.specs.RingMeetings.{at_line_is}
 use Rattle.flow_meetings.proofs.opening_rings.RingsOpening.none.Goals as goal
 
-none_seen : (r : Result Rings AllocError) → IfOk r (λ rings. (e : ℕ) → (writer_at rings e ≡ None) × (reader_at rings e ≡ None)) → IfOk r (λ rings. (e : ℕ) → ((ends_of rings).writes e ≡ false) × ((ends_of rings).reads e ≡ false))
+none_seen : (r : Result Rings AllocError) → IfOk r (λ rings. (e : ℕ) → (writer_at rings e ≡ None) × (reader_at rings e ≡ None)) →
+    IfOk r (λ rings. (e : ℕ) → ((ends_of rings).writes e ≡ false) × ((ends_of rings).reads e ≡ false))
 none_seen (Err x) free = tt
 none_seen (Ok rings) free = λ e. (at_line_is writes_of rings.writers.items e None ∙ ap writes_of (free e).0, at_line_is reads_of rings.readers.items e None ∙ ap reads_of (free e).1)
 

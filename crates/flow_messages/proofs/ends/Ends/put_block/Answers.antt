@@ -26,7 +26,9 @@ pub put-requires-clause-writes : goal.put-requires-clause-writes
 put-requires-clause-writes g c = c.loop-flat.invariant.put.ends.writes c.args.edge ∙ c.requires.writes
 
 pub put-requires-clause-fits : goal.put-requires-clause-fits
-put-requires-clause-fits g c = fits_still _ _ c.args.edge _ c.loop-flat.invariant.put.ends (fits_at _ _ _ c.loop-flat.flat-index _ _ c.as_slice-flat-items.ensures.value c.requires.fit c.loop-flat-test.true c.message.ensures)
+put-requires-clause-fits g c =
+    fits_still _ _ c.args.edge _ c.loop-flat.invariant.put.ends
+    (fits_at _ _ _ c.loop-flat.flat-index _ _ c.as_slice-flat-items.ensures.value c.requires.fit c.loop-flat-test.true c.message.ensures)
 
 pub returns-then-is_err-clause-same : goal.returns-then-is_err-clause-same
 returns-then-is_err-clause-same g c = g.met.Self.Ends.same_trans c.args.self.now c.loop-flat.self c.put.new.self c.loop-flat.invariant.same c.put.ensures.same
@@ -42,7 +44,8 @@ returns-then-is_err-clause-refused g c =
     let no_end = open_before xs i low c.requires.last in
     let some : 0 < (view c.loop-flat.self).room e = omega (arith, low, inv.room) in
     let no : IsOk c.put.result → ⊥ = search rules in
-    λ is. refused_first (view c.args.self.now) (view c.loop-flat.self) (view c.put.new.self) e _ _ inv.put no_end some c.put.result i no c.put.ensures.refused c.put.ensures.succeeds inv.looked inv.unended
+    λ is. refused_first (view c.args.self.now) (view c.loop-flat.self) (view c.put.new.self) e _ _ inv.put no_end some c.put.result i no
+    c.put.ensures.refused c.put.ensures.succeeds inv.looked inv.unended
 
 pub returns-then-is_err-clause-succeeds : goal.returns-then-is_err-clause-succeeds
 returns-then-is_err-clause-succeeds g c =
@@ -103,4 +106,5 @@ returns-clause-sent g c =
     let inv = c.loop-flat.invariant in
     let all = ap (take i) (sym is) ∙ take_all i _ c.loop-flat-test.false ∙ is in
     let put = subst (λ l. PutAll (view c.args.self.now) c.args.edge (flat_signals l) (view c.loop-flat.self)) all inv.put in
-    λ done. put_is_sent (view c.args.self.now) (view c.loop-flat.self) c.args.edge (flat_signals xs) put (λ some. inv.unended (omega (arith, some, said_length xs, ap length is, c.loop-flat-test.false)))
+    λ done. put_is_sent (view c.args.self.now) (view c.loop-flat.self) c.args.edge (flat_signals xs) put
+    (λ some. inv.unended (omega (arith, some, said_length xs, ap length is, c.loop-flat-test.false)))

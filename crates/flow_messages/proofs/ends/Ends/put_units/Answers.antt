@@ -25,7 +25,8 @@ loop-preserved g c =
     let a = view c.args.self.now in
     let w = view c.put.new.self in
     let short : length (unit_signals i) < a.room c.args.edge = omega (arith, c.loop-test.true, c.requires.certain, length-replicate i (carry unit)) in
-    let next = put_next a (view c.loop.self) w c.args.edge (unit_signals i) (carry unit) _ c.put.result c.loop.invariant.put (units_go_on i) short c.put.ensures.ok c.put.ensures.refused c.put.ensures.closed c.put.ensures.succeeds in
+    let next = put_next a (view c.loop.self) w c.args.edge (unit_signals i) (carry unit) _ c.put.result c.loop.invariant.put (units_go_on i) short
+    c.put.ensures.ok c.put.ensures.refused c.put.ensures.closed c.put.ensures.succeeds in
     record {
       same = g.met.Self.Ends.same_trans c.args.self.now c.loop.self c.put.new.self c.loop.invariant.same c.put.ensures.same;
       put = subst (λ l. PutAll a c.args.edge l w) (replicate_more i (carry unit)) next;

@@ -49,7 +49,13 @@ pub returns-then-not-scalar_is_next-clause-succeeds : goal.returns-then-not-scal
 returns-then-not-scalar_is_next-clause-succeeds g c =
     let view = g.Self.Ends.view in
     let inv = c.loop-taken.invariant in
-    λ first some room. omega (arith, inv.count, some_were_taken (view c.args.self.now) (view c.loop-taken.self) (view c.scalar_is_next.new.self) c.args.edge (drop (array_vec_len c.args.block.now) c.loop-taken.block.items) inv.taken c.scalar_is_next.ensures.looked first c.if-not-scalar_is_next.ensures.value)
+    λ first some room. omega (
+      arith,
+      inv.count,
+      some_were_taken (view c.args.self.now) (view c.loop-taken.self) (view c.scalar_is_next.new.self) c.args.edge
+          (drop (array_vec_len c.args.block.now) c.loop-taken.block.items) inv.taken c.scalar_is_next.ensures.looked first
+          c.if-not-scalar_is_next.ensures.value,
+    )
 
 pub take-requires : goal.take-requires
 take-requires g c = c.scalar_is_next.ensures.looked.ends.reads c.args.edge ∙ c.loop-taken.invariant.taken.ends.reads c.args.edge ∙ c.requires

@@ -8,7 +8,9 @@ pub invariant_of-self-clause-fifo : goal.invariant_of-self-clause-fifo
 invariant_of-self-clause-fifo c =
     let l = c.args.self.now in
     let m = c.args.message in
-    subst (λ k. gone k (content_of c.push.new.self) ++ content_of c.push.new.self ≡ k) (sym c.with-sent.ensures) (subst (λ k. gone (l.sent.items ++ m ∷ []) k ++ k ≡ l.sent.items ++ m ∷ []) (sym c.push.ensures.content) (fifo_put l.sent.items (content_of l.store) l.fifo (m ∷ [])))
+    subst (λ k. gone k (content_of c.push.new.self) ++ content_of c.push.new.self ≡ k) (sym c.with-sent.ensures)
+    (subst (λ k. gone (l.sent.items ++ m ∷ []) k ++ k ≡ l.sent.items ++ m ∷ []) (sym c.push.ensures.content)
+    (fifo_put l.sent.items (content_of l.store) l.fifo (m ∷ [])))
 
 pub invariant_of-self-clause-counts : goal.invariant_of-self-clause-counts
 invariant_of-self-clause-counts c =

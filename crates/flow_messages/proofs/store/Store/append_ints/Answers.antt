@@ -9,4 +9,6 @@ use Rattle.flow_messages.proofs.store.Store.append_ints.Goals as goal
 pub returns-clause-moved : goal.returns-clause-moved
 returns-clause-moved c =
     let block = c.ints-ints.result.now in
-    rw (c.put_ints.ensures.content, c.skip.ensures.content) (moved_on (content_of c.args.self.now) (int_messages block) (content_of c.args.other.now) _ c.ints-ints.ensures (length-map block (λ x. ItemMsg (IntItem x))))
+    rw (c.put_ints.ensures.content, c.skip.ensures.content)
+    (moved_on (content_of c.args.self.now) (int_messages block) (content_of c.args.other.now) _ c.ints-ints.ensures
+    (length-map block (λ x. ItemMsg (IntItem x))))

@@ -61,7 +61,12 @@ invariant_of-self-in-Item-Bool-clause-counts c =
     let flags = run_items s.flags in
     let ints = run_items s.ints in
     let queue = s.queue.items in
-    omega (arith, length-content s.units flags ints queue, length-content s.units (run_items c.put-in-Item-Bool.new.self) ints queue, simp length-append at (ap length c.put-in-Item-Bool.ensures.items))
+    omega (
+      arith,
+      length-content s.units flags ints queue,
+      length-content s.units (run_items c.put-in-Item-Bool.new.self) ints queue,
+      simp length-append at (ap length c.put-in-Item-Bool.ensures.items),
+    )
 
 pub returns-in-Item-Bool-clause-content : goal.returns-in-Item-Bool-clause-content
 returns-in-Item-Bool-clause-content c =

@@ -48,7 +48,13 @@ invariant_of-self-2-clause-counts c =
     let flags = run_items s.flags in
     let ints = run_items s.ints in
     let queue = s.queue.items in
-    omega (arith, length-content s.units flags ints queue, length-content s.units flags ints c.queue_flags.new.queue.items, simp length-append at (ap length c.queue_flags.ensures.items), length-map c.args.flags.now (λ x. ItemMsg (BoolItem x)))
+    omega (
+      arith,
+      length-content s.units flags ints queue,
+      length-content s.units flags ints c.queue_flags.new.queue.items,
+      simp length-append at (ap length c.queue_flags.ensures.items),
+      length-map c.args.flags.now (λ x. ItemMsg (BoolItem x)),
+    )
 
 pub returns-clause-content : goal.returns-clause-content
 returns-clause-content c =

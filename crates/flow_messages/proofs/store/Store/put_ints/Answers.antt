@@ -47,7 +47,13 @@ invariant_of-self-2-clause-counts c =
     let flags = run_items s.flags in
     let ints = run_items s.ints in
     let queue = s.queue.items in
-    omega (arith, length-content s.units flags ints queue, length-content s.units flags ints c.queue_ints.new.queue.items, simp length-append at (ap length c.queue_ints.ensures.items), length-map c.args.ints.now (λ x. ItemMsg (IntItem x)))
+    omega (
+      arith,
+      length-content s.units flags ints queue,
+      length-content s.units flags ints c.queue_ints.new.queue.items,
+      simp length-append at (ap length c.queue_ints.ensures.items),
+      length-map c.args.ints.now (λ x. ItemMsg (IntItem x)),
+    )
 
 pub returns-clause-content : goal.returns-clause-content
 returns-clause-content c =

@@ -36,7 +36,12 @@ invariant_of-self-2-clause-counts c =
     let flags = run_items s.flags in
     let ints = run_items s.ints in
     let queue = s.queue.items in
-    omega (arith, length-content s.units flags ints queue, length-content s.units flags ints c.queue_units.new.queue.items, simp (length-append, length-replicate) at (ap length c.queue_units.ensures.items))
+    omega (
+      arith,
+      length-content s.units flags ints queue,
+      length-content s.units flags ints c.queue_units.new.queue.items,
+      simp (length-append, length-replicate) at (ap length c.queue_units.ensures.items),
+    )
 
 pub returns-clause-content : goal.returns-clause-content
 returns-clause-content c =

@@ -21,4 +21,5 @@ pub returns-in-None : goal.returns-in-None
 returns-in-None c =
     let s = c.args.self.now in
     let q = s.queue.items in
-    none_first q c.front.result (λ h. omega (arith, c.front.ensures.variant.0 h), λ h. c.front.ensures.variant.1 (omega (arith, h))) c.in-None.is ∙ sym (ap (λ l. scalar_first (signals l)) (queue_begins s.units (run_items s.flags) (run_items s.ints) q (omega arith)))
+    none_first q c.front.result (λ h. omega (arith, c.front.ensures.variant.0 h), λ h. c.front.ensures.variant.1 (omega (arith, h))) c.in-None.is
+    ∙ sym (ap (λ l. scalar_first (signals l)) (queue_begins s.units (run_items s.flags) (run_items s.ints) q (omega arith)))

@@ -125,4 +125,12 @@ invariant_of-self-then-count-len-2-clause-counts c =
     let ints = run_items s.ints in
     let queue = s.queue.items in
     let left = run_items c.skip-then-count-len-2.new.self in
-    omega (arith, length-content s.units flags ints queue, length-content s.units flags left queue, ap length c.skip-then-count-len-2.ensures.items, length-drop c.args.count ints, c.if-count-len-2.true, c.len-then-is_empty.ensures)
+    omega (
+      arith,
+      length-content s.units flags ints queue,
+      length-content s.units flags left queue,
+      ap length c.skip-then-count-len-2.ensures.items,
+      length-drop c.args.count ints,
+      c.if-count-len-2.true,
+      c.len-then-is_empty.ensures,
+    )

@@ -10,11 +10,13 @@ use Rattle.flow_messages.proofs.Tables.{at_line-snoc, all-snoc}
 use Rattle.flow_messages.proofs.table.Table.new.Goals as goal
 
 -- the lines of the invariant, with one line more
-even_with : (capacity : ℕ) (before after : List Line) (line : Line) → after ≡ before ++ line ∷ [] → All (λ l. l.store.capacity ≡ capacity) before → line.store.capacity ≡ capacity → All (λ l. l.store.capacity ≡ capacity) after
+even_with : (capacity : ℕ) (before after : List Line) (line : Line) → after ≡ before ++ line ∷ [] → All (λ l. l.store.capacity ≡ capacity) before →
+    line.store.capacity ≡ capacity → All (λ l. l.store.capacity ≡ capacity) after
 even_with capacity before after line is all here =
     subst (All (λ (l : Line). l.store.capacity ≡ capacity)) (sym is) (all-snoc (λ (l : Line). l.store.capacity ≡ capacity) before line all here)
 
-nothing_with : (f : Line → List Signal) (before after : List Line) (line : Line) → after ≡ before ++ line ∷ [] → ((e : ℕ) → at_line f before e [] ≡ []) → f line ≡ [] → (e : ℕ) → at_line f after e [] ≡ []
+nothing_with : (f : Line → List Signal) (before after : List Line) (line : Line) → after ≡ before ++ line ∷ [] →
+    ((e : ℕ) → at_line f before e [] ≡ []) → f line ≡ [] → (e : ℕ) → at_line f after e [] ≡ []
 nothing_with f before after line is all here e =
     ap (λ (ls : List Line). at_line f ls e []) is ∙ at_line-snoc f before line [] all here e
 
@@ -26,6 +28,7 @@ loop-preserved c =
     record {
       count = omega (arith, ap length is, length-append c.loop.lines.items (line ∷ []));
       sent = nothing_with (λ l. signals l.sent.items) _ _ line is c.loop.invariant.sent (ap signals fresh.0 ∙ signals-nil);
-      received = nothing_with (λ l. signals (gone l.sent.items (content_of l.store))) _ _ line is c.loop.invariant.received (ap (λ s. signals (gone s (content_of line.store))) fresh.0 ∙ ap (λ h. signals (gone [] h)) fresh.1 ∙ signals-nil);
+      received = nothing_with (λ l. signals (gone l.sent.items (content_of l.store))) _ _ line is c.loop.invariant.received
+          (ap (λ s. signals (gone s (content_of line.store))) fresh.0 ∙ ap (λ h. signals (gone [] h)) fresh.1 ∙ signals-nil);
       even = even_with c.args.capacity _ _ line is c.loop.invariant.even fresh.2;
     }

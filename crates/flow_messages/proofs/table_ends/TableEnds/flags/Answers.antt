@@ -12,4 +12,5 @@ pub returns : goal.returns
 returns c =
     let ls = c.args.self.now.lines.items in
     let h : c.args.edge < length ls = omega (arith, ltb-true) in
-    subst (λ l. IsPrefix l ((view_of_lines ls).coming c.args.edge)) (signals-block BoolItem c.flags.result.now) (line-begins ls c.args.edge c.index.result.now h c.index.ensures (flag_messages c.flags.result.now) c.flags.ensures)
+    subst (λ l. IsPrefix l ((view_of_lines ls).coming c.args.edge)) (signals-block BoolItem c.flags.result.now)
+    (line-begins ls c.args.edge c.index.result.now h c.index.ensures (flag_messages c.flags.result.now) c.flags.ensures)

@@ -12,4 +12,6 @@ pub returns : goal.returns
 returns c =
     let ls = c.args.self.now.lines.items in
     let h : c.args.edge < length ls = omega (arith, ltb-true) in
-    if_some _ _ c.front.result (λ m begins. subst (λ l. IsPrefix l ((view_of_lines ls).coming c.args.edge)) (signals-cons m.now [] ∙ ap (λ l. signal_of m.now ∷ l) signals-nil) (line-begins ls c.args.edge c.index.result.now h c.index.ensures (m.now ∷ []) begins)) c.front.ensures
+    if_some _ _ c.front.result
+    (λ m begins. subst (λ l. IsPrefix l ((view_of_lines ls).coming c.args.edge)) (signals-cons m.now [] ∙ ap (λ l. signal_of m.now ∷ l) signals-nil)
+    (line-begins ls c.args.edge c.index.result.now h c.index.ensures (m.now ∷ []) begins)) c.front.ensures

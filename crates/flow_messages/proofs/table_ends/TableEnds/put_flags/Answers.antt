@@ -21,4 +21,6 @@ returns-clause-put c =
     let h : c.args.edge < length ls = omega (arith, ltb-true) in
     let new = c.put_flags.new.self in
     let block = flag_messages c.args.flags.now in
-    subst (λ l. PutAll (view_of_lines ls) c.args.edge l (view_of_lines (set ls c.args.edge new))) (signals-block BoolItem c.args.flags.now) (line-put_block ls c.args.edge _ new h c.index_mut.ensures.value block c.put_flags.ensures.sent c.put_flags.ensures.held c.put_flags.ensures.capacity)
+    subst (λ l. PutAll (view_of_lines ls) c.args.edge l (view_of_lines (set ls c.args.edge new))) (signals-block BoolItem c.args.flags.now)
+    (line-put_block ls c.args.edge _ new h c.index_mut.ensures.value block c.put_flags.ensures.sent c.put_flags.ensures.held
+    c.put_flags.ensures.capacity)

@@ -21,4 +21,6 @@ returns-clause-put c =
     let h : c.args.edge < length ls = omega (arith, ltb-true) in
     let new = c.put_ints.new.self in
     let block = int_messages c.args.ints.now in
-    subst (λ l. PutAll (view_of_lines ls) c.args.edge l (view_of_lines (set ls c.args.edge new))) (signals-block IntItem c.args.ints.now) (line-put_block ls c.args.edge _ new h c.index_mut.ensures.value block c.put_ints.ensures.sent c.put_ints.ensures.held c.put_ints.ensures.capacity)
+    subst (λ l. PutAll (view_of_lines ls) c.args.edge l (view_of_lines (set ls c.args.edge new))) (signals-block IntItem c.args.ints.now)
+    (line-put_block ls c.args.edge _ new h c.index_mut.ensures.value block c.put_ints.ensures.sent c.put_ints.ensures.held
+    c.put_ints.ensures.capacity)

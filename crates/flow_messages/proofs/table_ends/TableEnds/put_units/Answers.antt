@@ -21,4 +21,6 @@ returns-clause-put c =
     let h : c.args.edge < length ls = omega (arith, ltb-true) in
     let new = c.put_units.new.self in
     let block = unit_messages c.args.count in
-    subst (λ l. PutAll (view_of_lines ls) c.args.edge l (view_of_lines (set ls c.args.edge new))) (signals-units UnitItem c.args.count) (line-put_block ls c.args.edge _ new h c.index_mut.ensures.value block c.put_units.ensures.sent c.put_units.ensures.held c.put_units.ensures.capacity)
+    subst (λ l. PutAll (view_of_lines ls) c.args.edge l (view_of_lines (set ls c.args.edge new))) (signals-units UnitItem c.args.count)
+    (line-put_block ls c.args.edge _ new h c.index_mut.ensures.value block c.put_units.ensures.sent c.put_units.ensures.held
+    c.put_units.ensures.capacity)

@@ -19,7 +19,8 @@ takes-requires g c =
     let inside : c.args.node < length nodes = omega (arith, c.requires.inside, length-map nodes placed_state) in
     let low : q < length x.outputs.items = omega (arith, c.loop-port-test.true, c.len-port-end.ensures) in
     let port : q < outputs_at g.T.Transducer.behaviour (states_in nodes) c.args.node = omega (arith, low, outputs_here nodes c.args.node x inside c.index-placed.ensures) in
-    ap view.writes (edge_there nodes c.args.node x inside c.index-placed.ensures graph.edges.items graph.built.joined graph.seated view q c.index.result.now low c.index.ensures) ∙ c.requires.ends.writes q port
+    ap view.writes (edge_there nodes c.args.node x inside c.index-placed.ensures graph.edges.items graph.built.joined graph.seated view q
+    c.index.result.now low c.index.ensures) ∙ c.requires.ends.writes q port
 
 pub returns-then-not-takes : goal.returns-then-not-takes
 returns-then-not-takes g c =
@@ -31,7 +32,8 @@ returns-then-not-takes g c =
     let inside : c.args.node < length nodes = omega (arith, c.requires.inside, length-map nodes placed_state) in
     let low : q < length x.outputs.items = omega (arith, c.loop-port-test.true, c.len-port-end.ensures) in
     let port : q < outputs_at g.T.Transducer.behaviour (states_in nodes) c.args.node = omega (arith, low, outputs_here nodes c.args.node x inside c.index-placed.ensures) in
-    let here = takes_there nodes c.args.node x inside c.index-placed.ensures graph.edges.items graph.built.joined graph.seated view q c.index.result.now c.kind_out.result c.takes.result low c.index.ensures c.kind_out.ensures c.takes.ensures in (
+    let here = takes_there nodes c.args.node x inside c.index-placed.ensures graph.edges.items graph.built.joined graph.seated view q
+    c.index.result.now c.kind_out.result c.takes.result low c.index.ensures c.kind_out.ensures c.takes.ensures in (
       λ t. absurd (cc),
       λ all. absurd (let t = here.1 (all q port) in cc),
     )
@@ -46,8 +48,10 @@ loop-port-preserved g c q before =
     let i = c.loop-port.port in
     let inside : c.args.node < length nodes = omega (arith, c.requires.inside, length-map nodes placed_state) in
     let low : i < length x.outputs.items = omega (arith, c.loop-port-test.true, c.len-port-end.ensures) in
-    let here = takes_there nodes c.args.node x inside c.index-placed.ensures graph.edges.items graph.built.joined graph.seated view i c.index.result.now c.kind_out.result c.takes.result low c.index.ensures c.kind_out.ensures c.takes.ensures in
-    below_more (λ j. TakesKind (view.kind (out_edge graph.edges.items c.args.node j)) (b.kind_out (state_at b (states_in nodes) c.args.node) j)) i (λ j l. c.loop-port.invariant j l) (here.0 (cc)) q before
+    let here = takes_there nodes c.args.node x inside c.index-placed.ensures graph.edges.items graph.built.joined graph.seated view i
+    c.index.result.now c.kind_out.result c.takes.result low c.index.ensures c.kind_out.ensures c.takes.ensures in
+    below_more (λ j. TakesKind (view.kind (out_edge graph.edges.items c.args.node j)) (b.kind_out (state_at b (states_in nodes) c.args.node) j)) i
+    (λ j l. c.loop-port.invariant j l) (here.0 (cc)) q before
 
 pub returns : goal.returns
 returns g c =

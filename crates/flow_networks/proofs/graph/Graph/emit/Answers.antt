@@ -47,7 +47,8 @@ returns-clause-ok g c =
     let nodes = c.args.self.now.nodes.items in
     let x = c.index_mut.result.now in
     let l : c.args.node < length nodes = omega (arith, c.requires.inside, length-map nodes placed_state) in
-    on_ok c.emit.result (λ is. states_set placed_state nodes c.args.node c.emit.new.self _ (is ∙ ap b.process.wrote (state_read placed_state nodes c.args.node x b.sample l c.index_mut.ensures.value))) c.emit.ensures.ok
+    on_ok c.emit.result (λ is. states_set placed_state nodes c.args.node c.emit.new.self _
+    (is ∙ ap b.process.wrote (state_read placed_state nodes c.args.node x b.sample l c.index_mut.ensures.value))) c.emit.ensures.ok
 
 pub returns-clause-err : goal.returns-clause-err
 returns-clause-err g c =

@@ -39,7 +39,9 @@ returns-clause-ok g c =
     let nodes = c.args.self.now.nodes.items in
     let x = c.index_mut.result.now in
     let l : c.args.node < length nodes = omega (arith, c.requires.inside, length-map nodes placed_state) in
-    on_ok c.give.result (λ is. states_set placed_state nodes c.args.node c.give.new.self _ (is ∙ ap (λ s. b.process.read s (signal_of c.args.message)) (state_read placed_state nodes c.args.node x b.sample l c.index_mut.ensures.value))) c.give.ensures.ok
+    on_ok c.give.result (λ is. states_set placed_state nodes c.args.node c.give.new.self _
+    (is ∙ ap (λ s. b.process.read s (signal_of c.args.message)) (state_read placed_state nodes c.args.node x b.sample l c.index_mut.ensures.value)))
+    c.give.ensures.ok
 
 pub returns-clause-err : goal.returns-clause-err
 returns-clause-err g c =

@@ -48,5 +48,6 @@ returns-clause-opened g c all =
     let graph = c.args.self.now in
     let k = c.args.number in
     let s = g.T.Transducer.state c.args.node in
-    let is : states_in (set graph.nodes.items k c.replace.new.self) ≡ set (states_of graph) k s = states_set placed_state graph.nodes.items k c.replace.new.self s (ap g.T.Transducer.state c.replace.ensures.node) in
+    let is : states_in (set graph.nodes.items k c.replace.new.self) ≡ set (states_of graph) k s =
+    states_set placed_state graph.nodes.items k c.replace.new.self s (ap g.T.Transducer.state c.replace.ensures.node) in
     subst (AreOpened b) (sym is) (opened_replaced b (states_of graph) k s c.requires all)

@@ -60,10 +60,13 @@ returns-clause-visits g c =
     let ends = c.args.ends.now in
     let ends' = c.run.new.ends in
     let capacity = g.E.WholeEnds.capacity ends in
-    let whole' : IsWhole capacity (g.E.Ends.view ends') = subst (λ n. IsWhole n (g.E.Ends.view ends')) (g.met.E.WholeEnds.same_capacity ends ends' c.run.ensures.same) (g.met.E.WholeEnds.whole ends') in
+    let whole' : IsWhole capacity (g.E.Ends.view ends') =
+    subst (λ n. IsWhole n (g.E.Ends.view ends')) (g.met.E.WholeEnds.same_capacity ends ends' c.run.ensures.same) (g.met.E.WholeEnds.whole ends') in
     let l : c.args.node < length nodes = omega (arith, c.requires.inside, length-map nodes placed_state) in
     if_ok_if _ _ c.run.result
-    (λ any visited. node_visits g.met.T.Transducer.laws nodes graph.edges.items graph.built graph.seated c.args.node x l c.index_mut.ensures.value y c.run.ensures.place capacity (g.E.Ends.view ends) (g.E.Ends.view ends') (g.met.E.WholeEnds.whole ends) whole' c.run.ensures.ends c.requires.ends any visited)
+    (λ any visited. node_visits g.met.T.Transducer.laws nodes graph.edges.items graph.built graph.seated c.args.node x l c.index_mut.ensures.value y
+    c.run.ensures.place capacity (g.E.Ends.view ends) (g.E.Ends.view ends') (g.met.E.WholeEnds.whole ends) whole' c.run.ensures.ends c.requires.ends
+    any visited)
     c.run.ensures.visited
 
 pub returns-clause-broke : goal.returns-clause-broke
@@ -74,5 +77,6 @@ returns-clause-broke g c =
     let y = c.run.new.self in
     let l : c.args.node < length nodes = omega (arith, c.requires.inside, length-map nodes placed_state) in
     on_err c.run.result
-    (λ broke. node_broke g.met.T.Transducer.laws nodes graph.edges.items graph.built graph.seated c.args.node x l c.index_mut.ensures.value y c.run.ensures.place (g.E.Ends.view c.args.ends.now) (g.E.Ends.view c.run.new.ends) broke)
+    (λ broke. node_broke g.met.T.Transducer.laws nodes graph.edges.items graph.built graph.seated c.args.node x l c.index_mut.ensures.value y
+    c.run.ensures.place (g.E.Ends.view c.args.ends.now) (g.E.Ends.view c.run.new.ends) broke)
     c.run.ensures.broke

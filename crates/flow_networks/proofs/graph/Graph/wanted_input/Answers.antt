@@ -12,7 +12,13 @@ index-requires-2 g c =
     let nodes = c.args.self.now.nodes.items in
     let x = c.index.result.now in
     let l : c.args.node < length nodes = omega (arith, c.requires.inside, length-map nodes placed_state) in
-    omega (arith, wants_input b g.met.T.Transducer.laws (placed_state x) c.args.port (ap b.process.want (state_here nodes c.args.node x l c.index.ensures) ∙ c.requires.wants) x.reached, x.each_input, x.inputs.ok.0)
+    omega (
+      arith,
+      wants_input b g.met.T.Transducer.laws (placed_state x) c.args.port
+          (ap b.process.want (state_here nodes c.args.node x l c.index.ensures) ∙ c.requires.wants) x.reached,
+      x.each_input,
+      x.inputs.ok.0,
+    )
 
 pub returns-clause-port : goal.returns-clause-port
 returns-clause-port g c =
@@ -20,7 +26,13 @@ returns-clause-port g c =
     let nodes = c.args.self.now.nodes.items in
     let x = c.index.result.now in
     let l : c.args.node < length nodes = omega (arith, c.requires.inside, length-map nodes placed_state) in
-    omega (arith, wants_input b g.met.T.Transducer.laws (placed_state x) c.args.port (ap b.process.want (state_here nodes c.args.node x l c.index.ensures) ∙ c.requires.wants) x.reached, x.each_input, inputs_here nodes c.args.node x l c.index.ensures)
+    omega (
+      arith,
+      wants_input b g.met.T.Transducer.laws (placed_state x) c.args.port
+          (ap b.process.want (state_here nodes c.args.node x l c.index.ensures) ∙ c.requires.wants) x.reached,
+      x.each_input,
+      inputs_here nodes c.args.node x l c.index.ensures,
+    )
 
 pub returns-clause-edge : goal.returns-clause-edge
 returns-clause-edge g c =
@@ -29,5 +41,14 @@ returns-clause-edge g c =
     let nodes = graph.nodes.items in
     let x = c.index.result.now in
     let l : c.args.node < length nodes = omega (arith, c.requires.inside, length-map nodes placed_state) in
-    let port : c.args.port < inputs_at b (states_in nodes) c.args.node = omega (arith, wants_input b g.met.T.Transducer.laws (placed_state x) c.args.port (ap b.process.want (state_here nodes c.args.node x l c.index.ensures) ∙ c.requires.wants) x.reached, x.each_input, inputs_here nodes c.args.node x l c.index.ensures) in
-    c.index-2.ensures ∙ get_or_default x.inputs.items c.args.port c.index-2.result.now 0 (omega (arith, port, inputs_here nodes c.args.node x l c.index.ensures)) ∙ input_here nodes c.args.node x l c.index.ensures graph.edges.items graph.built.joined graph.seated c.args.port port
+    let port : c.args.port < inputs_at b (states_in nodes) c.args.node =
+    omega (
+      arith,
+      wants_input b g.met.T.Transducer.laws (placed_state x) c.args.port
+          (ap b.process.want (state_here nodes c.args.node x l c.index.ensures) ∙ c.requires.wants) x.reached,
+      x.each_input,
+      inputs_here nodes c.args.node x l c.index.ensures,
+    ) in
+    c.index-2.ensures ∙ get_or_default x.inputs.items c.args.port c.index-2.result.now 0
+    (omega (arith, port, inputs_here nodes c.args.node x l c.index.ensures))
+    ∙ input_here nodes c.args.node x l c.index.ensures graph.edges.items graph.built.joined graph.seated c.args.port port

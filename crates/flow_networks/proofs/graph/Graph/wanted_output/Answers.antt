@@ -14,7 +14,13 @@ index-requires-2 g c =
     let nodes = c.args.self.now.nodes.items in
     let x = c.index.result.now in
     let l : c.args.node < length nodes = omega (arith, c.requires.inside, length-map nodes placed_state) in
-    omega (arith, wants_output b g.met.T.Transducer.laws (placed_state x) c.args.port (ap b.process.want (state_here nodes c.args.node x l c.index.ensures) ∙ c.requires.wants) x.reached, x.each_output, x.outputs.ok.0)
+    omega (
+      arith,
+      wants_output b g.met.T.Transducer.laws (placed_state x) c.args.port
+          (ap b.process.want (state_here nodes c.args.node x l c.index.ensures) ∙ c.requires.wants) x.reached,
+      x.each_output,
+      x.outputs.ok.0,
+    )
 
 pub returns-clause-port : goal.returns-clause-port
 returns-clause-port g c =
@@ -22,7 +28,13 @@ returns-clause-port g c =
     let nodes = c.args.self.now.nodes.items in
     let x = c.index.result.now in
     let l : c.args.node < length nodes = omega (arith, c.requires.inside, length-map nodes placed_state) in
-    omega (arith, wants_output b g.met.T.Transducer.laws (placed_state x) c.args.port (ap b.process.want (state_here nodes c.args.node x l c.index.ensures) ∙ c.requires.wants) x.reached, x.each_output, outputs_here nodes c.args.node x l c.index.ensures)
+    omega (
+      arith,
+      wants_output b g.met.T.Transducer.laws (placed_state x) c.args.port
+          (ap b.process.want (state_here nodes c.args.node x l c.index.ensures) ∙ c.requires.wants) x.reached,
+      x.each_output,
+      outputs_here nodes c.args.node x l c.index.ensures,
+    )
 
 pub returns-clause-fits : goal.returns-clause-fits
 returns-clause-fits g c =
@@ -31,7 +43,8 @@ returns-clause-fits g c =
     let x = c.index.result.now in
     let l : c.args.node < length nodes = omega (arith, c.requires.inside, length-map nodes placed_state) in
     let here = state_here nodes c.args.node x l c.index.ensures in
-    subst (λ s. fits (b.kind_out s c.args.port) (b.process.written s) ≡ true) here (written_fits b g.met.T.Transducer.laws (placed_state x) c.args.port (ap b.process.want here ∙ c.requires.wants) x.reached)
+    subst (λ s. fits (b.kind_out s c.args.port) (b.process.written s) ≡ true) here
+    (written_fits b g.met.T.Transducer.laws (placed_state x) c.args.port (ap b.process.want here ∙ c.requires.wants) x.reached)
 
 pub returns-clause-edge : goal.returns-clause-edge
 returns-clause-edge g c =
@@ -40,5 +53,14 @@ returns-clause-edge g c =
     let nodes = graph.nodes.items in
     let x = c.index.result.now in
     let l : c.args.node < length nodes = omega (arith, c.requires.inside, length-map nodes placed_state) in
-    let port : c.args.port < outputs_at b (states_in nodes) c.args.node = omega (arith, wants_output b g.met.T.Transducer.laws (placed_state x) c.args.port (ap b.process.want (state_here nodes c.args.node x l c.index.ensures) ∙ c.requires.wants) x.reached, x.each_output, outputs_here nodes c.args.node x l c.index.ensures) in
-    c.index-2.ensures ∙ get_or_default x.outputs.items c.args.port c.index-2.result.now 0 (omega (arith, port, outputs_here nodes c.args.node x l c.index.ensures)) ∙ output_here nodes c.args.node x l c.index.ensures graph.edges.items graph.built.joined graph.seated c.args.port port
+    let port : c.args.port < outputs_at b (states_in nodes) c.args.node =
+    omega (
+      arith,
+      wants_output b g.met.T.Transducer.laws (placed_state x) c.args.port
+          (ap b.process.want (state_here nodes c.args.node x l c.index.ensures) ∙ c.requires.wants) x.reached,
+      x.each_output,
+      outputs_here nodes c.args.node x l c.index.ensures,
+    ) in
+    c.index-2.ensures ∙ get_or_default x.outputs.items c.args.port c.index-2.result.now 0
+    (omega (arith, port, outputs_here nodes c.args.node x l c.index.ensures))
+    ∙ output_here nodes c.args.node x l c.index.ensures graph.edges.items graph.built.joined graph.seated c.args.port port

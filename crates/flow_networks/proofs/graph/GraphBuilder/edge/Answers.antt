@@ -25,7 +25,9 @@ set_input-requires g c =
     let may = c.requires in
     let half = set nodes edge.writer c.set_output.new.self in
     let writer : edge.writer < length nodes = omega (arith, may.forward, may.node, length-map nodes placed_state) in
-    let states : states_in half ≡ states_in nodes = states_kept placed_state nodes edge.writer c.index_mut.result.now c.set_output.new.self writer c.index_mut.ensures.value (ap g.T.Transducer.state c.set_output.ensures.node) in
+    let states : states_in half ≡ states_in nodes =
+    states_kept placed_state nodes edge.writer c.index_mut.result.now c.set_output.new.self writer c.index_mut.ensures.value
+    (ap g.T.Transducer.state c.set_output.ensures.node) in
     omega (
       arith,
       may.input,
@@ -55,17 +57,23 @@ invariant_of-self-2 g c =
     let writer : edge.writer < length nodes = omega (arith, may.forward, may.node, length-map nodes placed_state) in
     let reader : edge.reader < length nodes = omega (arith, may.node, length-map nodes placed_state) in
     let one : states_in half ≡ states = states_kept placed_state nodes edge.writer w w' writer c.index_mut.ensures.value (ap g.T.Transducer.state c.set_output.ensures.node) in
-    let both : states_in (set half edge.reader r') ≡ states = states_kept placed_state half edge.reader r r' (omega (arith, reader, length-set nodes edge.writer w')) c.index_mut-2.ensures.value (ap g.T.Transducer.state c.set_input.ensures.node) ∙ one in
+    let both : states_in (set half edge.reader r') ≡ states =
+    states_kept placed_state half edge.reader r r' (omega (arith, reader, length-set nodes edge.writer w')) c.index_mut-2.ensures.value
+    (ap g.T.Transducer.state c.set_input.ensures.node) ∙ one in
     let even : length ports ≡ length nodes = nodes_are b states ports edges builder.kept ∙ length-map nodes placed_state in
     let count : c.len-number.result ≡ length edges = omega (arith, builder.wiring.edges.ok.0) in
-    let seated : AreSeated (set half edge.reader r') (edges ++ edge ∷ []) = seated_edge nodes ports edges builder.wiring.wired even builder.seated after edge (subst (λ (l : List Edge). IsWiring after l) is c.add_edge.new.self.wired) w w' r r' reader may.forward
+    let seated : AreSeated (set half edge.reader r') (edges ++ edge ∷ []) =
+    seated_edge nodes ports edges builder.wiring.wired even builder.seated after edge
+    (subst (λ (l : List Edge). IsWiring after l) is c.add_edge.new.self.wired) w w' r r' reader may.forward
     c.index_mut.ensures.value c.set_output.ensures.number (c.set_output.ensures.outputs ∙ ap (set w.outputs.items edge.writer_port) count) c.set_output.ensures.inputs
     c.index_mut-2.ensures.value c.set_input.ensures.number (c.set_input.ensures.inputs ∙ ap (set r.inputs.items edge.reader_port) count) c.set_input.ensures.outputs
     (omega (arith, may.output, outputs_here nodes edge.writer w writer c.index_mut.ensures.value))
     (omega (arith, may.input, inputs_here half edge.reader r (omega (arith, reader, length-set nodes edge.writer w')) c.index_mut-2.ensures.value, ap (λ l. inputs_at b l edge.reader) one))
     may.free_output may.free_input in
     record {
-      kept = subst (λ (l : List Edge). IsKept b (states_in (set half edge.reader r')) after l) (sym is) (subst (λ l. IsKept b l after (edges ++ edge ∷ [])) (sym both) (kept_edge b states ports edges builder.kept edge after may same.inputs same.outputs few));
+      kept = subst (λ (l : List Edge). IsKept b (states_in (set half edge.reader r')) after l) (sym is)
+          (subst (λ l. IsKept b l after (edges ++ edge ∷ [])) (sym both)
+          (kept_edge b states ports edges builder.kept edge after may same.inputs same.outputs few));
       seated = subst (λ (l : List Edge). AreSeated (set half edge.reader r') l) (sym is) seated;
     }
 
@@ -78,5 +86,7 @@ returns-clause-nodes g c =
     let w' = c.set_output.new.self in
     let half = set nodes edge.writer w' in
     let writer : edge.writer < length nodes = omega (arith, may.forward, may.node, length-map nodes placed_state) in
-    states_kept placed_state half edge.reader c.index_mut-2.result.now c.set_input.new.self (omega (arith, may.node, length-map nodes placed_state, length-set nodes edge.writer w')) c.index_mut-2.ensures.value (ap g.T.Transducer.state c.set_input.ensures.node)
+    states_kept placed_state half edge.reader c.index_mut-2.result.now c.set_input.new.self
+    (omega (arith, may.node, length-map nodes placed_state, length-set nodes edge.writer w')) c.index_mut-2.ensures.value
+    (ap g.T.Transducer.state c.set_input.ensures.node)
     ∙ states_kept placed_state nodes edge.writer w w' writer c.index_mut.ensures.value (ap g.T.Transducer.state c.set_output.ensures.node)

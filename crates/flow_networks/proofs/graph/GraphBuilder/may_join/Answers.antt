@@ -20,8 +20,10 @@ returns g c =
     let writer : edge.writer < length nodes = omega (arith, c.if-edge.false) in
     let output : count_at (outs ports) edge.writer ≡ outputs_at b states edge.writer = count_outputs b states ports edges builder.kept edge.writer in
     let input : count_at (ins ports) edge.reader ≡ inputs_at b states edge.reader = count_inputs b states ports edges builder.kept edge.reader in
-    let from : c.kind_out.result ≡ kind_from b states edge.writer edge.writer_port = c.kind_out.ensures ∙ read_kind placed_state nodes edge.writer c.index.result.now (λ s. b.kind_out s edge.writer_port) writer c.index.ensures in
-    let to : c.kind_in.result ≡ kind_to b states edge.reader edge.reader_port = c.kind_in.ensures ∙ read_kind placed_state nodes edge.reader c.index-2.result.now (λ s. b.kind_in s edge.reader_port) reader c.index-2.ensures in
+    let from : c.kind_out.result ≡ kind_from b states edge.writer edge.writer_port = c.kind_out.ensures
+    ∙ read_kind placed_state nodes edge.writer c.index.result.now (λ s. b.kind_out s edge.writer_port) writer c.index.ensures in
+    let to : c.kind_in.result ≡ kind_to b states edge.reader edge.reader_port = c.kind_in.ensures
+    ∙ read_kind placed_state nodes edge.reader c.index-2.result.now (λ s. b.kind_in s edge.reader_port) reader c.index-2.ensures in
     let test = same_kind c.kind_out.result c.kind_in.result c.eq.result c.eq.ensures in
     let free_out = c.is_free_output.ensures.0 (cc (c.if-not-is_free_output.false)) in
     let free_in = c.is_free_input.ensures.0 (cc (c.if-not-is_free_input.false)) in (

@@ -22,7 +22,15 @@ ready-requires g c =
     let ins = x.inputs.items in
     let outs = x.outputs.items in
     let view = g.E.Ends.view in
-    let placed : IsPlaced b ins outs s (any_kind (view c.args.ends.now)) = record { reached = x.reached; each_input = x.each_input; each_output = x.each_output; reads = c.requires.reads; writes = c.requires.writes; kinds = λ q l s is. refl } in
+    let placed : IsPlaced b ins outs s (any_kind (view c.args.ends.now)) =
+    record {
+      reached = x.reached;
+      each_input = x.each_input;
+      each_output = x.each_output;
+      reads = c.requires.reads;
+      writes = c.requires.writes;
+      kinds = λ q l s is. refl;
+    } in
     let made = made_none laws placed in
     let wants : b.process.want s ≡ Read c.in-Read.port = sym c.want.ensures ∙ c.in-Read.is in
     let inside : c.in-Read.port < length x.inputs.items = input_there laws placed made c.in-Read.port wants in
@@ -38,7 +46,15 @@ returns-in-Read-clause-looked g c =
     let ins = x.inputs.items in
     let outs = x.outputs.items in
     let view = g.E.Ends.view in
-    let placed : IsPlaced b ins outs s (any_kind (view c.args.ends.now)) = record { reached = x.reached; each_input = x.each_input; each_output = x.each_output; reads = c.requires.reads; writes = c.requires.writes; kinds = λ q l s is. refl } in
+    let placed : IsPlaced b ins outs s (any_kind (view c.args.ends.now)) =
+    record {
+      reached = x.reached;
+      each_input = x.each_input;
+      each_output = x.each_output;
+      reads = c.requires.reads;
+      writes = c.requires.writes;
+      kinds = λ q l s is. refl;
+    } in
     let made = made_none laws placed in
     let wants : b.process.want s ≡ Read c.in-Read.port = sym c.want.ensures ∙ c.in-Read.is in
     let inside : c.in-Read.port < length x.inputs.items = input_there laws placed made c.in-Read.port wants in
@@ -56,7 +72,15 @@ returns-in-Read-clause-stuck g c =
     let ins = x.inputs.items in
     let outs = x.outputs.items in
     let view = g.E.Ends.view in
-    let placed : IsPlaced b ins outs s (any_kind (view c.args.ends.now)) = record { reached = x.reached; each_input = x.each_input; each_output = x.each_output; reads = c.requires.reads; writes = c.requires.writes; kinds = λ q l s is. refl } in
+    let placed : IsPlaced b ins outs s (any_kind (view c.args.ends.now)) =
+    record {
+      reached = x.reached;
+      each_input = x.each_input;
+      each_output = x.each_output;
+      reads = c.requires.reads;
+      writes = c.requires.writes;
+      kinds = λ q l s is. refl;
+    } in
     let made = made_none laws placed in
     let wants : b.process.want s ≡ Read c.in-Read.port = sym c.want.ensures ∙ c.in-Read.is in
     let inside : c.in-Read.port < length x.inputs.items = input_there laws placed made c.in-Read.port wants in
@@ -74,7 +98,15 @@ index-requires-in-Write g c =
     let ins = x.inputs.items in
     let outs = x.outputs.items in
     let view = g.E.Ends.view in
-    let placed : IsPlaced b ins outs s (any_kind (view c.args.ends.now)) = record { reached = x.reached; each_input = x.each_input; each_output = x.each_output; reads = c.requires.reads; writes = c.requires.writes; kinds = λ q l s is. refl } in
+    let placed : IsPlaced b ins outs s (any_kind (view c.args.ends.now)) =
+    record {
+      reached = x.reached;
+      each_input = x.each_input;
+      each_output = x.each_output;
+      reads = c.requires.reads;
+      writes = c.requires.writes;
+      kinds = λ q l s is. refl;
+    } in
     let made = made_none laws placed in
     let wants : b.process.want s ≡ Write c.in-Write.port = sym c.want.ensures ∙ c.in-Write.is in
     let inside : c.in-Write.port < length x.outputs.items = output_there laws placed made c.in-Write.port wants in
@@ -89,7 +121,15 @@ room-requires g c =
     let ins = x.inputs.items in
     let outs = x.outputs.items in
     let view = g.E.Ends.view in
-    let placed : IsPlaced b ins outs s (any_kind (view c.args.ends.now)) = record { reached = x.reached; each_input = x.each_input; each_output = x.each_output; reads = c.requires.reads; writes = c.requires.writes; kinds = λ q l s is. refl } in
+    let placed : IsPlaced b ins outs s (any_kind (view c.args.ends.now)) =
+    record {
+      reached = x.reached;
+      each_input = x.each_input;
+      each_output = x.each_output;
+      reads = c.requires.reads;
+      writes = c.requires.writes;
+      kinds = λ q l s is. refl;
+    } in
     let made = made_none laws placed in
     let wants : b.process.want s ≡ Write c.in-Write.port = sym c.want.ensures ∙ c.in-Write.is in
     let inside : c.in-Write.port < length x.outputs.items = output_there laws placed made c.in-Write.port wants in
@@ -105,7 +145,15 @@ returns-in-Write-clause-looked g c =
     let ins = x.inputs.items in
     let outs = x.outputs.items in
     let view = g.E.Ends.view in
-    let placed : IsPlaced b ins outs s (any_kind (view c.args.ends.now)) = record { reached = x.reached; each_input = x.each_input; each_output = x.each_output; reads = c.requires.reads; writes = c.requires.writes; kinds = λ q l s is. refl } in
+    let placed : IsPlaced b ins outs s (any_kind (view c.args.ends.now)) =
+    record {
+      reached = x.reached;
+      each_input = x.each_input;
+      each_output = x.each_output;
+      reads = c.requires.reads;
+      writes = c.requires.writes;
+      kinds = λ q l s is. refl;
+    } in
     let made = made_none laws placed in
     let wants : b.process.want s ≡ Write c.in-Write.port = sym c.want.ensures ∙ c.in-Write.is in
     let inside : c.in-Write.port < length x.outputs.items = output_there laws placed made c.in-Write.port wants in
@@ -123,7 +171,15 @@ returns-in-Write-clause-stuck g c =
     let ins = x.inputs.items in
     let outs = x.outputs.items in
     let view = g.E.Ends.view in
-    let placed : IsPlaced b ins outs s (any_kind (view c.args.ends.now)) = record { reached = x.reached; each_input = x.each_input; each_output = x.each_output; reads = c.requires.reads; writes = c.requires.writes; kinds = λ q l s is. refl } in
+    let placed : IsPlaced b ins outs s (any_kind (view c.args.ends.now)) =
+    record {
+      reached = x.reached;
+      each_input = x.each_input;
+      each_output = x.each_output;
+      reads = c.requires.reads;
+      writes = c.requires.writes;
+      kinds = λ q l s is. refl;
+    } in
     let made = made_none laws placed in
     let wants : b.process.want s ≡ Write c.in-Write.port = sym c.want.ensures ∙ c.in-Write.is in
     let inside : c.in-Write.port < length x.outputs.items = output_there laws placed made c.in-Write.port wants in
@@ -141,7 +197,15 @@ index-requires g c =
     let ins = x.inputs.items in
     let outs = x.outputs.items in
     let view = g.E.Ends.view in
-    let placed : IsPlaced b ins outs s (any_kind (view c.args.ends.now)) = record { reached = x.reached; each_input = x.each_input; each_output = x.each_output; reads = c.requires.reads; writes = c.requires.writes; kinds = λ q l s is. refl } in
+    let placed : IsPlaced b ins outs s (any_kind (view c.args.ends.now)) =
+    record {
+      reached = x.reached;
+      each_input = x.each_input;
+      each_output = x.each_output;
+      reads = c.requires.reads;
+      writes = c.requires.writes;
+      kinds = λ q l s is. refl;
+    } in
     let made = made_none laws placed in
     let wants : b.process.want s ≡ Read c.in-Read.port = sym c.want.ensures ∙ c.in-Read.is in
     let inside : c.in-Read.port < length x.inputs.items = input_there laws placed made c.in-Read.port wants in

@@ -37,5 +37,13 @@ move_node-requires-clause-placed g c =
     let v = g.E.Ends.view c.args.ends.now in
     let ins : c.deref.result.now ≡ x.inputs.items = cc in
     let outs : c.deref-2.result.now ≡ x.outputs.items = cc in
-    let placed : IsPlaced b x.inputs.items x.outputs.items s v = record { reached = x.reached; each_input = x.each_input; each_output = x.each_output; reads = c.requires.reads; writes = c.requires.writes; kinds = c.requires.kinds } in
+    let placed : IsPlaced b x.inputs.items x.outputs.items s v =
+    record {
+      reached = x.reached;
+      each_input = x.each_input;
+      each_output = x.each_output;
+      reads = c.requires.reads;
+      writes = c.requires.writes;
+      kinds = c.requires.kinds;
+    } in
     subst (λ l. IsPlaced b l c.deref-2.result.now s v) (sym ins) (subst (λ l. IsPlaced b x.inputs.items l s v) (sym outs) placed)

@@ -18,7 +18,9 @@ set_input-requires c =
       arith,
       r.input,
       count_is (λ n. n.inputs.items) half c.args.edge.reader c.index_mut-2.result.now (omega (arith, length-set ports c.args.edge.writer c.set_output.new.self, r.reader)) c.index_mut-2.ensures.value,
-      ap (λ t. count_at t c.args.edge.reader) (map_set_back (λ (n : Ports). n.inputs.items) ports c.args.edge.writer c.index_mut.result.now c.set_output.new.self [] (omega (arith, r.forward, r.reader)) c.index_mut.ensures.value c.set_output.ensures.inputs),
+      ap (λ t. count_at t c.args.edge.reader)
+          (map_set_back (λ (n : Ports). n.inputs.items) ports c.args.edge.writer c.index_mut.result.now c.set_output.new.self []
+          (omega (arith, r.forward, r.reader)) c.index_mut.ensures.value c.set_output.ensures.inputs),
     )
 
 pub invariant_of-self-2 : goal.invariant_of-self-2

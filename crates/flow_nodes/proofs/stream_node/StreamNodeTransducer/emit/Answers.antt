@@ -1,5 +1,7 @@
 use Rattle.std.proofs.Common.{ap}
-use Rattle.flow_nodes.specs.StreamNodes.{state_of, a_source, a_const, a_unary, a_binary, a_fork, a_sink, an_iota, a_units_of, a_scan_add, a_reduce, a_length, a_flag_of_bool, a_the_check, a_same_flags, a_concat_flags, a_part_flags, an_append_flags, a_dist, a_pack, a_pack_groups, an_interleave, an_interleave_groups, a_print, a_tab, a_seq_of_vector, an_index}
+use Rattle.flow_nodes.specs.StreamNodes.{state_of, a_source, a_const, a_unary, a_binary, a_fork, a_sink, an_iota, a_units_of, a_scan_add, a_reduce}
+use Rattle.flow_nodes.specs.StreamNodes.{a_length, a_flag_of_bool, a_the_check, a_same_flags, a_concat_flags, a_part_flags, an_append_flags, a_dist}
+use Rattle.flow_nodes.specs.StreamNodes.{a_pack, a_pack_groups, an_interleave, an_interleave_groups, a_print, a_tab, a_seq_of_vector, an_index}
 use Rattle.flow_nodes.proofs.NodeKinds.{writes_node, sent_node, kept_node, sure_node}
 use Rattle.flow_nodes.proofs.stream_node.StreamNodeTransducer.emit.Goals as goal
 
@@ -271,13 +273,19 @@ pub emit-requires-in-InterleaveGroups : goal.emit-requires-in-InterleaveGroups
 emit-requires-in-InterleaveGroups c = writes_node an_interleave_groups _ (state_of c.args.self.now) (ap state_of c.in-InterleaveGroups.is) c.requires
 
 pub returns-in-InterleaveGroups-clause-ok : goal.returns-in-InterleaveGroups-clause-ok
-returns-in-InterleaveGroups-clause-ok c = sent_node an_interleave_groups _ (state_of c.args.self.now) (ap state_of c.in-InterleaveGroups.is) _ c.emit-in-InterleaveGroups.result c.emit-in-InterleaveGroups.ensures.ok
+returns-in-InterleaveGroups-clause-ok c =
+    sent_node an_interleave_groups _ (state_of c.args.self.now) (ap state_of c.in-InterleaveGroups.is) _ c.emit-in-InterleaveGroups.result
+    c.emit-in-InterleaveGroups.ensures.ok
 
 pub returns-in-InterleaveGroups-clause-err : goal.returns-in-InterleaveGroups-clause-err
-returns-in-InterleaveGroups-clause-err c = kept_node an_interleave_groups _ (state_of c.args.self.now) (ap state_of c.in-InterleaveGroups.is) _ c.emit-in-InterleaveGroups.result c.emit-in-InterleaveGroups.ensures.err
+returns-in-InterleaveGroups-clause-err c =
+    kept_node an_interleave_groups _ (state_of c.args.self.now) (ap state_of c.in-InterleaveGroups.is) _ c.emit-in-InterleaveGroups.result
+    c.emit-in-InterleaveGroups.ensures.err
 
 pub returns-in-InterleaveGroups-clause-sure : goal.returns-in-InterleaveGroups-clause-sure
-returns-in-InterleaveGroups-clause-sure c = sure_node an_interleave_groups _ (state_of c.args.self.now) (ap state_of c.in-InterleaveGroups.is) c.emit-in-InterleaveGroups.result c.emit-in-InterleaveGroups.ensures.sure
+returns-in-InterleaveGroups-clause-sure c =
+    sure_node an_interleave_groups _ (state_of c.args.self.now) (ap state_of c.in-InterleaveGroups.is) c.emit-in-InterleaveGroups.result
+    c.emit-in-InterleaveGroups.ensures.sure
 
 pub returns-in-Print-clause-ok : goal.returns-in-Print-clause-ok
 returns-in-Print-clause-ok c = sent_node a_print _ (state_of c.args.self.now) (ap state_of c.in-Print.is) _ c.emit-in-Print.result c.emit-in-Print.ensures.ok

@@ -1,5 +1,7 @@
 use Rattle.std.proofs.Common.{ap}
-use Rattle.flow_nodes.specs.StreamNodes.{state_of, a_source, a_const, a_unary, a_binary, a_fork, a_sink, an_iota, a_units_of, a_scan_add, a_reduce, a_length, a_flag_of_bool, a_the_check, a_same_flags, a_concat_flags, a_part_flags, an_append_flags, a_dist, a_pack, a_pack_groups, an_interleave, an_interleave_groups, a_print, a_tab, a_seq_of_vector, an_index}
+use Rattle.flow_nodes.specs.StreamNodes.{state_of, a_source, a_const, a_unary, a_binary, a_fork, a_sink, an_iota, a_units_of, a_scan_add, a_reduce}
+use Rattle.flow_nodes.specs.StreamNodes.{a_length, a_flag_of_bool, a_the_check, a_same_flags, a_concat_flags, a_part_flags, an_append_flags, a_dist}
+use Rattle.flow_nodes.specs.StreamNodes.{a_pack, a_pack_groups, an_interleave, an_interleave_groups, a_print, a_tab, a_seq_of_vector, an_index}
 use Rattle.flow_nodes.proofs.NodeKinds.{ports_node, kind_node}
 use Rattle.flow_nodes.proofs.stream_node.StreamNodeTransducer.port.Goals as goal
 
@@ -139,7 +141,9 @@ pub returns-in-InterleaveGroups-clause-count : goal.returns-in-InterleaveGroups-
 returns-in-InterleaveGroups-clause-count c = ports_node an_interleave_groups _ (state_of c.args.self.now) (ap state_of c.in-InterleaveGroups.is) c.args.side c.port-in-InterleaveGroups.ensures.count
 
 pub returns-in-InterleaveGroups-clause-kind : goal.returns-in-InterleaveGroups-clause-kind
-returns-in-InterleaveGroups-clause-kind c = kind_node an_interleave_groups _ (state_of c.args.self.now) (ap state_of c.in-InterleaveGroups.is) c.args.side c.args.number c.port-in-InterleaveGroups.ensures.kind
+returns-in-InterleaveGroups-clause-kind c =
+    kind_node an_interleave_groups _ (state_of c.args.self.now) (ap state_of c.in-InterleaveGroups.is) c.args.side c.args.number
+    c.port-in-InterleaveGroups.ensures.kind
 
 pub returns-in-Print-clause-count : goal.returns-in-Print-clause-count
 returns-in-Print-clause-count c = ports_node a_print _ (state_of c.args.self.now) (ap state_of c.in-Print.is) c.args.side c.port-in-Print.ensures.count

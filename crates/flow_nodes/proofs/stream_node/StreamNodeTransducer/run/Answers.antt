@@ -1,5 +1,7 @@
 use Rattle.std.proofs.Common.{ap}
-use Rattle.flow_nodes.specs.StreamNodes.{state_of, a_source, a_const, a_unary, a_binary, a_fork, a_sink, an_iota, a_units_of, a_scan_add, a_reduce, a_length, a_flag_of_bool, a_the_check, a_same_flags, a_concat_flags, a_part_flags, an_append_flags, a_dist, a_pack, a_pack_groups, an_interleave, an_interleave_groups, a_print, a_tab, a_seq_of_vector, an_index}
+use Rattle.flow_nodes.specs.StreamNodes.{state_of, a_source, a_const, a_unary, a_binary, a_fork, a_sink, an_iota, a_units_of, a_scan_add, a_reduce}
+use Rattle.flow_nodes.specs.StreamNodes.{a_length, a_flag_of_bool, a_the_check, a_same_flags, a_concat_flags, a_part_flags, an_append_flags, a_dist}
+use Rattle.flow_nodes.specs.StreamNodes.{a_pack, a_pack_groups, an_interleave, an_interleave_groups, a_print, a_tab, a_seq_of_vector, an_index}
 use Rattle.flow_nodes.proofs.NodeVisits.{placed_node, visited_node, broke_node}
 use Rattle.flow_nodes.proofs.stream_node.StreamNodeTransducer.run.Goals as goal
 
@@ -88,7 +90,9 @@ pub run-requires-in-FlagOfBool-clause-placed : goal.run-requires-in-FlagOfBool-c
 run-requires-in-FlagOfBool-clause-placed g c = placed_node a_flag_of_bool _ (state_of c.args.self.now) (ap state_of c.in-FlagOfBool.is) c.requires.placed
 
 pub returns-in-FlagOfBool-clause-visited : goal.returns-in-FlagOfBool-clause-visited
-returns-in-FlagOfBool-clause-visited g c = visited_node _ _ a_flag_of_bool _ _ _ _ (state_of c.args.self.now) c.run-in-FlagOfBool.result (ap state_of c.in-FlagOfBool.is) c.run-in-FlagOfBool.ensures.visited
+returns-in-FlagOfBool-clause-visited g c =
+    visited_node _ _ a_flag_of_bool _ _ _ _ (state_of c.args.self.now) c.run-in-FlagOfBool.result (ap state_of c.in-FlagOfBool.is)
+    c.run-in-FlagOfBool.ensures.visited
 
 pub run-requires-in-TheCheck-clause-placed : goal.run-requires-in-TheCheck-clause-placed
 run-requires-in-TheCheck-clause-placed g c = placed_node a_the_check _ (state_of c.args.self.now) (ap state_of c.in-TheCheck.is) c.requires.placed
@@ -106,7 +110,9 @@ pub run-requires-in-ConcatFlags-clause-placed : goal.run-requires-in-ConcatFlags
 run-requires-in-ConcatFlags-clause-placed g c = placed_node a_concat_flags _ (state_of c.args.self.now) (ap state_of c.in-ConcatFlags.is) c.requires.placed
 
 pub returns-in-ConcatFlags-clause-visited : goal.returns-in-ConcatFlags-clause-visited
-returns-in-ConcatFlags-clause-visited g c = visited_node _ _ a_concat_flags _ _ _ _ (state_of c.args.self.now) c.run-in-ConcatFlags.result (ap state_of c.in-ConcatFlags.is) c.run-in-ConcatFlags.ensures.visited
+returns-in-ConcatFlags-clause-visited g c =
+    visited_node _ _ a_concat_flags _ _ _ _ (state_of c.args.self.now) c.run-in-ConcatFlags.result (ap state_of c.in-ConcatFlags.is)
+    c.run-in-ConcatFlags.ensures.visited
 
 pub run-requires-in-PartFlags-clause-placed : goal.run-requires-in-PartFlags-clause-placed
 run-requires-in-PartFlags-clause-placed g c = placed_node a_part_flags _ (state_of c.args.self.now) (ap state_of c.in-PartFlags.is) c.requires.placed
@@ -118,7 +124,9 @@ pub run-requires-in-AppendFlags-clause-placed : goal.run-requires-in-AppendFlags
 run-requires-in-AppendFlags-clause-placed g c = placed_node an_append_flags _ (state_of c.args.self.now) (ap state_of c.in-AppendFlags.is) c.requires.placed
 
 pub returns-in-AppendFlags-clause-visited : goal.returns-in-AppendFlags-clause-visited
-returns-in-AppendFlags-clause-visited g c = visited_node _ _ an_append_flags _ _ _ _ (state_of c.args.self.now) c.run-in-AppendFlags.result (ap state_of c.in-AppendFlags.is) c.run-in-AppendFlags.ensures.visited
+returns-in-AppendFlags-clause-visited g c =
+    visited_node _ _ an_append_flags _ _ _ _ (state_of c.args.self.now) c.run-in-AppendFlags.result (ap state_of c.in-AppendFlags.is)
+    c.run-in-AppendFlags.ensures.visited
 
 pub run-requires-in-Dist-clause-placed : goal.run-requires-in-Dist-clause-placed
 run-requires-in-Dist-clause-placed g c = placed_node a_dist _ (state_of c.args.self.now) (ap state_of c.in-Dist.is) c.requires.placed
@@ -139,19 +147,25 @@ pub run-requires-in-PackGroups-clause-placed : goal.run-requires-in-PackGroups-c
 run-requires-in-PackGroups-clause-placed g c = placed_node a_pack_groups _ (state_of c.args.self.now) (ap state_of c.in-PackGroups.is) c.requires.placed
 
 pub returns-in-PackGroups-clause-visited : goal.returns-in-PackGroups-clause-visited
-returns-in-PackGroups-clause-visited g c = visited_node _ _ a_pack_groups _ _ _ _ (state_of c.args.self.now) c.run-in-PackGroups.result (ap state_of c.in-PackGroups.is) c.run-in-PackGroups.ensures.visited
+returns-in-PackGroups-clause-visited g c =
+    visited_node _ _ a_pack_groups _ _ _ _ (state_of c.args.self.now) c.run-in-PackGroups.result (ap state_of c.in-PackGroups.is)
+    c.run-in-PackGroups.ensures.visited
 
 pub run-requires-in-Interleave-clause-placed : goal.run-requires-in-Interleave-clause-placed
 run-requires-in-Interleave-clause-placed g c = placed_node an_interleave _ (state_of c.args.self.now) (ap state_of c.in-Interleave.is) c.requires.placed
 
 pub returns-in-Interleave-clause-visited : goal.returns-in-Interleave-clause-visited
-returns-in-Interleave-clause-visited g c = visited_node _ _ an_interleave _ _ _ _ (state_of c.args.self.now) c.run-in-Interleave.result (ap state_of c.in-Interleave.is) c.run-in-Interleave.ensures.visited
+returns-in-Interleave-clause-visited g c =
+    visited_node _ _ an_interleave _ _ _ _ (state_of c.args.self.now) c.run-in-Interleave.result (ap state_of c.in-Interleave.is)
+    c.run-in-Interleave.ensures.visited
 
 pub run-requires-in-InterleaveGroups-clause-placed : goal.run-requires-in-InterleaveGroups-clause-placed
 run-requires-in-InterleaveGroups-clause-placed g c = placed_node an_interleave_groups _ (state_of c.args.self.now) (ap state_of c.in-InterleaveGroups.is) c.requires.placed
 
 pub returns-in-InterleaveGroups-clause-visited : goal.returns-in-InterleaveGroups-clause-visited
-returns-in-InterleaveGroups-clause-visited g c = visited_node _ _ an_interleave_groups _ _ _ _ (state_of c.args.self.now) c.run-in-InterleaveGroups.result (ap state_of c.in-InterleaveGroups.is) c.run-in-InterleaveGroups.ensures.visited
+returns-in-InterleaveGroups-clause-visited g c =
+    visited_node _ _ an_interleave_groups _ _ _ _ (state_of c.args.self.now) c.run-in-InterleaveGroups.result (ap state_of c.in-InterleaveGroups.is)
+    c.run-in-InterleaveGroups.ensures.visited
 
 pub run-requires-in-Print-clause-placed : goal.run-requires-in-Print-clause-placed
 run-requires-in-Print-clause-placed g c = placed_node a_print _ (state_of c.args.self.now) (ap state_of c.in-Print.is) c.requires.placed

@@ -19,7 +19,9 @@ pub returns-in_default : goal.returns-in_default
 returns-in_default c = moved_nothing binary_machine (binary_view c.args.self.now) c.args.first c.args.second c.args.space c.args.most c.args.block.now c.nothing.result c.nothing.ensures
 
 pub returns-in_default-2 : goal.returns-in_default-2
-returns-in_default-2 c = moved_nothing binary_machine (binary_view c.args.self.now) c.args.first c.args.second c.args.space c.args.most c.args.block.now c.nothing-in_default-2.result c.nothing-in_default-2.ensures
+returns-in_default-2 c =
+    moved_nothing binary_machine (binary_view c.args.self.now) c.args.first c.args.second c.args.space c.args.most c.args.block.now
+    c.nothing-in_default-2.result c.nothing-in_default-2.ensures
 
 -- along pairs
 pub returns-in-Int : goal.returns-in-Int
@@ -41,7 +43,9 @@ returns-in-Int c =
     let firsts : int_signals (take count xs) ≡ take count (shown_signals first) = sym (take_ints count xs) ∙ ap (λ s. take count (shown_signals s)) (sym c.in-Ints-Ints.is-0) in
     let seconds : int_signals (take count ys) ≡ take count (shown_signals second) = sym (take_ints count ys) ∙ ap (λ s. take count (shown_signals s)) (sym c.in-Ints-Ints.is-1) in
     let told : values_said Int (take count zs) ≡ written_signals written made (m.kind_out p 0) = ap (λ t. written_signals written made (kind_of_type t)) (sym c.in-Int.is ∙ c.result.ensures) in
-    let ran = single_ran m p (int_signals (take count xs)) (int_signals (take count ys)) (values_said Int (take count zs)) (block n.dialect n.operator Int (pos 0) xs ys zs count values.lefts values.rights values.block values.values) first second written made refl firsts seconds told refl in
+    let ran = single_ran m p (int_signals (take count xs)) (int_signals (take count ys)) (values_said Int (take count zs))
+    (block n.dialect n.operator Int (pos 0) xs ys zs count values.lefts values.rights values.block values.values) first second written made refl
+    firsts seconds told refl in
     subst (λ s. MovesAlong m (p, s) (p, s) first second c.args.space c.args.most written made) (sym c.in-Start.is) (record {
       within = record {
         first = omega (arith, all_first, values.lefts);
@@ -73,7 +77,9 @@ returns-in-Bool c =
     let firsts : int_signals (take count xs) ≡ take count (shown_signals first) = sym (take_ints count xs) ∙ ap (λ s. take count (shown_signals s)) (sym c.in-Ints-Ints.is-0) in
     let seconds : int_signals (take count ys) ≡ take count (shown_signals second) = sym (take_ints count ys) ∙ ap (λ s. take count (shown_signals s)) (sym c.in-Ints-Ints.is-1) in
     let told : values_said Truth (take count zs) ≡ written_signals written made (m.kind_out p 0) = ap (λ t. written_signals written made (kind_of_type t)) (sym c.in-Bool.is ∙ c.result.ensures) in
-    let ran = single_ran m p (int_signals (take count xs)) (int_signals (take count ys)) (values_said Truth (take count zs)) (block n.dialect n.operator Truth false xs ys zs count values.lefts values.rights values.block values.values) first second written made refl firsts seconds told refl in
+    let ran = single_ran m p (int_signals (take count xs)) (int_signals (take count ys)) (values_said Truth (take count zs))
+    (block n.dialect n.operator Truth false xs ys zs count values.lefts values.rights values.block values.values) first second written made refl
+    firsts seconds told refl in
     subst (λ s. MovesAlong m (p, s) (p, s) first second c.args.space c.args.most written made) (sym c.in-Start.is) (record {
       within = record {
         first = omega (arith, all_first, values.lefts);

@@ -19,7 +19,9 @@ pub returns-then-self : goal.returns-then-self
 returns-then-self c = moved_nothing const_machine (const_view c.args.self.now) c.args.first c.args.second c.args.space c.args.most c.args.block.now c.nothing.result c.nothing.ensures
 
 pub returns-in_default : goal.returns-in_default
-returns-in_default c = moved_nothing const_machine (const_view c.args.self.now) c.args.first c.args.second c.args.space c.args.most c.args.block.now c.nothing-in_default.result c.nothing-in_default.ensures
+returns-in_default c =
+    moved_nothing const_machine (const_view c.args.self.now) c.args.first c.args.second c.args.space c.args.most c.args.block.now
+    c.nothing-in_default.result c.nothing-in_default.ensures
 
 -- a truth value for each unit
 pub returns-in-Bool : goal.returns-in-Bool
@@ -34,9 +36,13 @@ returns-in-Bool c =
     let made : Moved = record { first = n; second = 0; units = 0; flags = n; ints = 0; steps = 2 * n } in
     let in_units : n ≤ c.units-units.result = omega (arith, c.min.ensures, c.min-whole.ensures) in
     let in_zs : n ≤ length zs = omega (arith, c.fill_flags.ensures.length, c.min.ensures, c.min-whole.ensures, c.requires) in
-    let ran = single_ran m (Truth truth) (unit_signals n) [] (copies (cell_of_scalar (Truth truth)) n) (const_steps (Truth truth) n) first second written made refl (units_shown first c.units-units.result n c.units-units.ensures in_units) refl (sym (filled_flags truth false n zs in_zs c.fill_flags.ensures.filled)) refl in
+    let ran = single_ran m (Truth truth) (unit_signals n) [] (copies (cell_of_scalar (Truth truth)) n) (const_steps (Truth truth) n) first second
+    written made refl (units_shown first c.units-units.result n c.units-units.ensures in_units) refl
+    (sym (filled_flags truth false n zs in_zs c.fill_flags.ensures.filled)) refl in
     let on : Scalar → Bool → Scalar × Bool = λ k due. (k, due) in
-    subst (λ k. MovesAlong m (on k c.args.self.now.due) (on k c.args.self.now.due) first second c.args.space c.args.most written made) (sym c.in-Bool.is) (subst (λ due. MovesAlong m (on (Truth truth) due) (on (Truth truth) due) first second c.args.space c.args.most written made) (sym c.if-self.false) (record {
+    subst (λ k. MovesAlong m (on k c.args.self.now.due) (on k c.args.self.now.due) first second c.args.space c.args.most written made)
+    (sym c.in-Bool.is) (subst (λ due. MovesAlong m (on (Truth truth) due) (on (Truth truth) due) first second c.args.space c.args.most written made)
+    (sym c.if-self.false) (record {
       within = record {
         first = omega (arith, in_units, units_within first c.units-units.result c.units-units.ensures);
         second = omega arith;
@@ -67,9 +73,13 @@ returns-in-Ok c =
     let in_units : n ≤ c.units-units.result = omega (arith, c.min.ensures, c.min-whole.ensures) in
     let in_zs : n ≤ length zs = omega (arith, c.fill_ints.ensures.length, c.min.ensures, c.min-whole.ensures, c.requires) in
     let filled : (k : ℕ) → k < n → get_or zs k (pos 0) ≡ number = λ k h. c.fill_ints.ensures.filled k h ∙ back in
-    let ran = single_ran m (Int number) (unit_signals n) [] (copies (cell_of_scalar (Int number)) n) (const_steps (Int number) n) first second written made refl (units_shown first c.units-units.result n c.units-units.ensures in_units) refl (sym (filled_ints number (pos 0) n zs in_zs filled)) refl in
+    let ran = single_ran m (Int number) (unit_signals n) [] (copies (cell_of_scalar (Int number)) n) (const_steps (Int number) n) first second written
+    made refl (units_shown first c.units-units.result n c.units-units.ensures in_units) refl (sym (filled_ints number (pos 0) n zs in_zs filled))
+    refl in
     let on : Scalar → Bool → Scalar × Bool = λ k due. (k, due) in
-    subst (λ k. MovesAlong m (on k c.args.self.now.due) (on k c.args.self.now.due) first second c.args.space c.args.most written made) (sym c.in-Int.is) (subst (λ due. MovesAlong m (on (Int number) due) (on (Int number) due) first second c.args.space c.args.most written made) (sym c.if-self.false) (record {
+    subst (λ k. MovesAlong m (on k c.args.self.now.due) (on k c.args.self.now.due) first second c.args.space c.args.most written made)
+    (sym c.in-Int.is) (subst (λ due. MovesAlong m (on (Int number) due) (on (Int number) due) first second c.args.space c.args.most written made)
+    (sym c.if-self.false) (record {
       within = record {
         first = omega (arith, in_units, units_within first c.units-units.result c.units-units.ensures);
         second = omega arith;

@@ -50,7 +50,8 @@ returns-then-self-clause-went g c =
     let p = fork_ports n.kind n.outputs in
     let x = cell_of inv.held.0 in
     let w = view c.put_copy.new.ends in
-    let wrote : Wrote (view c.space.new.self) (edge_of outs n.next) (carry x) w = subst (λ y. Wrote (view c.space.new.self) (edge_of outs n.next) (carry y) w) (sym inv.held.2) c.put_copy.ensures.wrote in
+    let wrote : Wrote (view c.space.new.self) (edge_of outs n.next) (carry x) w =
+    subst (λ y. Wrote (view c.space.new.self) (edge_of outs n.next) (carry y) w) (sym inv.held.2) c.put_copy.ensures.wrote in
     λ ins at.
     let on : ForkState → NodeState (ForkPorts × ForkState) = λ s. node_state (p, s) Working at in
     let s = node_state (fork_view c.args.self.now) Working at in

@@ -21,5 +21,7 @@ invariant-loop-made g l = let view = g.E.Ends.view in record {
   held : (x : Item) × (l.self.held ≡ Some x) × (cell_of x ≡ cell_of l.item);
   scalar : is_of VecKind (cell_of l.item) ≡ false;
   of_kind : is_of l.fn.self.kind (cell_of l.item) ≡ true;
-  went : (inputs : List ℕ) (at : ℕ) → Went inputs l.fn.outputs (behaviour_of fork_machine) (node_state (fork_view l.fn.self) Working at) (view l.fn.ends) (node_state (fork_view l.self) Working at) (view l.ends) l.made;
+  went : (inputs : List ℕ) (at : ℕ) →
+      Went inputs l.fn.outputs (behaviour_of fork_machine) (node_state (fork_view l.fn.self) Working at) (view l.fn.ends)
+      (node_state (fork_view l.self) Working at) (view l.ends) l.made;
 }

@@ -15,5 +15,6 @@ invariant-loop g l = let view = g.E.Ends.view in record {
   within : l.made ≤ l.most;
   ports : l.self.outputs ≡ l.fn.self.outputs;
   kind : l.self.kind ≡ l.fn.self.kind;
-  went : (at : ℕ) → Went l.fn.inputs l.fn.outputs (behaviour_of fork_machine) (node_state (fork_view l.fn.self) Working at) (view l.fn.ends) (node_state (fork_view l.self) Working at) (view l.ends) l.made;
+  went : (at : ℕ) → Went l.fn.inputs l.fn.outputs (behaviour_of fork_machine) (node_state (fork_view l.fn.self) Working at) (view l.fn.ends)
+      (node_state (fork_view l.self) Working at) (view l.ends) l.made;
 }

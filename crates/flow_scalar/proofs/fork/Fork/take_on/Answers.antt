@@ -13,10 +13,14 @@ use Rattle.flow_scalar.proofs.fork.Fork.take_on.Goals as goal
 
 -- it made no step
 pub returns-then-most-eq0-clause-went : goal.returns-then-most-eq0-clause-went
-returns-then-most-eq0-clause-went g c = λ at. went_none (behaviour_of fork_machine) c.args.inputs.now c.args.outputs.now (node_state (fork_view c.args.self.now) Working at) (g.E.Ends.view c.args.ends.now)
+returns-then-most-eq0-clause-went g c =
+    λ at. went_none (behaviour_of fork_machine) c.args.inputs.now c.args.outputs.now (node_state (fork_view c.args.self.now) Working at)
+    (g.E.Ends.view c.args.ends.now)
 
 pub returns-in_default-clause-went : goal.returns-in_default-clause-went
-returns-in_default-clause-went g c = λ at. went_none (behaviour_of fork_machine) c.args.inputs.now c.args.outputs.now (node_state (fork_view c.args.self.now) Working at) (g.E.Ends.view c.args.ends.now)
+returns-in_default-clause-went g c =
+    λ at. went_none (behaviour_of fork_machine) c.args.inputs.now c.args.outputs.now (node_state (fork_view c.args.self.now) Working at)
+    (g.E.Ends.view c.args.ends.now)
 
 pub returns-clause-ends : goal.returns-clause-ends
 returns-clause-ends g c = (c.take_front.ensures.taken (carry (cell_of c.in-Some.item)) c.in-Some.ensures.first).ends

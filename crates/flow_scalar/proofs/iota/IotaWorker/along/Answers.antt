@@ -24,7 +24,8 @@ loop-made-preserved-then-next-end c =
     let small : to_z w128 put.result ≡ pos put.result = search rules in
     let back : to_z w128 (of_z w128 (next +ℤ to_z w128 put.result)) ≡ next +ℤ to_z w128 put.result = search rules in
     let after : to_z w128 (of_z w128 (next +ℤ to_z w128 put.result)) ≡ next +ℤ pos put.result = back ∙ ap (λ k. next +ℤ k) small in
-    let ran = more_numbers next end counts loop.block.flags put.new.block.flags loop.block.ints put.new.block.ints loop.read loop.made put.result inv.before (put.ensures.below some) put.ensures.flags put.ensures.ints inv.ran in
+    let ran = more_numbers next end counts loop.block.flags put.new.block.flags loop.block.ints put.new.block.ints loop.read loop.made put.result
+    inv.before (put.ensures.below some) put.ensures.flags put.ensures.ints inv.ran in
     record {
       in_counts = inv.in_counts;
       before = omega (arith, inv.before);
@@ -64,13 +65,15 @@ returns c =
     let made : Moved = record { first = loop.read; second = 0; units = 0; flags = loop.made; ints = loop.made - loop.read; steps = 2 * loop.made } in
     let room : loop.made ≤ c.args.space = omega (arith, inv.within, c.min-rounds.ensures) in
     let may : 2 * loop.made ≤ c.args.most = omega (arith, inv.within, c.min-rounds.ensures) in
-    let moves : (block : Written) → Rounds self next end counts block.flags block.ints loop.read loop.made → MovesAlong iota_machine (iota_view self) (iota_view (Flag next end)) c.args.first c.args.second c.args.space c.args.most block made =
+    let moves : (block : Written) → Rounds self next end counts block.flags block.ints loop.read loop.made →
+    MovesAlong iota_machine (iota_view self) (iota_view (Flag next end)) c.args.first c.args.second c.args.space c.args.most block made =
     λ block ran. iota_moves self next end c.args.first c.args.second c.args.space c.args.most block counts loop.read loop.made c.ints-counts.ensures inv.in_counts inv.before room may ran in
     let told = λ (block : Written). MovesAlong iota_machine (iota_view self) (iota_view (Flag next end)) c.args.first c.args.second c.args.space c.args.most block made in
     elim c.loop-made-test.branch [
       | else-loop-made-test w ↦ subst told (sym w.block-is) (moves loop.block inv.ran)
       | then-loop-made-test+then-next-end+then-count-eq0 w ↦ (let put = w.put_numbers-count in
-          let ran = no_more_numbers next end counts loop.block.flags put.new.block.flags loop.block.ints put.new.block.ints loop.read loop.made put.result w.if-count-eq0.true put.ensures.flags put.ensures.ints inv.ran in
+          let ran = no_more_numbers next end counts loop.block.flags put.new.block.flags loop.block.ints put.new.block.ints loop.read loop.made
+          put.result w.if-count-eq0.true put.ensures.flags put.ensures.ints inv.ran in
           subst told (sym w.block-is) (moves put.new.block ran))
       | then-loop-made-test+else-next-end+in_default-count_at w ↦ subst told (sym w.block-is) (moves loop.block inv.ran)
     ]

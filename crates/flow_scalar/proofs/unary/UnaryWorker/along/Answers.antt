@@ -18,7 +18,9 @@ pub returns-then-is_some : goal.returns-then-is_some
 returns-then-is_some c = moved_nothing unary_machine (unary_view c.args.self.now) c.args.first c.args.second c.args.space c.args.most c.args.block.now c.nothing.result c.nothing.ensures
 
 pub returns-in_default : goal.returns-in_default
-returns-in_default c = moved_nothing unary_machine (unary_view c.args.self.now) c.args.first c.args.second c.args.space c.args.most c.args.block.now c.nothing-in_default.result c.nothing-in_default.ensures
+returns-in_default c =
+    moved_nothing unary_machine (unary_view c.args.self.now) c.args.first c.args.second c.args.space c.args.most c.args.block.now
+    c.nothing-in_default.result c.nothing-in_default.ensures
 
 -- along integers
 pub returns-in-Ints : goal.returns-in-Ints
@@ -36,7 +38,9 @@ returns-in-Ints c =
     let made : Moved = record { first = count; second = 0; units = 0; flags = 0; ints = count; steps = 2 * count } in
     let all : length (shown_signals first) ≡ length xs = ap (λ s. length (shown_signals s)) c.in-Ints.is ∙ length_ints xs in
     let firsts : values_said Int (take count xs) ≡ take count (shown_signals first) = sym (take_ints count xs) ∙ ap (λ s. take count (shown_signals s)) (sym c.in-Ints.is) in
-    let ran = single_ran m p (values_said Int (take count xs)) [] (values_said Int (take count zs)) (block n.dialect n.operator Int (pos 0) xs zs count values.operands values.block values.values) first second written made refl firsts refl (ints_written n.dialect n.operator xs zs c.args.block.now.flags count values.values) refl in
+    let ran = single_ran m p (values_said Int (take count xs)) [] (values_said Int (take count zs))
+    (block n.dialect n.operator Int (pos 0) xs zs count values.operands values.block values.values) first second written made refl firsts refl
+    (ints_written n.dialect n.operator xs zs c.args.block.now.flags count values.values) refl in
     subst (λ v. MovesAlong m (p, v) (p, v) first second c.args.space c.args.most written made) (sym (nothing n.value (sym c.is_some.ensures ∙ c.if-is_some.false))) (record {
       within = record {
         first = omega (arith, all, values.operands);
@@ -65,7 +69,9 @@ returns-in-Flags c =
     let made : Moved = record { first = count; second = 0; units = 0; flags = count; ints = 0; steps = 2 * count } in
     let all : length (shown_signals first) ≡ length xs = ap (λ s. length (shown_signals s)) c.in-Flags.is ∙ length_flags xs in
     let firsts : values_said Truth (take count xs) ≡ take count (shown_signals first) = sym (take_flags count xs) ∙ ap (λ s. take count (shown_signals s)) (sym c.in-Flags.is) in
-    let ran = single_ran m p (values_said Truth (take count xs)) [] (values_said Truth (take count zs)) (block n.dialect n.operator Truth false xs zs count values.operands values.block values.values) first second written made refl firsts refl (flags_written n.dialect n.operator xs zs c.args.block.now.ints count values.values) refl in
+    let ran = single_ran m p (values_said Truth (take count xs)) [] (values_said Truth (take count zs))
+    (block n.dialect n.operator Truth false xs zs count values.operands values.block values.values) first second written made refl firsts refl
+    (flags_written n.dialect n.operator xs zs c.args.block.now.ints count values.values) refl in
     subst (λ v. MovesAlong m (p, v) (p, v) first second c.args.space c.args.most written made) (sym (nothing n.value (sym c.is_some.ensures ∙ c.if-is_some.false))) (record {
       within = record {
         first = omega (arith, all, values.operands);

@@ -15,7 +15,9 @@ pub returns-then-self : goal.returns-then-self
 returns-then-self c = moved_nothing units_of_machine (units_of_view c.args.self.now) c.args.first c.args.second c.args.space c.args.most c.args.block.now c.nothing.result c.nothing.ensures
 
 pub returns-in_default : goal.returns-in_default
-returns-in_default c = moved_nothing units_of_machine (units_of_view c.args.self.now) c.args.first c.args.second c.args.space c.args.most c.args.block.now c.nothing-in_default.result c.nothing-in_default.ensures
+returns-in_default c =
+    moved_nothing units_of_machine (units_of_view c.args.self.now) c.args.first c.args.second c.args.space c.args.most c.args.block.now
+    c.nothing-in_default.result c.nothing-in_default.ensures
 
 -- it went along flags
 pub returns : goal.returns
@@ -33,7 +35,8 @@ returns c =
     let of_units : elements flags ≡ units = counted flags ∙ sym c.elements_in-units.ensures in
     let firsts : flag_signals flags ≡ take whole (shown_signals c.args.first) = sym (take_flags whole shown) ∙ ap (λ s. take whole (shown_signals s)) (sym c.in-Flags.is) in
     let steps : length flags + elements flags ≡ whole + units = omega (arith, long, of_units) in
-    let ran = single_ran m tt (flag_signals flags) [] (unit_signals (elements flags)) (units_of_steps flags) c.args.first c.args.second c.args.block.now made refl firsts refl (ap unit_signals of_units) steps in
+    let ran = single_ran m tt (flag_signals flags) [] (unit_signals (elements flags)) (units_of_steps flags) c.args.first c.args.second
+    c.args.block.now made refl firsts refl (ap unit_signals of_units) steps in
     subst (λ due. MovesAlong m (tt, due) (tt, due) c.args.first c.args.second c.args.space c.args.most c.args.block.now made) (sym c.if-self.false) (record {
       within = record {
         first = omega (arith, all, least);

@@ -13,12 +13,16 @@ use Rattle.flow_base.proofs.Kernels.{went_none, went_looked, went_read, went_wri
 use Rattle.flow_messages.specs.declared.message.Kind.{Kind}
 use Rattle.flow_segment.specs.DistMachine.{DistState, at_start, at_flag, at_copy, dist_machine, dist_view}
 use Rattle.flow_segment.proofs.DistBlocks.{held_at}
-use Rattle.flow_segment.proofs.dist.Dist.copy_on.Goals.{then-not-has_room-via-then-not-has_room, then-not-has_room-via-else-not-has_room+then-most-lt2, then-not-has_room-via-else-not-has_room+else-most-lt2+then-not-fits}
+use Rattle.flow_segment.proofs.dist.Dist.copy_on.Goals.{then-not-has_room-via-then-not-has_room}
+use Rattle.flow_segment.proofs.dist.Dist.copy_on.Goals.{then-not-has_room-via-else-not-has_room+then-most-lt2}
+use Rattle.flow_segment.proofs.dist.Dist.copy_on.Goals.{then-not-has_room-via-else-not-has_room+else-most-lt2+then-not-fits}
 use Rattle.flow_segment.proofs.dist.Dist.copy_on.Goals as goal
 
 -- it made no step
 pub returns-in_default-clause-went : goal.returns-in_default-clause-went
-returns-in_default-clause-went g c = λ at. went_none (behaviour_of dist_machine) c.args.inputs.now c.args.outputs.now (node_state (dist_view c.args.self.now) Working at) (g.E.Ends.view c.args.ends.now)
+returns-in_default-clause-went g c =
+    λ at. went_none (behaviour_of dist_machine) c.args.inputs.now c.args.outputs.now (node_state (dist_view c.args.self.now) Working at)
+    (g.E.Ends.view c.args.ends.now)
 
 -- it only looked for room
 pub returns-in_default-flag_shown-clause-went : goal.returns-in_default-flag_shown-clause-went
@@ -27,7 +31,8 @@ returns-in_default-flag_shown-clause-went g c =
     let ins = c.args.inputs.now in
     let outs = c.args.outputs.now in
     let there : 0 < length outs = omega (arith, c.requires.wired.each_output) in
-    λ at. went_looked b ins outs (went_none b ins outs (node_state (dist_view c.args.self.now) Working at) (g.E.Ends.view c.args.ends.now)) 0 (g.E.Ends.view c.room-has_room.new.self) there c.room-has_room.ensures.looked
+    λ at. went_looked b ins outs (went_none b ins outs (node_state (dist_view c.args.self.now) Working at) (g.E.Ends.view c.args.ends.now)) 0
+    (g.E.Ends.view c.room-has_room.new.self) there c.room-has_room.ensures.looked
 
 pub returns-then-not-has_room-clause-went : goal.returns-then-not-has_room-clause-went
 returns-then-not-has_room-clause-went g c =
@@ -53,14 +58,16 @@ returns-in_default-copy-clause-went g c =
     let ins = c.args.inputs.now in
     let outs = c.args.outputs.now in
     let there : 0 < length outs = omega (arith, c.requires.wired.each_output) in
-    λ at. went_looked b ins outs (went_none b ins outs (node_state (dist_view c.args.self.now) Working at) (g.E.Ends.view c.args.ends.now)) 0 (g.E.Ends.view c.room-has_room.new.self) there c.room-has_room.ensures.looked
+    λ at. went_looked b ins outs (went_none b ins outs (node_state (dist_view c.args.self.now) Working at) (g.E.Ends.view c.args.ends.now)) 0
+    (g.E.Ends.view c.room-has_room.new.self) there c.room-has_room.ensures.looked
 
 -- it read the flag that ends the segment
 pub returns-then-ends_segment-clause-ends : goal.returns-then-ends_segment-clause-ends
 returns-then-ends_segment-clause-ends g c =
     let view = g.E.Ends.view in
     let v = view c.room-has_room.new.self in
-    let next : IsPrefix (carry (flag true) ∷ []) (v.coming (edge_of c.args.inputs.now 1)) = subst (λ z. IsPrefix (carry (flag z) ∷ []) (v.coming (edge_of c.args.inputs.now 1))) c.if-ends_segment.true c.in-Some-flag_shown.ensures in
+    let next : IsPrefix (carry (flag true) ∷ []) (v.coming (edge_of c.args.inputs.now 1)) =
+    subst (λ z. IsPrefix (carry (flag z) ∷ []) (v.coming (edge_of c.args.inputs.now 1))) c.if-ends_segment.true c.in-Some-flag_shown.ensures in
     same_ends_then (view c.args.ends.now) v (view c.take_front.new.ends) c.room-has_room.ensures.looked.ends (c.take_front.ensures.taken (carry (flag true)) next).ends
 
 pub returns-then-ends_segment-clause-went : goal.returns-then-ends_segment-clause-went
@@ -76,7 +83,8 @@ returns-then-ends_segment-clause-went g c =
     let w = view c.take_front.new.ends in
     let reads : 1 < length ins = omega (arith, c.requires.wired.each_input) in
     let writes : 0 < length outs = omega (arith, c.requires.wired.each_output) in
-    let next : IsPrefix (carry (flag true) ∷ []) (v.coming (edge_of ins 1)) = subst (λ z. IsPrefix (carry (flag z) ∷ []) (v.coming (edge_of ins 1))) c.if-ends_segment.true c.in-Some-flag_shown.ensures in
+    let next : IsPrefix (carry (flag true) ∷ []) (v.coming (edge_of ins 1)) =
+    subst (λ z. IsPrefix (carry (flag z) ∷ []) (v.coming (edge_of ins 1))) c.if-ends_segment.true c.in-Some-flag_shown.ensures in
     λ at.
     let on : DistState → NodeState (Kind × DistState) = λ s. node_state (m.kind, s) Working at in
     let began = went_looked b ins outs (went_none b ins outs (on (at_flag x)) a) 0 v writes c.room-has_room.ensures.looked in
@@ -92,7 +100,8 @@ put_in_space-requires-clause-writes g c =
     let v = view c.room-has_room.new.self in
     let e = edge_of outs 0 in
     let there : 0 < length outs = omega (arith, c.requires.wired.each_output) in
-    let next : IsPrefix (carry (flag false) ∷ []) (v.coming (edge_of c.args.inputs.now 1)) = subst (λ z. IsPrefix (carry (flag z) ∷ []) (v.coming (edge_of c.args.inputs.now 1))) c.if-ends_segment.false c.in-Some-flag_shown.ensures in
+    let next : IsPrefix (carry (flag false) ∷ []) (v.coming (edge_of c.args.inputs.now 1)) =
+    subst (λ z. IsPrefix (carry (flag z) ∷ []) (v.coming (edge_of c.args.inputs.now 1))) c.if-ends_segment.false c.in-Some-flag_shown.ensures in
     let took = c.take_front-2.ensures.taken (carry (flag false)) next in
     took.ends.writes e ∙ c.room-has_room.ensures.looked.ends.writes e ∙ All-get_or (λ k. a.writes k ≡ true) outs 0 0 there c.requires.wired.writes
 
@@ -105,7 +114,8 @@ put_in_space-requires-clause-fits g c =
     let u = view c.take_front-2.new.ends in
     let e = edge_of outs 0 in
     let k = c.args.self.now.kind in
-    let next : IsPrefix (carry (flag false) ∷ []) (v.coming (edge_of c.args.inputs.now 1)) = subst (λ z. IsPrefix (carry (flag z) ∷ []) (v.coming (edge_of c.args.inputs.now 1))) c.if-ends_segment.false c.in-Some-flag_shown.ensures in
+    let next : IsPrefix (carry (flag false) ∷ []) (v.coming (edge_of c.args.inputs.now 1)) =
+    subst (λ z. IsPrefix (carry (flag z) ∷ []) (v.coming (edge_of c.args.inputs.now 1))) c.if-ends_segment.false c.in-Some-flag_shown.ensures in
     let took = c.take_front-2.ensures.taken (carry (flag false)) next in
     let held = kind_fits (a.kind e) k (carry (cell_of c.in-Some.item)) c.requires.kind (sym c.fits.ensures ∙ c.if-not-fits.false) in
     let copied : FitsEdge (a.kind e) (carry (cell_of c.in-Ok.copy)) = subst (λ z. FitsEdge (a.kind e) (carry z)) (sym c.in-Ok.ensures.ok) held in
@@ -149,7 +159,8 @@ returns-clause-went g c =
     let w = view c.put_in_space.new.ends in
     let reads : 1 < length ins = omega (arith, c.requires.wired.each_input) in
     let writes : 0 < length outs = omega (arith, c.requires.wired.each_output) in
-    let next : IsPrefix (carry (flag false) ∷ []) (v.coming (edge_of ins 1)) = subst (λ z. IsPrefix (carry (flag z) ∷ []) (v.coming (edge_of ins 1))) c.if-ends_segment.false c.in-Some-flag_shown.ensures in
+    let next : IsPrefix (carry (flag false) ∷ []) (v.coming (edge_of ins 1)) =
+    subst (λ z. IsPrefix (carry (flag z) ∷ []) (v.coming (edge_of ins 1))) c.if-ends_segment.false c.in-Some-flag_shown.ensures in
     let took = c.take_front-2.ensures.taken (carry (flag false)) next in
     λ at.
     let on : DistState → NodeState (Kind × DistState) = λ s. node_state (m.kind, s) Working at in

@@ -61,11 +61,13 @@ returns-then-ends_at-clause-went g c =
     let within : n < length xs = c.ends_at.ensures.shown c.if-ends_at.true in
     let next : n + 1 ≡ suc n = omega arith in
     let flags = flag_signals (replicate n false) ++ carry (flag true) ∷ [] in
-    let block : take (n + 1) (flag_signals xs) ≡ flags = take_flags (n + 1) xs ∙ ap (λ k. flag_signals (take k xs)) next ∙ segment_block n xs within c.elements_ahead-count.ensures.ahead (c.ends_at.ensures.ends c.if-ends_at.true) in
+    let block : take (n + 1) (flag_signals xs) ≡ flags = take_flags (n + 1) xs ∙ ap (λ k. flag_signals (take k xs)) next
+    ∙ segment_block n xs within c.elements_ahead-count.ensures.ahead (c.ends_at.ensures.ends c.if-ends_at.true) in
     let taken = skipped (n + 1) (flag_signals xs) flags v (edge_of ins 1) w c.flags-shown.ensures (omega (arith, length_flags xs)) block c.skip.ensures.taken in
     λ at.
     let went = copies_went ins outs m.kind at x flags n reads writes a v w z c.space.ensures.looked (segment_rounds ins outs m.kind at x n) (omega arith) taken c.put_copies.ensures.put in
-    subst (λ q. Went ins outs b (node_state (m.kind, q) Working at) a (node_state (m.kind, at_start) Working at) z (2 * n + 1)) (sym (held_at m.held m.copies c.in-Some.item c.in-Some.is c.requires.idle)) went
+    subst (λ q. Went ins outs b (node_state (m.kind, q) Working at) a (node_state (m.kind, at_start) Working at) z (2 * n + 1))
+    (sym (held_at m.held m.copies c.in-Some.item c.in-Some.is c.requires.idle)) went
 
 -- it wrote copies
 pub returns-clause-went : goal.returns-clause-went
@@ -89,5 +91,6 @@ returns-clause-went g c =
     let block : take n (flag_signals xs) ≡ flags = take_flags n xs ∙ ap flag_signals (same_block false true n xs made.shown made.ahead) in
     let taken = skipped n (flag_signals xs) flags v (edge_of ins 1) w c.flags-shown.ensures (omega (arith, length_flags xs, made.shown)) block c.skip-2.ensures.taken in
     λ at.
-    let went = copies_went ins outs m.kind at x flags n reads writes a v w z c.space.ensures.looked (copies_rounds ins outs m.kind at x n) (omega (arith, c.if-count-eq0.false)) taken c.put_copies-2.ensures.put in
+    let went = copies_went ins outs m.kind at x flags n reads writes a v w z c.space.ensures.looked (copies_rounds ins outs m.kind at x n)
+    (omega (arith, c.if-count-eq0.false)) taken c.put_copies-2.ensures.put in
     subst (λ q. Went ins outs b (node_state (m.kind, q) Working at) a (node_state (m.kind, q) Working at) z (2 * n)) (sym (held_at m.held m.copies c.in-Some.item c.in-Some.is c.requires.idle)) went

@@ -14,7 +14,8 @@ invariant-rounds g l = let view = g.E.Ends.view in record {
   same : g.E.Ends.same l.fn.ends l.ends;
   ends : SameEnds (view l.fn.ends) (view l.ends);
   within : l.made ≤ l.most;
-  went : (at : ℕ) → Went l.fn.inputs l.fn.outputs (behaviour_of dist_machine) (node_state (dist_view l.fn.self) Working at) (view l.fn.ends) (node_state (dist_view l.self) Working at) (view l.ends) l.made;
+  went : (at : ℕ) → Went l.fn.inputs l.fn.outputs (behaviour_of dist_machine) (node_state (dist_view l.fn.self) Working at) (view l.fn.ends)
+      (node_state (dist_view l.self) Working at) (view l.ends) l.made;
 }
 
 abbrev pub decreases-rounds : goal.decreases-rounds

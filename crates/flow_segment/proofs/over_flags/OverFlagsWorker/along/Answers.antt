@@ -28,14 +28,17 @@ returns g c =
     let in_first : ran.first ≤ length (flag_signals xs) = omega (arith, did.first, length_flags xs) in
     let in_second : ran.second ≤ length (flag_signals ys) = omega (arith, did.second, length_flags ys) in
     let in_block : ran.written ≤ length zs = omega (arith, did.written, did.block, c.room_in-room.ensures.within, c.requires) in
-    let firsts : flag_signals (take ran.first xs) ≡ take ran.first (shown_signals first) = sym (take_flags ran.first xs) ∙ sym (shown (flag_signals xs) (shown_signals first) ran.first c.flags-firsts.ensures in_first) in
-    let seconds : flag_signals (take ran.second ys) ≡ take ran.second (shown_signals second) = sym (take_flags ran.second ys) ∙ sym (shown (flag_signals ys) (shown_signals second) ran.second c.flags-seconds.ensures in_second) in
+    let firsts : flag_signals (take ran.first xs) ≡ take ran.first (shown_signals first) = sym (take_flags ran.first xs)
+    ∙ sym (shown (flag_signals xs) (shown_signals first) ran.first c.flags-firsts.ensures in_first) in
+    let seconds : flag_signals (take ran.second ys) ≡ take ran.second (shown_signals second) = sym (take_flags ran.second ys)
+    ∙ sym (shown (flag_signals ys) (shown_signals second) ran.second c.flags-seconds.ensures in_second) in
     let written : (q : ℕ) → only (flag_signals (take ran.written zs)) q ≡ written_at m tt block made q = λ q. elim (cases_eq t.outputs 1) [
       | inl one ↦ first_only m tt block made (flag_signals (take ran.written zs)) one refl q
       | inr other ↦ (let none : ran.written ≡ 0 = omega (arith, did.written, c.room_in-room.ensures.none other) in
           ap (λ n. only (flag_signals (take n zs)) q) none ∙ nothing_said (eqb q 0) ∙ no_writes m tt block made refl none refl q)
     ] in
-    let steps : length (take ran.first xs) + length (take ran.second ys) + length (take ran.written zs) ≡ made.steps = omega (arith, length-take-le ran.first xs did.first, length-take-le ran.second ys did.second, length-take-le ran.written zs in_block) in
+    let steps : length (take ran.first xs) + length (take ran.second ys) + length (take ran.written zs) ≡ made.steps =
+    omega (arith, length-take-le ran.first xs did.first, length-take-le ran.second ys did.second, length-take-le ran.written zs in_block) in
     record {
       within = record {
         first = omega (arith, in_first, prefix_long (flag_signals xs) (shown_signals first) c.flags-firsts.ensures);

@@ -38,13 +38,20 @@ returns-in-Int c =
     let in_xs : n ≤ length xs = omega (arith, c.min-whole.ensures) in
     let kept_are = c.keep-count.ensures.kept in
     let long = c.keep-count.auto.block in
-    let within : count ≤ length c.keep-count.new.block = omega (arith, long, c.keep-count.ensures.within, length-take-le n bs in_bs, c.min.ensures, c.min-room.ensures, c.min-whole.ensures, c.requires) in
+    let within : count ≤ length c.keep-count.new.block =
+    omega (arith, long, c.keep-count.ensures.within, length-take-le n bs in_bs, c.min.ensures, c.min-room.ensures, c.min-whole.ensures, c.requires)
+    in
     let counts : count ≡ length zs = sym (length-take-le count c.keep-count.new.block within) ∙ ap length kept_are in
     let few : count ≤ n = omega (arith, c.keep-count.ensures.within, length-take-le n bs in_bs) in
     let steps : 2 * n + length zs ≡ 2 * n + count = omega (arith, counts) in
-    let ran = single_ran pack_machine IntKind (flag_signals (take n bs)) (int_signals (take n xs)) (int_signals zs) (first_pairs IntKind int (λ x. refl) bs xs n in_bs in_xs) first second written made refl (flags_shown first bs n c.flags-truths.ensures in_bs) (ints_shown second xs n c.ints-items.ensures in_xs) (ap int_signals (sym kept_are)) steps in
+    let ran = single_ran pack_machine IntKind (flag_signals (take n bs)) (int_signals (take n xs)) (int_signals zs)
+    (first_pairs IntKind int (λ x. refl) bs xs n in_bs in_xs) first second written made refl (flags_shown first bs n c.flags-truths.ensures in_bs)
+    (ints_shown second xs n c.ints-items.ensures in_xs) (ap int_signals (sym kept_are)) steps in
     let state : Kind → Pair → Kind × PackState = λ k pair. (k, pack_state pair) in
-    subst (λ k. MovesAlong pack_machine (state k c.args.self.now.pair) (state k c.args.self.now.pair) first second c.args.space c.args.most written made) (sym c.in-Int.is) (subst (λ pair. MovesAlong pack_machine (state IntKind pair) (state IntKind pair) first second c.args.space c.args.most written made) (sym c.in-Start.is) (record {
+    subst (λ k. MovesAlong pack_machine (state k c.args.self.now.pair) (state k c.args.self.now.pair) first second c.args.space c.args.most written
+    made) (sym c.in-Int.is)
+    (subst (λ pair. MovesAlong pack_machine (state IntKind pair) (state IntKind pair) first second c.args.space c.args.most written made)
+    (sym c.in-Start.is) (record {
       within = record {
         first = omega (arith, in_bs, flags_within first bs c.flags-truths.ensures);
         second = omega (arith, in_xs, ints_within second xs c.ints-items.ensures);
@@ -71,13 +78,28 @@ returns-in-Bool c =
     let in_xs : n ≤ length xs = omega (arith, c.min-whole-in-Bool.ensures) in
     let kept_are = c.keep-count-in-Bool.ensures.kept in
     let long = c.keep-count-in-Bool.auto.block in
-    let within : count ≤ length c.keep-count-in-Bool.new.block = omega (arith, long, c.keep-count-in-Bool.ensures.within, length-take-le n bs in_bs, c.min.ensures, c.min-room.ensures, c.min-whole-in-Bool.ensures, c.requires) in
+    let within : count ≤ length c.keep-count-in-Bool.new.block =
+    omega (
+      arith,
+      long,
+      c.keep-count-in-Bool.ensures.within,
+      length-take-le n bs in_bs,
+      c.min.ensures,
+      c.min-room.ensures,
+      c.min-whole-in-Bool.ensures,
+      c.requires,
+    ) in
     let counts : count ≡ length zs = sym (length-take-le count c.keep-count-in-Bool.new.block within) ∙ ap length kept_are in
     let few : count ≤ n = omega (arith, c.keep-count-in-Bool.ensures.within, length-take-le n bs in_bs) in
     let steps : 2 * n + length zs ≡ 2 * n + count = omega (arith, counts) in
-    let ran = single_ran pack_machine BoolKind (flag_signals (take n bs)) (flag_signals (take n xs)) (flag_signals zs) (first_pairs BoolKind flag (λ x. refl) bs xs n in_bs in_xs) first second written made refl (flags_shown first bs n c.flags-truths.ensures in_bs) (flags_shown second xs n c.flags-items.ensures in_xs) (ap flag_signals (sym kept_are)) steps in
+    let ran = single_ran pack_machine BoolKind (flag_signals (take n bs)) (flag_signals (take n xs)) (flag_signals zs)
+    (first_pairs BoolKind flag (λ x. refl) bs xs n in_bs in_xs) first second written made refl (flags_shown first bs n c.flags-truths.ensures in_bs)
+    (flags_shown second xs n c.flags-items.ensures in_xs) (ap flag_signals (sym kept_are)) steps in
     let state : Kind → Pair → Kind × PackState = λ k pair. (k, pack_state pair) in
-    subst (λ k. MovesAlong pack_machine (state k c.args.self.now.pair) (state k c.args.self.now.pair) first second c.args.space c.args.most written made) (sym c.in-Bool.is) (subst (λ pair. MovesAlong pack_machine (state BoolKind pair) (state BoolKind pair) first second c.args.space c.args.most written made) (sym c.in-Start.is) (record {
+    subst (λ k. MovesAlong pack_machine (state k c.args.self.now.pair) (state k c.args.self.now.pair) first second c.args.space c.args.most written
+    made) (sym c.in-Bool.is)
+    (subst (λ pair. MovesAlong pack_machine (state BoolKind pair) (state BoolKind pair) first second c.args.space c.args.most written made)
+    (sym c.in-Start.is) (record {
       within = record {
         first = omega (arith, in_bs, flags_within first bs c.flags-truths.ensures);
         second = omega (arith, in_xs, flags_within second xs c.flags-items.ensures);
@@ -111,9 +133,14 @@ returns-in-Unit c =
     let steps : 2 * n + length zs ≡ 2 * n + count = omega (arith, counts) in
     let seconds = units_one_by_one (take n xs) ∙ ap unit_signals (length-take-le n xs in_xs) ∙ units_shown second items n c.units-items.ensures in_items in
     let told = units_one_by_one zs ∙ ap unit_signals counts in
-    let ran = single_ran pack_machine UnitKind (flag_signals (take n bs)) (map (λ x. carry (said x)) (take n xs)) (map (λ x. carry (said x)) zs) (first_pairs UnitKind said (λ x. refl) bs xs n in_bs in_xs) first second c.args.block.now made refl (flags_shown first bs n c.flags-truths.ensures in_bs) seconds told steps in
+    let ran = single_ran pack_machine UnitKind (flag_signals (take n bs)) (map (λ x. carry (said x)) (take n xs)) (map (λ x. carry (said x)) zs)
+    (first_pairs UnitKind said (λ x. refl) bs xs n in_bs in_xs) first second c.args.block.now made refl
+    (flags_shown first bs n c.flags-truths.ensures in_bs) seconds told steps in
     let state : Kind → Pair → Kind × PackState = λ k pair. (k, pack_state pair) in
-    subst (λ k. MovesAlong pack_machine (state k c.args.self.now.pair) (state k c.args.self.now.pair) first second c.args.space c.args.most c.args.block.now made) (sym c.in-Unit.is) (subst (λ pair. MovesAlong pack_machine (state UnitKind pair) (state UnitKind pair) first second c.args.space c.args.most c.args.block.now made) (sym c.in-Start.is) (record {
+    subst (λ k. MovesAlong pack_machine (state k c.args.self.now.pair) (state k c.args.self.now.pair) first second c.args.space c.args.most
+    c.args.block.now made) (sym c.in-Unit.is)
+    (subst (λ pair. MovesAlong pack_machine (state UnitKind pair) (state UnitKind pair) first second c.args.space c.args.most c.args.block.now made)
+    (sym c.in-Start.is) (record {
       within = record {
         first = omega (arith, in_bs, flags_within first bs c.flags-truths.ensures);
         second = omega (arith, in_items, units_within second items c.units-items.ensures);

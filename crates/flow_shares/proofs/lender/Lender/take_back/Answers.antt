@@ -12,7 +12,8 @@ invariant_of-result g c =
     let before = g.E.Ends.view share.ends in
     let after = g.E.Ends.view c.args.ends in
     record {
-      there = subst (λ nodes. All (HasItsEnds after) nodes.items) (sym lender.same_nodes) (there_later share.nodes.items share.nodes.items (same_places_refl share.nodes.items) before after c.requires.ends share.there);
+      there = subst (λ nodes. All (HasItsEnds after) nodes.items) (sym lender.same_nodes)
+          (there_later share.nodes.items share.nodes.items (same_places_refl share.nodes.items) before after c.requires.ends share.there);
       apart = subst (λ nodes. AreApart nodes.items) (sym lender.same_nodes) share.apart;
       own = λ fed. subst (λ nodes. All (IsOwn after) nodes.items) (sym lender.same_nodes) (own_stay share.nodes.items before after c.requires.traffic (share.own (sym lender.same_starved ∙ fed)));
     }

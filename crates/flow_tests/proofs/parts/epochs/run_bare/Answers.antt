@@ -9,5 +9,22 @@ pub run_epochs-requires : goal.run_epochs-requires
 run_epochs-requires g c κs within =
     let shares = c.args.shares.items in
     let bare : All (λ share. length share.nodes.items ≡ 0) shares = search rules in
-    let none : All (λ share. HasNoEnds (ends_of share.ends)) shares = search rules in
-    (search rules, (search rules, (search rules, (search rules, (search rules, (search rules, (search rules, (search rules, (search rules, (search rules, (search rules, (no_owners, (bare_graph shares bare none, search rules)))))))))))))
+    let none : All (λ share. HasNoEnds (ends_of share.ends)) shares = search rules in (
+      search rules,
+      (
+        search rules,
+        (
+          search rules,
+          (
+            search rules,
+            (
+              search rules,
+              (
+                search rules,
+                (search rules, (search rules, (search rules, (search rules, (search rules, (no_owners, (bare_graph shares bare none, search rules))))))),
+              ),
+            ),
+          ),
+        ),
+      ),
+    )

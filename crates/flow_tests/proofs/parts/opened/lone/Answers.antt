@@ -17,4 +17,5 @@ returns-clause-takes g c =
     let view = g.E.Ends.view in
     let all = fresh_as view g.E.Meeting.joins g.E.Meeting.slots 1 c.own_owner.ensures (c.deref.ensures.value ∙ c.in_ok-kinds.ensures) refl c.in_ok-ends.ensures.opened in
     let x = c.swap_remove.result in
-    subst (λ x. AllTake (view x) c.args.kind) (sym c.swap_remove.ensures.value) (fresh_take _ _ c.args.kind 1 0 (view (get_or c.in_ok-ends.ends.items 0 x)) refl (all.fresh 0 x (omega (arith, c.in_ok-ends.ensures.count))))
+    subst (λ x. AllTake (view x) c.args.kind) (sym c.swap_remove.ensures.value)
+    (fresh_take _ _ c.args.kind 1 0 (view (get_or c.in_ok-ends.ends.items 0 x)) refl (all.fresh 0 x (omega (arith, c.in_ok-ends.ensures.count))))

@@ -16,5 +16,16 @@ gather_graph-requires g c κs within =
     let shares = c.in_ok-dealt.dealt.shares.items in
     let dealt = c.in_ok-dealt.ensures in
     let nodes = c.nodes-nodes.ensures ∙ length-map (nodes_of graph) placed_state in
-    let deals = as_given share (nodes_of graph) (nodes_in shares) dealt.nodes in
-    (within.0, (within.1, (clauses.1.1.0, (nodes ∙ ap (λ s. length s.nodes) is, (ap (λ s. s.share) is, (dealt.skeleton ∙ ap (λ s. s.edges) is, subst (λ s. AreDealt s.share s.nodes (nodes_in shares)) is deals))))))
+    let deals = as_given share (nodes_of graph) (nodes_in shares) dealt.nodes in (
+      within.0,
+      (
+        within.1,
+        (
+          clauses.1.1.0,
+          (
+            nodes ∙ ap (λ s. length s.nodes) is,
+            (ap (λ s. s.share) is, (dealt.skeleton ∙ ap (λ s. s.edges) is, subst (λ s. AreDealt s.share s.nodes (nodes_in shares)) is deals)),
+          ),
+        ),
+      ),
+    )

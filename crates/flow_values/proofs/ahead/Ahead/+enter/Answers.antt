@@ -19,7 +19,10 @@ invariant_of-place t c =
     let h = second_fits first second c.args.port c.args.brackets fits in
     let count : c.edge_count.result ≡ width first = c.edge_count.ensures ∙ ap (λ x. width (ty_of x)) c.deref-in-Pair-default-2.ensures in
     let copy : ty_of c.in_ok-copy_ty-in-Pair-default.field-0 ≡ second = c.in_ok-copy_ty-in-Pair-default.ensures ∙ ap ty_of c.deref-in-Pair-default.ensures in
-    record { fits = subst (λ n. PortsFit (ty_of c.in_ok-copy_ty-in-Pair-default.field-0) (c.args.port + n) (c.args.brackets + 1)) (sym count) (subst (λ s. PortsFit s (c.args.port + width first) (c.args.brackets + 1)) (sym copy) h) }
+    record {
+      fits = subst (λ n. PortsFit (ty_of c.in_ok-copy_ty-in-Pair-default.field-0) (c.args.port + n) (c.args.brackets + 1)) (sym count)
+          (subst (λ s. PortsFit s (c.args.port + width first) (c.args.brackets + 1)) (sym copy) h);
+    }
 
 pub returns-in_ok-add-in-Pair-default : goal.returns-in_ok-add-in-Pair-default
 returns-in_ok-add-in-Pair-default t c =
@@ -29,12 +32,15 @@ returns-in_ok-add-in-Pair-default t c =
     let count : c.edge_count.result ≡ width first = c.edge_count.ensures ∙ ap (λ x. width (ty_of x)) c.deref-in-Pair-default-2.ensures in
     let copy : ty_of c.in_ok-copy_ty-in-Pair-default.field-0 ≡ second = c.in_ok-copy_ty-in-Pair-default.ensures ∙ ap ty_of c.deref-in-Pair-default.ensures in
     let one : c.args.brackets + 1 ≡ suc c.args.brackets = omega arith in
-    let there : LeadsAhead (entered_value first c.args.port 0 x) c.enter.result c.add.new.self c.enter.new.self = subst (λ ty. LeadsAhead (entered_value (ty_of ty) c.args.port 0 x) c.enter.result c.add.new.self c.enter.new.self) c.deref-in-Pair-default-3.ensures c.enter.ensures in
+    let there : LeadsAhead (entered_value first c.args.port 0 x) c.enter.result c.add.new.self c.enter.new.self =
+    subst (λ ty. LeadsAhead (entered_value (ty_of ty) c.args.port 0 x) c.enter.result c.add.new.self c.enter.new.self)
+    c.deref-in-Pair-default-3.ensures c.enter.ensures in
     subst (λ ty. LeadsAhead (entered_value (ty_of ty) c.args.port c.args.brackets x) c.enter.result c.args.self.now c.enter.new.self) (sym c.in-Pair-default.is-0)
     (leads_pair first second c.args.port c.args.brackets x c.args.self.now c.add.new.self c.enter.new.self c.say.new.self.pending.items _
     (c.add.ensures.text ∙ c.in_ok-say-in-Pair-default.ensures.text)
     c.say.ensures.pending
     c.in_ok-add-in-Pair-default.ensures.pending
-    (ap (λ s. whole true s (c.args.port + c.edge_count.result) (c.args.brackets + 1)) copy ∙ ap (λ n. whole true second (c.args.port + n) (c.args.brackets + 1)) count ∙ ap (whole true second (c.args.port + width first)) one)
+    (ap (λ s. whole true s (c.args.port + c.edge_count.result) (c.args.brackets + 1)) copy
+    ∙ ap (λ n. whole true second (c.args.port + n) (c.args.brackets + 1)) count ∙ ap (whole true second (c.args.port + width first)) one)
     c.enter.result
     there)

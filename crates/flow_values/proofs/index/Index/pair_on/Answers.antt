@@ -20,14 +20,16 @@ returns-then-not-room-clause-went g c = λ at.
     let b = behaviour_of index_machine in
     let ins = c.args.inputs.now in
     let outs = c.args.outputs.now in
-    went_looked b ins outs (went_none b ins outs (node_state (index_view c.args.self.now) Working at) (g.E.Ends.view c.args.ends.now)) 0 (g.E.Ends.view c.room.new.self) c.requires.some c.room.ensures.looked
+    went_looked b ins outs (went_none b ins outs (node_state (index_view c.args.self.now) Working at) (g.E.Ends.view c.args.ends.now)) 0
+    (g.E.Ends.view c.room.new.self) c.requires.some c.room.ensures.looked
 
 pub returns-in_default-clause-went : goal.returns-in_default-clause-went
 returns-in_default-clause-went g c = λ at.
     let b = behaviour_of index_machine in
     let ins = c.args.inputs.now in
     let outs = c.args.outputs.now in
-    went_looked b ins outs (went_none b ins outs (node_state (index_view c.args.self.now) Working at) (g.E.Ends.view c.args.ends.now)) 0 (g.E.Ends.view c.room.new.self) c.requires.some c.room.ensures.looked
+    went_looked b ins outs (went_none b ins outs (node_state (index_view c.args.self.now) Working at) (g.E.Ends.view c.args.ends.now)) 0
+    (g.E.Ends.view c.room.new.self) c.requires.some c.room.ensures.looked
 
 -- it read a vector and an index, and wrote the element
 pub returns-clause-ends : goal.returns-clause-ends

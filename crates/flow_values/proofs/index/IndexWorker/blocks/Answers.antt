@@ -10,7 +10,9 @@ use Rattle.flow_values.proofs.index.IndexWorker.blocks.Goals as goal
 
 -- within an instance it made no step
 pub returns-in_default-clause-went : goal.returns-in_default-clause-went
-returns-in_default-clause-went g c = λ at. went_none (behaviour_of index_machine) c.args.inputs.now c.args.outputs.now (node_state (index_view c.args.self.now) Working at) (g.E.Ends.view c.args.ends.now)
+returns-in_default-clause-went g c =
+    λ at. went_none (behaviour_of index_machine) c.args.inputs.now c.args.outputs.now (node_state (index_view c.args.self.now) Working at)
+    (g.E.Ends.view c.args.ends.now)
 
 pub pairs-requires-clause-between : goal.pairs-requires-clause-between
 pairs-requires-clause-between g c =

@@ -12,7 +12,8 @@ returns-then-fits c =
     found_ahead (ty_of self.ty) self.pending.items self.text.items self.closing self.stuck self.at c.in-Some.pending.now c.requires
     (ap (λ l. slice_get l (length l - 1)) (sym c.deref.ensures.value) ∙ sym c.in-Some.ensures.value)
     (cell_of c.args.item.now)
-    (ap (λ p. is_of (kind_at (kinds_of (ty_of self.ty)) p) (cell_of c.args.item.now)) (sym c.port.ensures) ∙ ap (λ k. is_of k (cell_of c.args.item.now)) (sym c.kind_in.ensures) ∙ sym c.if-fits.ensures)
+    (ap (λ p. is_of (kind_at (kinds_of (ty_of self.ty)) p) (cell_of c.args.item.now)) (sym c.port.ensures)
+    ∙ ap (λ k. is_of k (cell_of c.args.item.now)) (sym c.kind_in.ensures) ∙ sym c.if-fits.ensures)
     c.after.result c.after.ensures
 
 pub returns-else-fits : goal.returns-else-fits
@@ -21,4 +22,5 @@ returns-else-fits c =
     found_none (ty_of self.ty) self.pending.items self.text.items self.closing self.stuck self.at c.in-Some.pending.now c.requires
     (ap (λ l. slice_get l (length l - 1)) (sym c.deref.ensures.value) ∙ sym c.in-Some.ensures.value)
     (cell_of c.args.item.now)
-    (ap (λ p. is_of (kind_at (kinds_of (ty_of self.ty)) p) (cell_of c.args.item.now)) (sym c.port.ensures) ∙ ap (λ k. is_of k (cell_of c.args.item.now)) (sym c.kind_in.ensures) ∙ sym c.if-fits.ensures)
+    (ap (λ p. is_of (kind_at (kinds_of (ty_of self.ty)) p) (cell_of c.args.item.now)) (sym c.port.ensures)
+    ∙ ap (λ k. is_of k (cell_of c.args.item.now)) (sym c.kind_in.ensures) ∙ sym c.if-fits.ensures)

@@ -11,14 +11,18 @@ pub returns-in_err-datum-clause-sure : goal.returns-in_err-datum-clause-sure
 returns-in_err-datum-clause-sure c spared =
     let self = c.args.self.now in
     let within : self.begun < length (entries c.in-Some.elements) = omega (arith, c.len.ensures, c.if-self-len.false) in
-    let never : true ≡ false = may_be_refused (ty_of self.element) (map due_cell self.dues.items) self.vector c.in-Some.elements self.begun (ap (map due_cell) c.requires.none) c.in-Some.is within ∙ spared in
+    let never : true ≡ false =
+    may_be_refused (ty_of self.element) (map due_cell self.dues.items) self.vector c.in-Some.elements self.begun (ap (map due_cell) c.requires.none)
+    c.in-Some.is within ∙ spared in
     absurd (cc)
 
 pub returns-then-is_err-clause-sure : goal.returns-then-is_err-clause-sure
 returns-then-is_err-clause-sure c spared =
     let self = c.args.self.now in
     let within : self.begun < length (entries c.in-Some.elements) = omega (arith, c.len.ensures, c.if-self-len.false) in
-    let never : true ≡ false = may_be_refused (ty_of self.element) (map due_cell self.dues.items) self.vector c.in-Some.elements self.begun (ap (map due_cell) c.requires.none) c.in-Some.is within ∙ spared in
+    let never : true ≡ false =
+    may_be_refused (ty_of self.element) (map due_cell self.dues.items) self.vector c.in-Some.elements self.begun (ap (map due_cell) c.requires.none)
+    c.in-Some.is within ∙ spared in
     sym never
 
 pub unreachable-requires-in_default-2 : goal.unreachable-requires-in_default-2

@@ -6,7 +6,9 @@ use Rattle.flow_values.specs.SeqMachine.{left_dues}
 use Rattle.flow_values.specs.declared.seq.Seq.{Seq}
 use Rattle.flow_values.proofs.Layings.{paired}
 use Rattle.flow_values.proofs.SeqAlong.{fronts, ints_due, ints_held, moves_as, none_held, wrote_all, wrote_some}
-use Rattle.flow_values.proofs.seq.SeqWorker.along.Goals.{then-rounds-left-via-then-rounds-left, then-rounds-left-via-else-rounds-left+then-rounds-space, then-rounds-left-via-else-rounds-left+else-rounds-space+then-rounds-most}
+use Rattle.flow_values.proofs.seq.SeqWorker.along.Goals.{then-rounds-left-via-then-rounds-left}
+use Rattle.flow_values.proofs.seq.SeqWorker.along.Goals.{then-rounds-left-via-else-rounds-left+then-rounds-space}
+use Rattle.flow_values.proofs.seq.SeqWorker.along.Goals.{then-rounds-left-via-else-rounds-left+else-rounds-space+then-rounds-most}
 use Rattle.flow_values.proofs.seq.SeqWorker.along.Goals as goal
 
 -- rounds

@@ -10,7 +10,12 @@ pub invariant_of-self-2 : goal.invariant_of-self-2
 invariant_of-self-2 c =
     let self = c.args.self.now in
     let next = fits_after (ty_of self.element) self.items.items c.args.item c.len.result (c.len.ensures ∙ self.items.ok.0) c.if-not-part_fits.ensures in
-    record { kinds_are = self.kinds_are; elements_are = self.elements_are; items_fit = parts_pushed (ty_of self.element) self.items.items c.push.new.self.items c.args.item _ self.items_fit next c.push.ensures.items }
+    record {
+      kinds_are = self.kinds_are;
+      elements_are = self.elements_are;
+      items_fit =
+          parts_pushed (ty_of self.element) self.items.items c.push.new.self.items c.args.item _ self.items_fit next c.push.ensures.items;
+    }
 
 pub returns-then-is_err : goal.returns-then-is_err
 returns-then-is_err c =

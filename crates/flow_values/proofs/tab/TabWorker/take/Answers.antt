@@ -17,4 +17,6 @@ returns-in-Item-clause-takes c =
     let x = cell_of c.args.item in
     let new = c.take_item.new.self in
     let after : Ty × TabState = (ty_of new.element, tab_state new.stage (built_in new.elements) (map cell_of new.items.items)) in
-    subst (λ r. Takes r (ty, tab_state self.stage es got) c.take_item.result after) (ap (with_parameters ty) (item_taken ty es got x) ∙ sym (ap (λ s. with_parameters ty (state_after_read (tab_move ty (tab_state s es got)) x)) c.in-Item.is)) c.take_item.ensures
+    subst (λ r. Takes r (ty, tab_state self.stage es got) c.take_item.result after)
+    (ap (with_parameters ty) (item_taken ty es got x)
+    ∙ sym (ap (λ s. with_parameters ty (state_after_read (tab_move ty (tab_state s es got)) x)) c.in-Item.is)) c.take_item.ensures

@@ -6,7 +6,8 @@ use Rattle.snesl_expressions.proofs.measured.Bound.with.Goals as goal
 
 pub invariant_of-result : goal.invariant_of-result
 invariant_of-result c =
-    let grown = ap (λ bs. depth_of_binders (binders_of bs)) c.in_ok-push.ensures.items ∙ depth_of_binders-push c.args.self.binders.items (record { name = c.args.name; source = c.into_inner-source.result }) in
+    let grown = ap (λ bs. depth_of_binders (binders_of bs)) c.in_ok-push.ensures.items
+    ∙ depth_of_binders-push c.args.self.binders.items (record { name = c.args.name; source = c.into_inner-source.result }) in
     let same = ap (λ e. depth (tree_of e)) c.into_inner-source.ensures in
     record { exact = omega (arith, grown, same, c.max-deep.ensures, c.args.self.exact, c.args.source.exact) }
 
