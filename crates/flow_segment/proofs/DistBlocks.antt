@@ -9,7 +9,6 @@ use Rattle.flow_messages.specs.Blocks.{unit_signals, flag_signals, int_signals}
 use Rattle.flow_messages.specs.Signals.{Signal, carry, ended}
 use Rattle.flow_messages.specs.declared.message.Item.{Item}
 use Rattle.flow_messages.specs.declared.message.Kind.{Kind}
-use Rattle.flow_messages.specs.Kinds.{FitsEdge, TakesKind}
 use Rattle.flow_base.specs.Machines.{on_kind}
 use Rattle.flow_base.specs.Nodes.{NodeState, behaviour_of, node_state}
 use Rattle.flow_base.specs.Visits.{edge_of, Went}

@@ -13,6 +13,8 @@ pub mod InterleaveGroupsMachine
 pub mod PartFlagsMachine
 pub mod Rows
 pub mod laws
+pub mod DistSteps
+pub mod FlagSteps
 -- what the public clauses cite of the crates below
 pub use Rattle.snesl_data.specs.Types
 pub use Rattle.snesl_data.specs.Values
@@ -21,6 +23,7 @@ pub use Rattle.flow_messages.specs.Cells
 pub use Rattle.flow_messages.specs.Signals
 pub use Rattle.flow_base.specs.Machines
 pub use Rattle.flow_base.specs.Workers
+pub use Rattle.flow_base.specs.Calls
 -- and those of the nodes of vectors and of the text
 pub use Rattle.flow_values.specs.Shapes
 pub use Rattle.flow_values.specs.TabMachine

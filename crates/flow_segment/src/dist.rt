@@ -12,6 +12,7 @@ ghost use Rattle.flow_base.specs.Nodes.{behaviour_of, node_state};
 ghost use Rattle.flow_base.specs.Visits.{edge_of, PortsHaveEdges, Went};
 ghost use Rattle.flow_base.specs.declared.node.Phase.TheVariants.{Working};
 ghost use Rattle.flow_segment.specs.DistMachine.{dist_machine, dist_view};
+ghost use Rattle.flow_segment.specs.DistSteps.{DistWent, PutCopies, TookItem};
 
 use flow_base::{Ask, BLOCK, SHORT_BLOCK, Stop, Worker, put_in_space, take_front};
 use flow_messages::{Ends, Flat, Item, Kind, Msg};
@@ -102,8 +103,7 @@ fn put_copies<E: Ends>(item: &Item, to: usize, count: usize, ends: &mut E, block
     requires kind { FitsEdge ((E.view ends.old).kind to) (carry (cell_of item.now)) }
     requires certain { count ≤ (E.view ends.old).room to }
     ensures same { E.same ends.old ends.new }
-    ensures put { PutAll (E.view ends.old) to (replicate count (carry (cell_of item.now)))
-        (E.view ends.new) }
+    ensures put { PutCopies (E.view ends.old) to count item.now (E.view ends.new) }
 {
     match item {
         Item::Unit => ends.put_units(to, count),
@@ -133,7 +133,7 @@ fn take_shown<E: Ends>(kind: Kind, from: usize, ends: &mut E) -> Option<Item>
     ensures same { E.same ends.old ends.new }
     ensures none { IfNone result (E.view ends.new ≡ E.view ends.old) }
     ensures taken { IfSome result (λ item.
-        TakenAll (E.view ends.old) from (carry (cell_of item) ∷ []) (E.view ends.new)) }
+        TookItem (E.view ends.old) from item (E.view ends.new)) }
     ensures kind { IfSome result (λ item. is_of kind (cell_of item) ≡ true) }
 {
     let item = match kind {
@@ -198,9 +198,8 @@ impl Dist {
         ensures same { E.same ends.old ends.new }
         ensures ends { SameEnds (E.view ends.old) (E.view ends.new) }
         ensures within { result ≤ 1 }
-        ensures went { (at : ℕ) → Went inputs.now outputs.now (behaviour_of dist_machine)
-            (node_state (dist_view self.old) Working at) (E.view ends.old)
-            (node_state (dist_view self.new) Working at) (E.view ends.new) result }
+        ensures went { DistWent E.Ends inputs.now outputs.now self.old ends.old self.new ends.new
+            result }
     {
         let Some(item) = take_shown(self.kind, inputs[0], ends) else {
             return 0;
@@ -228,9 +227,8 @@ impl Dist {
         ensures same { E.same ends.old ends.new }
         ensures ends { SameEnds (E.view ends.old) (E.view ends.new) }
         ensures within { result ≤ most }
-        ensures went { (at : ℕ) → Went inputs.now outputs.now (behaviour_of dist_machine)
-            (node_state (dist_view self.old) Working at) (E.view ends.old)
-            (node_state (dist_view self.new) Working at) (E.view ends.new) result }
+        ensures went { DistWent E.Ends inputs.now outputs.now self.old ends.old self.new ends.new
+            result }
     {
         let Some(item) = &self.held else {
             return 0;
@@ -277,9 +275,8 @@ impl Dist {
         ensures same { E.same ends.old ends.new }
         ensures ends { SameEnds (E.view ends.old) (E.view ends.new) }
         ensures within { result ≤ most }
-        ensures went { (at : ℕ) → Went inputs.now outputs.now (behaviour_of dist_machine)
-            (node_state (dist_view self.old) Working at) (E.view ends.old)
-            (node_state (dist_view self.new) Working at) (E.view ends.new) result }
+        ensures went { DistWent E.Ends inputs.now outputs.now self.old ends.old self.new ends.new
+            result }
     {
         let Some(item) = &self.held else {
             return self.hold_next(inputs, outputs, ends);
@@ -323,9 +320,8 @@ impl Dist {
         ensures same { E.same ends.old ends.new }
         ensures ends { SameEnds (E.view ends.old) (E.view ends.new) }
         ensures within { result ≤ most }
-        ensures went { (at : ℕ) → Went inputs.now outputs.now (behaviour_of dist_machine)
-            (node_state (dist_view self.old) Working at) (E.view ends.old)
-            (node_state (dist_view self.new) Working at) (E.view ends.new) result }
+        ensures went { DistWent E.Ends inputs.now outputs.now self.old ends.old self.new ends.new
+            result }
     {
         let mut made = 0;
         'rounds: loop {

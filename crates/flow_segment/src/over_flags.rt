@@ -5,6 +5,7 @@ ghost use Rattle.flow_messages.specs.Cells.{flag};
 ghost use Rattle.flow_messages.specs.Signals.{carry};
 ghost use Rattle.flow_base.specs.Machines.{Leads, on_flag};
 ghost use Rattle.flow_segment.specs.FlagBlocks.{RunsOver};
+ghost use Rattle.flow_segment.specs.FlagSteps.{FlagLeads, RanOver};
 
 use flow_base::{Ask, Moved, Shown, Stop, Worker, Written};
 use flow_messages::{Flat, Item, Kind};
@@ -92,8 +93,7 @@ fn stage_after<S: Copy>(
     place: usize,
 ) -> Option<S>
     ensures shown { IfSome result (λ _. place < length flags.now) }
-    ensures leads { IfSome result (λ next.
-        Leads (on_flag at_f at_t) (carry (flag (get_or flags.now place false))) next) }
+    ensures leads { IfSome result (λ next. FlagLeads at_f at_t flags.now place next) }
 {
     if place >= flags.len() {
         return None;
@@ -118,8 +118,7 @@ fn run_over<S: Stage>(
     ensures written { result.written ≤ room }
     ensures within { result.first + result.second + result.written ≤ most }
     ensures block { length block.new ≡ length block.old }
-    ensures ran { RunsOver S.table stage (take result.first firsts.now)
-        (take result.second seconds.now) (take result.written block.new) result.stage }
+    ensures ran { RanOver S.table stage firsts.now seconds.now block.new result }
 {
     let mut ran = Ran {
         stage,

@@ -13,7 +13,6 @@ use Rattle.flow_segment.specs.laws.FlagLaws.{from_start}
 use Rattle.flow_segment.specs.InterleaveMachine.{InterleaveState, at_start, at_flag, at_item, at_copy, flag_of, interleave_move, interleave_machine}
 use Rattle.flow_segment.specs.declared.interleave.Side.{Side}
 use Rattle.flow_segment.specs.declared.interleave.Side.TheVariants.{Left, Right}
-use Rattle.flow_segment.specs.declared.interleave.Interleave.{Interleave}
 
 sound : (k : Kind) (s : InterleaveState) → SoundAt interleave_machine k s (interleave_move k s)
 sound k at_start = (refl, (omega arith, refl, λ _. (tt, tt), λ _ _ _. (tt, tt)))

@@ -9,7 +9,6 @@ use Rattle.flow_base.specs.Machines.{Run, Runs, SoundAt, MachineLaws}
 use Rattle.flow_base.specs.MachineRuns.{leads_on, led_on, reading, writing, Then, run_is}
 use Rattle.flow_segment.specs.Rows.{Pairs, pair_items, pack_reads, items_kept}
 use Rattle.flow_segment.specs.PackMachine.{PackState, at_start, at_item, at_copy, pack_move, pack_machine}
-use Rattle.flow_segment.specs.declared.pack.Pack.{Pack}
 
 sound : (k : Kind) (s : PackState) → SoundAt pack_machine k s (pack_move k s)
 sound k at_start = (refl, (omega arith, refl, λ _. (tt, tt), λ _ _ _. (tt, tt)))
