@@ -85,7 +85,8 @@ module _ {S : Type 0} (b : Behaviour S) (capacity : ℕ) (states : List S) (edge
         unfolding left_of
         left_falls settles false h visits = absurd (cc)
         left_falls settles true h visits =
-            visited_falls b.process (network_of b states edges) (Some capacity) wired settles nodes (configuration_of b states' view') (configuration_of b states'' view'') reached (visited true visits)
+            visited_falls b.process (network_of b states edges) (Some capacity) wired settles nodes (configuration_of b states' view')
+            (configuration_of b states'' view'') reached (visited true visits)
 
 -- the same of a graph and its ends, after one pass more
 module _ {X Y : Type 0} {t : Ghosts X} (Same : Y → Y → Type 0) (view : Y → View) (capacity : Y → ℕ)
