@@ -6,3 +6,5 @@ pub mod Items
 pub mod Laws
 pub mod TextSources
 pub mod Sends
+pub mod Scans
+pub mod SourceSteps

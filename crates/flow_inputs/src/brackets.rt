@@ -5,7 +5,7 @@ ghost use Rattle.snesl_values.specs.Marks.{sign_mark};
 ghost use Rattle.flow_inputs.specs.declared.turns.Component.{Component};
 ghost use Rattle.flow_inputs.specs.declared.turns.Leaf.{Leaf};
 ghost use Rattle.flow_inputs.specs.Turns.{state, depth_of};
-ghost use Rattle.flow_inputs.specs.Left.{left};
+ghost use Rattle.flow_inputs.specs.Scans.{LeavesSame};
 ghost use Rattle.flow_inputs.specs.Passing.{depth_after, SameLeft};
 
 use crate::turns::Mode;
@@ -64,9 +64,7 @@ fn past_brackets(text: &[u8], from: usize, opened: usize, passes_commas: bool) -
 pub(crate) fn past(text: &[u8], mode: Mode, at: usize) -> (usize, Mode)
     requires within { at ≤ length text.now }
     requires shallow { depth_of mode ≤ at }
-    ensures same { (way : List Component) (leaf : Leaf) (level : ℕ) →
-        left text.now way leaf at (state level mode) ≡
-        left text.now way leaf result.0 (state level result.1) }
+    ensures same { LeavesSame text.now at mode result.0 result.1 }
     ensures from { at ≤ result.0 }
     ensures within { result.0 ≤ length text.now }
     ensures shallow { depth_of result.1 ≤ result.0 }

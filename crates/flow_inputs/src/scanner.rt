@@ -8,6 +8,7 @@ ghost use Rattle.flow_inputs.specs.declared.turns.Component.{Component};
 ghost use Rattle.flow_inputs.specs.declared.turns.Leaf.{Leaf};
 ghost use Rattle.flow_inputs.specs.Turns.{state, depth_of};
 ghost use Rattle.flow_inputs.specs.Left.{left};
+ghost use Rattle.flow_inputs.specs.Scans.{FindsElement, FindsFlags, FindsInt, FindsInts, FindsPiece};
 
 use crate::brackets::past;
 use crate::turns::{Component, Leaf, Mode, Piece, State, is_done, made, step_at, turn};
@@ -62,8 +63,7 @@ pub(crate) fn scan(
 ) -> Scanned
     requires within { at ≤ length text.now }
     requires shallow { depth_of state.mode ≤ at }
-    ensures first { left text.now way.now leaf at state ≡
-        option_to_list result.piece ++ left text.now way.now leaf result.at result.state }
+    ensures first { FindsPiece text.now way.now leaf at state result }
     ensures none { IfNone result.piece (left text.now way.now leaf result.at result.state ≡ []) }
     ensures within { result.at ≤ length text.now }
     ensures shallow { depth_of result.state.mode ≤ result.at }
@@ -111,8 +111,8 @@ fn next_element(
     state: State,
 ) -> Option<(i64, usize)>
     requires { at ≤ length text.now }
-    ensures first { IfSome result (λ found. left text.now way.now leaf at state ≡
-        Int found.0 ∷ left text.now way.now leaf found.1 state) }
+    ensures first { IfSome result (λ found.
+        FindsInt text.now way.now leaf at state found.0 found.1) }
     ensures moves { IfSome result (λ found. at < found.1) }
     ensures within { IfSome result (λ found. found.1 ≤ length text.now) }
 {
@@ -158,8 +158,7 @@ pub(crate) fn ints_ahead(
     requires within { at ≤ length text.now }
     requires shallow { depth_of state.mode ≤ at }
     requires block { most ≤ 16 }
-    ensures first { left text.now way.now leaf at state ≡ map Int (take result.count ints.new)
-        ++ left text.now way.now leaf result.at result.state }
+    ensures first { FindsInts text.now way.now leaf at state ints.new result }
     ensures most { result.count ≤ most }
     ensures long { length ints.new ≡ 16 }
     ensures within { result.at ≤ length text.now }
@@ -203,9 +202,7 @@ pub(crate) fn ints_ahead(
 #[inline(always)]
 fn is_element_end(text: &[u8], at: usize, mode: Mode) -> bool
     requires { at ≤ length text.now }
-    ensures first { IsTrue result → (way : List Component) (leaf : Leaf) (level : ℕ) →
-        left text.now way leaf at (state level mode) ≡
-        Flag false ∷ left text.now way leaf (at + 1) (state level mode) }
+    ensures first { IsTrue result → FindsElement text.now at mode }
     ensures within { IsTrue result → at < length text.now }
 {
     let Mode::Counting(0) = mode else {
@@ -235,8 +232,7 @@ pub(crate) fn flags_ahead(
     requires within { at ≤ length text.now }
     requires shallow { depth_of state.mode ≤ at }
     requires block { most ≤ 16 }
-    ensures first { left text.now way.now leaf at state ≡ map Flag (take result.count flags.new)
-        ++ left text.now way.now leaf result.at result.state }
+    ensures first { FindsFlags text.now way.now leaf at state flags.new result }
     ensures most { result.count ≤ most }
     ensures long { length flags.new ≡ 16 }
     ensures within { result.at ≤ length text.now }

@@ -10,7 +10,8 @@ ghost use Rattle.flow_messages.specs.Ends.{SameEnds};
 ghost use Rattle.flow_messages.specs.Kinds.{TakesKind};
 ghost use Rattle.flow_messages.specs.Signals.{signal_of};
 ghost use Rattle.flow_messages.specs.declared.message.Kind.TheVariants.{Bool as BoolKind, Int as IntKind, Vec as VecKind};
-ghost use Rattle.flow_base.specs.Visits.{edge_of, IsPlaced, Went, Visited, BrokeOff};
+ghost use Rattle.flow_base.specs.Visits.{Visited, BrokeOff};
+ghost use Rattle.flow_base.specs.Impls.{KeepsState, ReadsAs, takes_memory_at};
 ghost use Rattle.flow_values.specs.Flats.{width};
 ghost use Rattle.flow_scalar.specs.SourceBehaviour.{source_opening, source_behaviour};
 ghost use Rattle.flow_inputs.specs.Left.{left, cell};
@@ -60,6 +61,7 @@ pub struct TextSource {
 
 impl TextSource {
     ghost use Rattle.flow_inputs.specs.TextSources.{items_in, text_source_state};
+    ghost use Rattle.flow_inputs.specs.SourceSteps.{OutputTakes, SourceIsPlaced, SourceSends, SourceWent, items_on_edge};
 
     /// A source that has written nothing, for the edge of this number, counted from 0. It will write
     /// what a value puts on that edge, where the text spells a value of the type `ty` from `place`
@@ -78,11 +80,8 @@ impl TextSource {
     ) -> Result<TextSource, AllocError>
         requires inside { place ≤ length (arc_value text).items }
         requires fits { width (ty_of ty.now) < 2 ^ 64 }
-        ensures opens { IfOk result (λ source.
-            text_source_state source ≡ source_opening (items_in source)) }
-        ensures items { IfOk result (λ source. items_in source ≡
-            items_from (arc_value text).items
-            (way_to (ty_of ty.now) edge) (leaf_at (ty_of ty.now) edge) place) }
+        ensures opens { IfOk result (λ n. text_source_state n ≡ source_opening (items_in n)) }
+        ensures items { IfOk result (λ n. items_in n ≡ items_on_edge text ty.now edge place) }
     {
         let mut way = Vec::new(alloc);
         let leaf = add_way(&mut way, ty, edge)?;
@@ -111,8 +110,7 @@ impl TextSource {
         ensures sending { self.new.ended ≡ false }
         ensures most { result ≤ most }
         ensures long { length ints.new ≡ 16 }
-        ensures sends { Sends (text_source_state self.old) (int_signals (take result ints.new))
-            (text_source_state self.new) }
+        ensures sends { SourceSends self.old (int_signals (take result ints.new)) self.new }
     {
         let (at, state) = (self.at, self.state);
         let ahead = ints_ahead(&self.text, &self.way, self.leaf, at, state, ints, most);
@@ -127,13 +125,11 @@ impl TextSource {
         requires sending { self.old.ended ≡ false }
         requires one { length outputs.now ≡ 1 }
         requires writes { All (λ e. (E.view ends.old).writes e ≡ true) outputs.now }
-        requires kind { TakesKind ((E.view ends.old).kind (edge_of outputs.now 0)) IntKind }
+        requires kind { OutputTakes (E.view ends.old) outputs.now IntKind }
         ensures same { E.same ends.old ends.new }
         ensures ends { SameEnds (E.view ends.old) (E.view ends.new) }
         ensures within { result ≤ most }
-        ensures went { (inputs : List ℕ) → Went inputs outputs.now source_behaviour
-            (text_source_state self.old) (E.view ends.old)
-            (text_source_state self.new) (E.view ends.new) result }
+        ensures went { SourceWent E.Ends outputs.now self.old ends.old self.new ends.new result }
     {
         let edge = outputs[0];
         let mut ints = [0i64; BLOCK];
@@ -158,8 +154,7 @@ impl TextSource {
         ensures sending { self.new.ended ≡ false }
         ensures most { result ≤ most }
         ensures long { length flags.new ≡ 16 }
-        ensures sends { Sends (text_source_state self.old) (flag_signals (take result flags.new))
-            (text_source_state self.new) }
+        ensures sends { SourceSends self.old (flag_signals (take result flags.new)) self.new }
     {
         let (at, state) = (self.at, self.state);
         let ahead = flags_ahead(&self.text, &self.way, self.leaf, at, state, flags, most);
@@ -174,13 +169,11 @@ impl TextSource {
         requires sending { self.old.ended ≡ false }
         requires one { length outputs.now ≡ 1 }
         requires writes { All (λ e. (E.view ends.old).writes e ≡ true) outputs.now }
-        requires kind { TakesKind ((E.view ends.old).kind (edge_of outputs.now 0)) BoolKind }
+        requires kind { OutputTakes (E.view ends.old) outputs.now BoolKind }
         ensures same { E.same ends.old ends.new }
         ensures ends { SameEnds (E.view ends.old) (E.view ends.new) }
         ensures within { result ≤ most }
-        ensures went { (inputs : List ℕ) → Went inputs outputs.now source_behaviour
-            (text_source_state self.old) (E.view ends.old)
-            (text_source_state self.new) (E.view ends.new) result }
+        ensures went { SourceWent E.Ends outputs.now self.old ends.old self.new ends.new result }
     {
         let edge = outputs[0];
         let mut flags = [false; BLOCK];
@@ -203,14 +196,11 @@ impl TextSource {
     fn write_blocks<E: Ends>(&mut self, outputs: &[usize], ends: &mut E, most: usize) -> usize
         requires one { length outputs.now ≡ 1 }
         requires writes { All (λ e. (E.view ends.old).writes e ≡ true) outputs.now }
-        requires kind { TakesKind ((E.view ends.old).kind (edge_of outputs.now 0))
-            (leaf_kind self.old.leaf) }
+        requires kind { OutputTakes (E.view ends.old) outputs.now (leaf_kind self.old.leaf) }
         ensures same { E.same ends.old ends.new }
         ensures ends { SameEnds (E.view ends.old) (E.view ends.new) }
         ensures within { result ≤ most }
-        ensures went { (inputs : List ℕ) → Went inputs outputs.now source_behaviour
-            (text_source_state self.old) (E.view ends.old)
-            (text_source_state self.new) (E.view ends.new) result }
+        ensures went { SourceWent E.Ends outputs.now self.old ends.old self.new ends.new result }
     {
         if self.ended {
             return 0;
@@ -232,8 +222,7 @@ impl TextSource {
         chunk: usize,
     ) -> Result<bool, AllocError>
         requires some { 0 < chunk }
-        requires placed { IsPlaced source_behaviour inputs.now outputs.now
-            (text_source_state self.old) (E.view ends.old) }
+        requires placed { SourceIsPlaced inputs.now outputs.now self.old (E.view ends.old) }
         ensures same { E.same ends.old ends.new }
         ensures ends { SameEnds (E.view ends.old) (E.view ends.new) }
         ensures visited { IfOk result (λ any. Visited inputs.now outputs.now source_behaviour
@@ -317,13 +306,9 @@ impl Transducer for TextSource {
     }
 
     fn give(&mut self, _port: usize, message: Msg) -> Result<(), AllocError>
-        ensures ok { OnOk result (⟦<TextSource as Transducer>⟧.state self.new ≡
-            source_behaviour.process.read
-            (⟦<TextSource as Transducer>⟧.state self.old) (signal_of message)) }
-        ensures err { OnErr result (⟦<TextSource as Transducer>⟧.state self.new ≡
-            ⟦<TextSource as Transducer>⟧.state self.old) }
-        ensures sure { source_behaviour.takes_memory (⟦<TextSource as Transducer>⟧.state self.old) ≡
-            false → IsOk result }
+        ensures ok { OnOk result (ReadsAs ⟦<TextSource as Transducer>⟧ self.old message self.new) }
+        ensures err { OnErr result (KeepsState ⟦<TextSource as Transducer>⟧ self.old self.new) }
+        ensures sure { takes_memory_at ⟦<TextSource as Transducer>⟧ self.old ≡ false → IsOk result }
     {
         Ok(())
     }
