@@ -1,6 +1,7 @@
 // What messages cost, in picoseconds. In one thread: the least times of squares, wide, nest and deep at chunk 1,024 (docs/bench.svg),
 // spread over their messages, which tells each of them within a factor of one and a half; an element of `tab` and an index as
-// docs/TIMES.md has them. Over rings a message took some three nanoseconds at each end, whatever its kind, and more between threads.
+// docs/TIMES.md has them. Over rings a message of a graph of some ten nodes takes one nanosecond at each end, and one of thousands,
+// whose rings lie in no cache, five. Between is the price; between threads a message takes more.
 ghost use Rattle.std.specs.Prelude.{◌<◌};
 
 use flow_messages::Kind;
