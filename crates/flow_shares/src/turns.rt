@@ -119,6 +119,47 @@ fn begin_turn<G: Gate>(gate: &G, share: usize, turn: usize, made: &mut History<u
     *made = made.with(&turn);
 }
 
+// Visits each node as `pass` does, and puts out what the ends keep back where none made a step: it is all that another thread may
+// wait for. Whether one made a step.
+fn pass_or_put_out<T: Transducer, E: Ends>(
+    nodes: &mut Vec<Placed<T>>,
+    ends: &mut E,
+    chunk: usize,
+) -> Result<bool, AllocError>
+    requires some { 0 < chunk }
+    requires there { All (HasItsEnds (E.view ends.old)) nodes.old.items }
+    requires apart { AreApart nodes.old.items }
+    requires own { All (IsOwn (E.view ends.old)) nodes.old.items }
+    ensures places { AreSamePlaces nodes.old.items nodes.new.items }
+    ensures same { E.same ends.old ends.new }
+    ensures ends { SameEnds (E.view ends.old) (E.view ends.new) }
+    ensures moved { IfOk result (λ any. RanOn E.view nodes.old ends.old nodes.new ends.new) }
+    ensures spares { IfOk result (λ _. RanApart E.view nodes.old ends.old nodes.new ends.new) }
+    ensures lost { OnErr result (RanAndLost E.view nodes.old ends.old nodes.new ends.new) }
+    ensures starves { OnErr result (TakesMemory nodes.new.items) }
+    ensures busy { IfOk result (λ any. any ≡ true → SomeMoved E.view ends.old ends.new) }
+    ensures calm { IfOk result (λ any. any ≡ false → NoneMoved E.view ends.old ends.new) }
+    ensures stuck { IfOk result (λ any. any ≡ false → NoneCanMove E.view nodes.old ends.old) }
+    ensures rest { IfOk result (λ any. any ≡ false → NoneCanMove E.view nodes.new ends.new) }
+    ensures out { IfOk result (λ any. any ≡ false → E.all_out ends.new) }
+{
+    if pass(nodes, ends, chunk)? {
+        return Ok(true);
+    }
+    ends.put_out(); // before the thread rests
+    Ok(false)
+}
+
+// The longest pause, in yields.
+const LONGEST_PAUSE: usize = 8;
+
+// Lets other threads go first: the longer, the more turns in a row moved nothing.
+fn pause(idle: usize) {
+    for _ in 0..idle.min(LONGEST_PAUSE) {
+        thread::yield_now();
+    }
+}
+
 /// Makes turns until `idle_turns` in a row moved nothing, or one where all nodes are over, and at most [`MAX_TURNS`].
 ///
 /// An error where memory was refused to a node.
@@ -164,12 +205,10 @@ fn take_turns<T: Transducer, E: Ends, G: Gate>(
     let mut made: History<usize> = History::new();
     for turn in 0..MAX_TURNS {
         begin_turn(gate, number, turn, &mut made);
-        if pass(nodes, ends, chunk)? {
+        if pass_or_put_out(nodes, ends, chunk)? {
             idle = 0;
             moved = true;
         } else {
-            // What is kept back is all that another thread may wait for.
-            ends.put_out();
             idle += 1;
             if idle == idle_turns || are_over(nodes) {
                 return Ok(Turns {
@@ -178,7 +217,7 @@ fn take_turns<T: Transducer, E: Ends, G: Gate>(
                 });
             }
             // Nothing is certain here: another thread may have a message or room for it.
-            thread::yield_now();
+            pause(idle);
         }
     }
     Ok(Turns { spent: true, moved })

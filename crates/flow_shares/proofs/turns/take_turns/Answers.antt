@@ -1,13 +1,11 @@
 use Rattle.std.proofs.lemmas.Grind.{common_steps}
-use Rattle.std.proofs.Common.{◌≡◌, [], ◌∷◌, inl, inr, refl, sym, ◌∙◌, ap, subst, length, arith, length-append}
+use Rattle.std.proofs.Common.{[], ◌∷◌, inl, inr, refl, sym, ◌∙◌, ap, subst, length, arith, length-append}
 use Rattle.flow_base.proofs.Visits.{on_err}
-use Rattle.flow_messages.specs.Ends.{SameTraffic}
 use Rattle.flow_shares.specs.Shares.{most_turns, HaveMoved, SpareOthers}
 use Rattle.flow_shares.proofs.Heard.{heard_next}
 use Rattle.flow_shares.proofs.Moves.{moved_none}
 use Rattle.flow_shares.proofs.Spares.{spared_none}
-use Rattle.flow_shares.proofs.Rounds.{turned_none, turned_end, there_now, apart_now, own_now, turn_lost, moved_last, stuck_last, OneTurn}
-use Rattle.flow_shares.proofs.Rounds.{turn_put_out, turned_next, turn_spares, still_calm, busy_before, busy_last}
+use Rattle.flow_shares.proofs.Rounds.{turned_none, turned_end, there_now, apart_now, own_now, turn_lost, moved_last, stuck_last, OneTurn, turned_next, turn_spares, still_calm, busy_before, busy_last}
 use Rattle.flow_shares.proofs.turns.take_turns.Goals.{then-branch, else-branch+else-idle-idle_turns+else-are_over}
 use Rattle.flow_shares.proofs.turns.take_turns.Goals as goal
 
@@ -27,33 +25,34 @@ loop-turn-init g c = record {
   calm = λ h. record { sent = λ k. refl; received = λ k. refl };
 }
 
-pub pass-requires-clause-there : goal.pass-requires-clause-there
-pass-requires-clause-there g c =
+pub pass_or_put_out-requires-clause-there : goal.pass_or_put_out-requires-clause-there
+pass_or_put_out-requires-clause-there g c =
     there_now c.loop-turn.turn c.loop-turn.idle c.args.idle_turns c.args.nodes.now.items c.loop-turn.nodes.items (g.E.Ends.view c.args.ends.now)
     (g.E.Ends.view c.loop-turn.ends) c.loop-turn.invariant.turned c.requires.there
 
-pub pass-requires-clause-apart : goal.pass-requires-clause-apart
-pass-requires-clause-apart g c =
+pub pass_or_put_out-requires-clause-apart : goal.pass_or_put_out-requires-clause-apart
+pass_or_put_out-requires-clause-apart g c =
     apart_now c.loop-turn.turn c.loop-turn.idle c.args.idle_turns c.args.nodes.now.items c.loop-turn.nodes.items (g.E.Ends.view c.args.ends.now)
     (g.E.Ends.view c.loop-turn.ends) c.loop-turn.invariant.turned c.requires.apart
 
-pub pass-requires-clause-own : goal.pass-requires-clause-own
-pass-requires-clause-own g c =
+pub pass_or_put_out-requires-clause-own : goal.pass_or_put_out-requires-clause-own
+pass_or_put_out-requires-clause-own g c =
     own_now c.loop-turn.turn c.loop-turn.idle c.args.idle_turns c.args.nodes.now.items c.loop-turn.nodes.items (g.E.Ends.view c.args.ends.now)
     (g.E.Ends.view c.loop-turn.ends) c.loop-turn.invariant.turned c.requires.own
 
-pub returns-in_err-pass-clause-lost : goal.returns-in_err-pass-clause-lost
-returns-in_err-pass-clause-lost g c =
+pub returns-in_err-pass_or_put_out-clause-lost : goal.returns-in_err-pass_or_put_out-clause-lost
+returns-in_err-pass_or_put_out-clause-lost g c =
     let view = g.E.Ends.view in
     on_err c.from_residual.result
     (turn_lost c.loop-turn.turn c.loop-turn.idle c.args.idle_turns c.args.nodes.now.items c.loop-turn.nodes.items (view c.args.ends.now)
-    (view c.loop-turn.ends) c.loop-turn.invariant.turned c.pass.new.nodes.items (view c.pass.new.ends) c.in_err-pass.ensures.lost)
+    (view c.loop-turn.ends) c.loop-turn.invariant.turned c.pass_or_put_out.new.nodes.items (view c.pass_or_put_out.new.ends)
+    c.in_err-pass_or_put_out.ensures.lost)
 
 pub returns-then-idle-idle_turns-clause-moved : goal.returns-then-idle-idle_turns-clause-moved
 returns-then-idle-idle_turns-clause-moved g c =
     let view = g.E.Ends.view in
-    let ensures = c.in_ok-pass.ensures in
-    let pass : OneTurn c.loop-turn.nodes.items c.pass.new.nodes.items (view c.loop-turn.ends) (view c.pass.new.ends) c.in_ok-pass.field-0 =
+    let ensures = c.in_ok-pass_or_put_out.ensures in
+    let went : OneTurn c.loop-turn.nodes.items c.pass_or_put_out.new.nodes.items (view c.loop-turn.ends) (view c.pass_or_put_out.new.ends) c.in_ok-pass_or_put_out.field-0 =
     record {
       places = ensures.places;
       ends = ensures.ends;
@@ -64,15 +63,14 @@ returns-then-idle-idle_turns-clause-moved g c =
       stuck = λ still. (ensures.stuck still, ensures.rest still);
     } in
     moved_last c.loop-turn.turn c.loop-turn.idle c.args.idle_turns c.args.nodes.now.items c.loop-turn.nodes.items (view c.args.ends.now)
-    (view c.loop-turn.ends) c.loop-turn.invariant.turned c.pass.new.nodes.items (view c.put_out-else-branch.new.self) c.in_ok-pass.field-0
-    (turn_put_out c.loop-turn.nodes.items c.pass.new.nodes.items (view c.loop-turn.ends) (view c.pass.new.ends) (view c.put_out-else-branch.new.self)
-    c.in_ok-pass.field-0 c.put_out-else-branch.ensures.view pass)
+    (view c.loop-turn.ends) c.loop-turn.invariant.turned c.pass_or_put_out.new.nodes.items (view c.pass_or_put_out.new.ends)
+    c.in_ok-pass_or_put_out.field-0 went
 
 pub returns-then-idle-idle_turns-clause-progress : goal.returns-then-idle-idle_turns-clause-progress
 returns-then-idle-idle_turns-clause-progress g c =
     let view = g.E.Ends.view in
-    let ensures = c.in_ok-pass.ensures in
-    let pass : OneTurn c.loop-turn.nodes.items c.pass.new.nodes.items (view c.loop-turn.ends) (view c.pass.new.ends) c.in_ok-pass.field-0 =
+    let ensures = c.in_ok-pass_or_put_out.ensures in
+    let went : OneTurn c.loop-turn.nodes.items c.pass_or_put_out.new.nodes.items (view c.loop-turn.ends) (view c.pass_or_put_out.new.ends) c.in_ok-pass_or_put_out.field-0 =
     record {
       places = ensures.places;
       ends = ensures.ends;
@@ -83,18 +81,14 @@ returns-then-idle-idle_turns-clause-progress g c =
       stuck = λ still. (ensures.stuck still, ensures.rest still);
     } in
     stuck_last c.loop-turn.turn c.loop-turn.idle c.args.idle_turns c.args.nodes.now.items c.loop-turn.nodes.items (view c.args.ends.now)
-    (view c.loop-turn.ends) c.loop-turn.invariant.turned c.pass.new.nodes.items (view c.put_out-else-branch.new.self) c.in_ok-pass.field-0
-    (turn_put_out c.loop-turn.nodes.items c.pass.new.nodes.items (view c.loop-turn.ends) (view c.pass.new.ends) (view c.put_out-else-branch.new.self)
-    c.in_ok-pass.field-0 c.put_out-else-branch.ensures.view pass)
+    (view c.loop-turn.ends) c.loop-turn.invariant.turned c.pass_or_put_out.new.nodes.items (view c.pass_or_put_out.new.ends)
+    c.in_ok-pass_or_put_out.field-0 went
 
 pub loop-turn-preserved : goal.loop-turn-preserved
 loop-turn-preserved g c =
     let view = g.E.Ends.view in
-    let ensures = c.in_ok-pass.ensures in
-    let few = c.loop-turn.invariant.turned.few in
-    let now = c.if-branch.idle in
-    let out = c.if-branch.ends in
-    let pass : OneTurn c.loop-turn.nodes.items c.pass.new.nodes.items (view c.loop-turn.ends) (view c.pass.new.ends) c.in_ok-pass.field-0 =
+    let ensures = c.in_ok-pass_or_put_out.ensures in
+    let went : OneTurn c.loop-turn.nodes.items c.pass_or_put_out.new.nodes.items (view c.loop-turn.ends) (view c.pass_or_put_out.new.ends) c.in_ok-pass_or_put_out.field-0 =
     record {
       places = ensures.places;
       ends = ensures.ends;
@@ -104,41 +98,34 @@ loop-turn-preserved g c =
       calm = ensures.calm;
       stuck = λ still. (ensures.stuck still, ensures.rest still);
     } in
-    let still : view out ≡ view c.pass.new.ends = elim c.if-branch.branch [
-      | then-branch w ↦ ap view w.ends-is
-      | else-branch+else-idle-idle_turns+else-are_over w ↦ ap view w.ends-is ∙ w.put_out-else-branch.ensures.view
-    ] in
-    let went : OneTurn c.loop-turn.nodes.items c.pass.new.nodes.items (view c.loop-turn.ends) (view out) c.in_ok-pass.field-0 =
-    turn_put_out c.loop-turn.nodes.items c.pass.new.nodes.items (view c.loop-turn.ends) (view c.pass.new.ends) (view out) c.in_ok-pass.field-0 still
-    pass in
-    let same : g.E.Ends.same c.args.ends.now c.pass.new.ends = g.met.E.Ends.same_trans c.args.ends.now c.loop-turn.ends c.pass.new.ends c.loop-turn.invariant.same ensures.same in
+    let few = c.loop-turn.invariant.turned.few in
+    let now = c.if-branch.idle in
     record {
       counted = omega (arith, ap length c.begin_turn.ensures.made, length-append c.loop-turn.made.items (c.loop-turn.turn ∷ []), c.loop-turn.invariant.counted);
       heard = heard_next (λ turn. g.G.Gate.heard c.args.gate.now c.args.number turn) c.loop-turn.turn c.loop-turn.invariant.heard c.begin_turn.ensures.heard;
-      same = elim c.if-branch.branch [
-        | then-branch w ↦ subst (λ z. g.E.Ends.same c.args.ends.now z) (sym w.ends-is) same
-        | else-branch+else-idle-idle_turns+else-are_over w ↦ subst (λ z. g.E.Ends.same c.args.ends.now z) (sym w.ends-is)
-            (g.met.E.Ends.same_trans c.args.ends.now c.pass.new.ends w.put_out-else-branch.new.self same w.put_out-else-branch.ensures.same)
-      ];
+      same = g.met.E.Ends.same_trans c.args.ends.now c.loop-turn.ends c.pass_or_put_out.new.ends c.loop-turn.invariant.same ensures.same;
       turned = elim c.if-branch.branch [
         | then-branch w ↦ turned_next c.loop-turn.turn c.loop-turn.idle c.args.idle_turns c.args.nodes.now.items c.loop-turn.nodes.items
-            (view c.args.ends.now) (view c.loop-turn.ends) c.loop-turn.invariant.turned c.pass.new.nodes.items (view out) c.in_ok-pass.field-0 went now
-            (omega (arith, w.idle-is, c.requires.idle)) (inl (w.if-branch.true, w.idle-is))
+            (view c.args.ends.now) (view c.loop-turn.ends) c.loop-turn.invariant.turned c.pass_or_put_out.new.nodes.items
+            (view c.pass_or_put_out.new.ends) c.in_ok-pass_or_put_out.field-0 went
+            now (omega (arith, w.idle-is, c.requires.idle)) (inl (w.if-branch.true, w.idle-is))
         | else-branch+else-idle-idle_turns+else-are_over w ↦ turned_next c.loop-turn.turn c.loop-turn.idle c.args.idle_turns c.args.nodes.now.items
-            c.loop-turn.nodes.items (view c.args.ends.now) (view c.loop-turn.ends) c.loop-turn.invariant.turned c.pass.new.nodes.items (view out)
-            c.in_ok-pass.field-0 went now (omega (arith, w.idle-is, few, w.if-idle-idle_turns.false)) (inr (w.if-branch.false, w.idle-is))
+            c.loop-turn.nodes.items (view c.args.ends.now) (view c.loop-turn.ends) c.loop-turn.invariant.turned c.pass_or_put_out.new.nodes.items
+            (view c.pass_or_put_out.new.ends) c.in_ok-pass_or_put_out.field-0 went
+            now (omega (arith, w.idle-is, few, w.if-idle-idle_turns.false)) (inr (w.if-branch.false, w.idle-is))
       ];
       busy = elim c.if-branch.branch [
-        | then-branch w ↦ λ h. busy_last c.args.nodes.now.items c.loop-turn.nodes.items c.pass.new.nodes.items (view c.args.ends.now)
-            (view c.loop-turn.ends) (view out) c.loop-turn.invariant.turned.moved went.moved (went.busy w.if-branch.true)
-        | else-branch+else-idle-idle_turns+else-are_over w ↦ λ h. busy_before c.args.nodes.now.items c.loop-turn.nodes.items c.pass.new.nodes.items
-            (view c.args.ends.now) (view c.loop-turn.ends) (view out) c.loop-turn.invariant.turned.moved went.moved
-            (c.loop-turn.invariant.busy (sym w.moved-is ∙ h))
+        | then-branch w ↦ λ h. busy_last c.args.nodes.now.items c.loop-turn.nodes.items c.pass_or_put_out.new.nodes.items (view c.args.ends.now)
+            (view c.loop-turn.ends) (view c.pass_or_put_out.new.ends) c.loop-turn.invariant.turned.moved ensures.moved (ensures.busy w.if-branch.true)
+        | else-branch+else-idle-idle_turns+else-are_over w ↦ λ h. busy_before c.args.nodes.now.items c.loop-turn.nodes.items
+            c.pass_or_put_out.new.nodes.items (view c.args.ends.now) (view c.loop-turn.ends) (view c.pass_or_put_out.new.ends)
+            c.loop-turn.invariant.turned.moved ensures.moved (c.loop-turn.invariant.busy (sym w.moved-is ∙ h))
       ];
       calm = elim c.if-branch.branch [
         | then-branch w ↦ λ h. absurd (let no = sym w.moved-is ∙ h in cc)
-        | else-branch+else-idle-idle_turns+else-are_over w ↦ λ h. still_calm c.args.nodes.now.items c.loop-turn.nodes.items c.pass.new.nodes.items
-            (view c.args.ends.now) (view c.loop-turn.ends) (view out) (c.loop-turn.invariant.calm (sym w.moved-is ∙ h)) (went.calm w.if-branch.false)
+        | else-branch+else-idle-idle_turns+else-are_over w ↦ λ h. still_calm c.args.nodes.now.items c.loop-turn.nodes.items
+            c.pass_or_put_out.new.nodes.items (view c.args.ends.now) (view c.loop-turn.ends) (view c.pass_or_put_out.new.ends)
+            (c.loop-turn.invariant.calm (sym w.moved-is ∙ h)) (ensures.calm w.if-branch.false)
       ];
     }
 
@@ -154,25 +141,22 @@ returns-clause-heard g c = λ spent turn below. c.loop-turn.invariant.heard turn
 pub returns-then-idle-idle_turns-clause-busy : goal.returns-then-idle-idle_turns-clause-busy
 returns-then-idle-idle_turns-clause-busy g c =
     let view = g.E.Ends.view in
-    let ensures = c.in_ok-pass.ensures in
-    λ h. subst (λ z. SameTraffic (view c.args.ends.now) z → ⊥) (sym c.put_out-else-branch.ensures.view)
-    (busy_before c.args.nodes.now.items c.loop-turn.nodes.items c.pass.new.nodes.items (view c.args.ends.now) (view c.loop-turn.ends)
-    (view c.pass.new.ends) c.loop-turn.invariant.turned.moved ensures.moved (c.loop-turn.invariant.busy h))
+    let ensures = c.in_ok-pass_or_put_out.ensures in
+    λ h. busy_before c.args.nodes.now.items c.loop-turn.nodes.items c.pass_or_put_out.new.nodes.items (view c.args.ends.now) (view c.loop-turn.ends)
+    (view c.pass_or_put_out.new.ends) c.loop-turn.invariant.turned.moved ensures.moved (c.loop-turn.invariant.busy h)
 
 pub returns-then-idle-idle_turns-clause-calm : goal.returns-then-idle-idle_turns-clause-calm
 returns-then-idle-idle_turns-clause-calm g c =
     let view = g.E.Ends.view in
-    let ensures = c.in_ok-pass.ensures in
-    λ h. subst (λ z. SameTraffic (view c.args.ends.now) z) (sym c.put_out-else-branch.ensures.view)
-    (still_calm c.args.nodes.now.items c.loop-turn.nodes.items c.pass.new.nodes.items (view c.args.ends.now) (view c.loop-turn.ends)
-    (view c.pass.new.ends) (c.loop-turn.invariant.calm h) (ensures.calm c.if-branch.false))
+    let ensures = c.in_ok-pass_or_put_out.ensures in
+    λ h. still_calm c.args.nodes.now.items c.loop-turn.nodes.items c.pass_or_put_out.new.nodes.items (view c.args.ends.now) (view c.loop-turn.ends)
+    (view c.pass_or_put_out.new.ends) (c.loop-turn.invariant.calm h) (ensures.calm c.if-branch.false)
 
 pub returns-then-idle-idle_turns-clause-spares : goal.returns-then-idle-idle_turns-clause-spares
 returns-then-idle-idle_turns-clause-spares g c =
     let view = g.E.Ends.view in
-    subst (λ z. SpareOthers c.args.nodes.now.items (view c.args.ends.now) z) (sym c.put_out-else-branch.ensures.view)
-    (turn_spares c.loop-turn.turn c.loop-turn.idle c.args.idle_turns c.args.nodes.now.items c.loop-turn.nodes.items (view c.args.ends.now)
-    (view c.loop-turn.ends) c.loop-turn.invariant.turned (view c.pass.new.ends) c.in_ok-pass.ensures.spares)
+    turn_spares c.loop-turn.turn c.loop-turn.idle c.args.idle_turns c.args.nodes.now.items c.loop-turn.nodes.items (view c.args.ends.now)
+    (view c.loop-turn.ends) c.loop-turn.invariant.turned (view c.pass_or_put_out.new.ends) c.in_ok-pass_or_put_out.ensures.spares
 
 pub returns-then-is_empty-clause-spares : goal.returns-then-is_empty-clause-spares
 returns-then-is_empty-clause-spares g c =
@@ -180,8 +164,8 @@ returns-then-is_empty-clause-spares g c =
     let before = g.E.Ends.view c.args.ends.now in
     subst (λ z. SpareOthers nodes before z) (sym c.put_out.ensures.view) (spared_none nodes before)
 
-pub returns-in_err-pass-clause-places : goal.returns-in_err-pass-clause-places
-returns-in_err-pass-clause-places g c = grind (arith, common_steps)
+pub returns-in_err-pass_or_put_out-clause-places : goal.returns-in_err-pass_or_put_out-clause-places
+returns-in_err-pass_or_put_out-clause-places g c = grind (arith, common_steps)
 
 pub returns-then-idle-idle_turns-clause-places : goal.returns-then-idle-idle_turns-clause-places
 returns-then-idle-idle_turns-clause-places g c = grind (arith, common_steps)
