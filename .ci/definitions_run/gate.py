@@ -1,4 +1,4 @@
-"""What `.ci/definitions` tries: the rows, the forms, the list of what is not run, and the page."""
+"""What `.ci/dev definitions` tries: the rows, the forms, the list of what is not run, and the page."""
 
 import os
 import time

@@ -4,7 +4,7 @@ import os
 
 from .headline import HEADLINE, VALUE, clauses, counts, one_name, rests_on, value_rests_on
 
-BEGIN, END = "<!-- .ci/definitions writes this -->\n", "<!-- up to here -->\n"
+BEGIN, END = "<!-- `.ci/dev definitions` writes this -->\n", "<!-- up to here -->\n"
 TOP = os.path.join(os.path.dirname(os.path.abspath(__file__)), "..", "..")
 PAGE, README = os.path.join(TOP, "docs", "TRUST.md"), os.path.join(TOP, "README.md")
 
@@ -41,7 +41,7 @@ class Pages:
 
     def differ(self, page, readme):
         """What is said of the texts of both pages."""
-        said = [] if page == self.rewritten(page) else ["docs/TRUST.md says otherwise: .ci/definitions --write writes it anew"]
+        said = [] if page == self.rewritten(page) else ["docs/TRUST.md says otherwise: .ci/dev definitions --write writes it anew"]
         if self.number not in " ".join(readme.split()):
             said.append(f"README.md says otherwise of `{VALUE[2]}`: it rests on {self.number}")
         return said

@@ -1,4 +1,4 @@
-"""Planted mistakes that `.ci/definitions` has to tell: a form or name that is not known, a list with other names, and a stale page."""
+"""Planted mistakes that `.ci/dev definitions` has to tell: a form or name that is not known, a list with other names, and a stale page."""
 
 import os
 import tempfile
