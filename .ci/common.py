@@ -56,6 +56,14 @@ class Tally:
         return int(self.failed > 0)
 
 
+class Tests(Tally):
+    """Counts tests, and prints each."""
+
+    def that(self, what, holds, said=""):
+        self.passed, self.failed = self.passed + bool(holds), self.failed + (not holds)
+        print(f"{'passed' if holds else 'FAILED'}: {what}", *([said] if not holds and said else []), flush=True)
+
+
 def run(command, job=b"", seconds=60, **how):
     """What comes of a command with this job on standard input."""
     how = {"stdout": subprocess.PIPE, "stderr": subprocess.PIPE, **how}

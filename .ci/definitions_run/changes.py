@@ -9,6 +9,7 @@ import os
 import random
 import resource
 import time
+import typing
 
 from .answers import CRATES, definitions, deriver, on_large_stack
 from .edits import changes_of
@@ -28,13 +29,12 @@ PROGRESS = 50
 TOLD, STOPPED, REFUSED, LIVES = 10, 11, 12, 13
 
 
-class Reached:
+class Reached(typing.NamedTuple):
     """A row that is answered as it tells: what it cost, and the places of the equations that it reached."""
 
-    def __init__(self, row, seconds, reached):
-        self.row = row
-        self.seconds = seconds
-        self.reached = reached
+    row: object
+    seconds: float
+    reached: bytes
 
     def reaches(self, place):
         """Whether it reached a place."""
@@ -142,13 +142,12 @@ class Rows:
         return near
 
 
-class Part:
+class Part(typing.NamedTuple):
     """Which changes of an order are tried: from the `first`-th on, so many at most, and of these such as have one of the texts in their names."""
 
-    def __init__(self, first, most, texts):
-        self.first = first
-        self.most = most
-        self.texts = texts
+    first: int
+    most: int | None
+    texts: list
 
     def of(self, changes):
         """Those changes, in order."""

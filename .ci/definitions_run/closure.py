@@ -1,31 +1,24 @@
 """What a clause of a contract rests on: the closure of the names that it cites."""
 
+import collections
 import os
 import re
 
-from .modules import PROOF, Definition, split_names
-from .scope import NameMissing, Scope
+from .modules import PROOF, Definition, Module, split_names
+from .scope import Found, NameMissing, Scope
 from .terms import equation_parts
 from .tokens import WORD, FormError, binder_names, tokens_of
 
 
-class Clause:
-    """A clause of a function's contract, as a scope of names and the tokens that it cites."""
-
-    def __init__(self, name, place, scope, tokens):
-        self.name = name
-        self.place = place
-        self.scope = scope
-        self.tokens = tokens
+# A clause of a function's contract, as a scope of names and the tokens that it cites.
+Clause = collections.namedtuple("Clause", "name place scope tokens")
 
 
-class GhostModule:
+class GhostModule(Module):
     """The names that a file of Rattle imports for its contracts."""
 
     def __init__(self, path, text):
-        self.name = path
-        self.path = path
-        self.imports, self.aliases, self.passed_on, self.definitions, self.constructors = {}, {}, {}, {}, {}
+        super().__init__(path, path)
         for written in re.findall(r"^ghost use ([^;]*);", text, re.MULTILINE):
             tokens = tokens_of(written, 0)
             path_here = str(tokens[0]).rstrip(".")
@@ -107,7 +100,7 @@ class Closure:
         path, last = what if isinstance(what, tuple) else what.rpartition(".")[::2]
         module = self.modules.get(path)
         if module is not None:
-            self.add(FoundType(module.constructors[last]), scope, name)
+            self.add(Found("type", module.constructors[last]), scope, name)
         elif ".declared." in path:
             self.declared.add(path.removesuffix(".TheVariants"))
         else:
@@ -147,14 +140,6 @@ class Closure:
     def lines(self):
         """How many lines they have, without comments."""
         return sum(one.lines for one in self.found.values())
-
-
-class FoundType:
-    """A definition, as a scope would have found it."""
-
-    def __init__(self, definition):
-        self.kind = "type"
-        self.what = definition
 
 
 def closure_of(modules, clauses):

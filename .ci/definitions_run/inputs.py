@@ -10,7 +10,6 @@ from .values import Built, plain
 TOKENS = "Rattle.snesl_values.specs.InputTokens."
 TYPES = "Rattle.snesl_data.specs.Types."
 VALUES = "Rattle.snesl_data.specs.Values."
-SEMICOLON = ord(";")
 
 
 class NotTheSame(Exception):

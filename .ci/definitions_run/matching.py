@@ -86,6 +86,7 @@ class Walked(Path):
     def item(self, at):
         return str(self)
 
+
 def list_pattern(pattern):
     """The patterns of the first items of a list, and that of the rest."""
     heads = []

@@ -1,15 +1,9 @@
 """Work in several processes, each with a stack for deep recursion."""
 
 import gc
-import os
-import pickle
-import sys
-import tempfile
+import multiprocessing
 
 from .answers import on_large_stack
-
-
-NUMBER = 4
 
 
 def collect_seldom():
@@ -18,56 +12,32 @@ def collect_seldom():
     gc.set_threshold(200_000, 20, 100)
 
 
-def share_of(function, items, numbers):
-    """What the function gives of the items whose numbers this process takes out of the pipe, until there are none."""
-    found = []
-    while taken := os.read(numbers, NUMBER):
-        number = int.from_bytes(taken, "big")
-        found.append((number, function(items[number])))
-    return found
+def in_processes(function, items, count, finish=lambda: None):
+    """What the function gives of each item, in order, by so many processes, and what `finish` gives in each of them at its end. It is an error
+    where one ends badly."""
+    context = multiprocessing.get_context("fork")
+    taken, pipes, answers, ends = context.Value("l", 0), [], [None] * len(items), []
 
+    def numbers():
+        """The numbers of the items that this process takes, until there are none."""
+        while True:
+            with taken.get_lock():
+                number, taken.value = taken.value, taken.value + 1
+            if number >= len(items):
+                return
+            yield number
 
-def pipe_of(count):
-    """A pipe with the numbers below the count, each of which one process takes: so many as go into a pipe."""
-    numbers, numbered = os.pipe()
-    os.set_blocking(numbered, False)
-    os.write(numbered, b"".join(number.to_bytes(NUMBER, "big") for number in range(count)))
-    os.close(numbered)
-    return numbers
+    def work(pipe):
+        collect_seldom()
+        pipe.send(on_large_stack(lambda: ([(number, function(items[number])) for number in numbers()], finish())))
 
-
-def in_processes(function, items, count, finish=None):
-    """What the function gives of each item, in order, by so many processes, and what `finish` gives in each of them at its end."""
-    started, numbers = [], pipe_of(len(items))
     for _ in range(count):
-        file = tempfile.TemporaryFile()
-        child = os.fork()
-        if child == 0:
-            status = 1
-            collect_seldom()
-            try:
-                done = on_large_stack(lambda: (share_of(function, items, numbers), finish() if finish else None))
-                pickle.dump(done, file)
-                file.flush()
-                status = 0
-            finally:
-                sys.stdout.flush()
-                os._exit(status)
-        started.append((child, file))
-    os.close(numbers)
-    return collected(started, len(items))
-
-
-def collected(started, length):
-    """The answers of all processes, in order; it is an error where one ended badly."""
-    answers, ends = [None] * length, []
-    for child, file in started:
-        _, status = os.waitpid(child, 0)
-        if status != 0:
-            raise ChildProcessError(f"a process ended with status {status}")
-        file.seek(0)
-        done, end = pickle.load(file)
-        file.close()
+        ours, its = context.Pipe(duplex=False)
+        context.Process(target=work, args=(its,)).start()
+        its.close()
+        pipes.append(ours)
+    for pipe in pipes:
+        done, end = pipe.recv()
         ends.append(end)
         for number, answer in done:
             answers[number] = answer

@@ -1,5 +1,7 @@
 """What a name stands for where it is used: a definition, a constructor, a word of the library, or a type."""
 
+import collections
+
 from .library import CONSTANTS, CONSTRUCTORS, FUNCTIONS, TYPES
 from .modules import PROOF
 
@@ -12,12 +14,8 @@ class NameMissing(Exception):
     """A name that stands for nothing that is known."""
 
 
-class Found:
-    """What a name stands for: `kind` is definition, constructor, word, constant, type or proof."""
-
-    def __init__(self, kind, what):
-        self.kind = kind
-        self.what = what
+# What a name stands for: `kind` is definition, constructor, word, constant, type or proof.
+Found = collections.namedtuple("Found", "kind what")
 
 
 def of_definition(definition):
