@@ -3,6 +3,7 @@
 import argparse
 import collections
 import hashlib
+import inspect
 import os
 import pathlib
 import re
@@ -24,9 +25,9 @@ Ran = collections.namedtuple("Ran", "printed said status")
 
 
 def asked(text, rest=None, most="*", **options):
-    """What the words of the command line say, by the text that helps: options, each beside its default, flags where that is False and else
-    numbers; and the words besides, which are called `rest` there, so many at most as argparse says."""
-    parser = argparse.ArgumentParser(description=text, formatter_class=argparse.RawDescriptionHelpFormatter)
+    """What the words of the command line say, by the text that helps: options, each beside its default, flags where that is False
+    and else numbers; and the words besides, which are called `rest` there, so many at most as argparse says."""
+    parser = argparse.ArgumentParser(description=inspect.cleandoc(text), formatter_class=argparse.RawDescriptionHelpFormatter)
     for name, default in options.items():
         how = {"action": "store_true"} if default is False else {"type": int, "default": default, "metavar": "N"}
         parser.add_argument(f"--{name}", **how)
@@ -98,8 +99,8 @@ def build(crate):
 
 
 def built(*crates):
-    """Sees that these programs stand as both compilers build them, and returns their places by compiler and crate. The gate leaves them there.
-    Where one is missing, or older than a file that it is made from, both are built."""
+    """Sees that these programs stand as both compilers build them, and returns their places by compiler and crate. The gate
+    leaves them there. Where one is missing, or older than a file that it is made from, both are built."""
     files = [ROOT / "crates.txt"]
     for folder, folders, names in os.walk(CRATES):
         folders[:] = [it for it in folders if it != "out"]
@@ -113,8 +114,8 @@ def built(*crates):
 
 
 def text_sum(crate):
-    """A sum of the code that a crate is built from: its own, that of the crates below it, what crates.txt says of them, and which kit builds
-    them. Proofs and definitions are no part of it."""
+    """A sum of the code that a crate is built from: its own, that of the crates below it, what crates.txt says of them, and which
+    kit builds them. Proofs and definitions are no part of it."""
     text = re.sub(r"#.*", "", (ROOT / "crates.txt").read_text(encoding="utf-8"))
     lines, below, found = {it.split()[0].removesuffix(":"): it for it in text.split("\n") if ":" in it}, [crate], set()
     while below:
@@ -123,15 +124,16 @@ def text_sum(crate):
             found.add(name)
             below += lines[name].partition(":")[2].split()
     kit = pathlib.Path(os.path.realpath(shutil.which("rt"))).parent.parent
-    files = sorted(f"crates/{name}/src/{it.relative_to(CRATES / name / 'src')}" for name in found for it in (CRATES / name / "src").rglob("*.rt"))
-    sums = "".join(f"{hashlib.sha256((ROOT / it).read_bytes()).hexdigest()}  {it}\n" for it in files)
+    files = {str(it.relative_to(ROOT)): it for name in found for it in (CRATES / name / "src").rglob("*.rt")}
+    sums = "".join(f"{hashlib.sha256(files[it].read_bytes()).hexdigest()}  {it}\n" for it in sorted(files))
     said = "".join(f"{lines[name]}\n" for name in lines if name in found)
     return hashlib.sha256((kit / "KIT-ID").read_bytes() + f"{said}{sums}".encode()).hexdigest()[:16]
 
 
 def unproved(crate, *words):
     """Where a program stands that is built without proofs (.ci/unproved)."""
-    return subprocess.run([HERE / "unproved", *words, crate], stdout=subprocess.PIPE, text=True, check=True).stdout.splitlines()[-1]
+    said = subprocess.run([HERE / "unproved", *words, crate], stdout=subprocess.PIPE, text=True, check=True).stdout
+    return said.splitlines()[-1]
 
 
 def table(*rows):

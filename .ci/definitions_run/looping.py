@@ -5,7 +5,7 @@ taken apart on the way is not copied: where it begins is counted. An equation wi
 what the next round sets.
 """
 
-from .matching import Match, View, Walked, list_pattern
+from .matching import Match, View, list_pattern
 from .terms import bound_inside, names_in, parsed, repeated_calls, tokens_used
 
 LISTS, NUMBERS = "list", "number"
@@ -41,8 +41,7 @@ class Function:
         self.loops = any(self.rounds) and len(kinds) < 2
         self.gathers = next(iter(kinds), None) if self.loops else None
         places = {at for number in range(len(self.equations)) for given, _ in self.rounds[number] for at in self.steps(number, given)}
-        self.walked, self.is_walk = places if self.loops else set(), False
-        self.is_walk = len(self.walked) == 1 and all(map(self.is_walked_by, range(len(self.equations))))
+        self.walked = places if self.loops else set()
 
     def is_seen(self, equation, term):
         """Whether the name of the definition stands for it in an equation."""
@@ -81,17 +80,6 @@ class Function:
                 found[at] = len(heads)
         return found
 
-    def is_walked_by(self, number):
-        """Whether an equation takes no item or one off the list, and gives the rest of it to its own definition alone."""
-        at, = self.walked
-        heads, rest = list_pattern(self.equations[number].patterns[at])
-        if not heads:
-            return rest == ("name", "[]")
-        if len(heads) > 1 or rest[0] != "name" or self.used(number, True)[rest[1]]:
-            return False
-        ends = self.rounds[number]
-        return all(at in self.steps(number, given) for given, _ in ends) and (not ends or self.equation(number, "", True) is not None)
-
     def used(self, number, goes_round):
         """How often each name stands on the right side, where only the place in its list is counted on aside."""
         used = tokens_used(self.equations[number].right)
@@ -105,8 +93,6 @@ class Function:
         lines = [f"def {name}({', '.join(self.names)}):"]
         if self.gathers:
             lines.append("    gathered = []" if self.gathers == LISTS else "    gathered = 0")
-        if self.is_walk:
-            return lines + self.walk() + [f"    missing({name!r})"]
         lines += [f"    {self.own[at]}, i{at} = parted({self.own[at]})" for at in sorted(self.walked)]
         if self.loops:
             lines.append("    while True:")
@@ -115,20 +101,6 @@ class Function:
             lines += self.equation(at, indent, True) or self.equation(at, indent, False)
         return lines + [f"{indent}missing({name!r})"]
 
-    def walk(self):
-        """The lines of a loop over the items of a list, and of what is given at its end."""
-        place, = self.walked
-        ends = [list_pattern(one.patterns[place])[0] == [] for one in self.equations]
-        lines = [f"    for item in {self.own[place]}:"]
-        for at, is_end in enumerate(ends):
-            if not is_end:
-                lines += self.equation(at, "        ", True) or self.equation(at, "        ", False)
-        lines.append("        missing('an item')")
-        for at, is_end in enumerate(ends):
-            if is_end:
-                lines += self.equation(at, "    ", False)
-        return lines
-
     def equation(self, number, indent, goes_round):
         """The lines of one equation: its test, and what it gives; None where it should go round and may not."""
         if goes_round and not (self.loops and self.rounds[number]):
@@ -136,7 +108,7 @@ class Function:
         writer, equation, term = self.writer, self.equations[number], self.terms[number]
         match = Match(writer.scope)
         for place, (pattern, path) in enumerate(zip(equation.patterns, self.own)):
-            match.take(pattern, self.path(path, place))
+            match.take(pattern, View(path, f"i{place}") if place in self.walked else path)
         lines = [f"{indent}if {' and '.join(match.tests) or 'True'}:"]
         indent += "    "
         inside = bound_inside(term)
@@ -170,12 +142,6 @@ class Function:
                 lines.append(f"{indent}{bound[name]} = {path}")
         return bound
 
-    def path(self, name, place):
-        """Where an argument is found in a round."""
-        if place not in self.walked:
-            return name
-        return Walked("item") if self.is_walk else View(name, f"i{place}")
-
     def result(self, value, indent):
         """The line that ends the function."""
         if self.gathers:
@@ -206,8 +172,6 @@ class Function:
         steps = self.steps(number, given)
         targets, values = [], []
         for at, (name, term) in enumerate(zip(self.own, given)):
-            if self.is_walk and at in self.walked:
-                continue
             if at in steps and at in self.walked:
                 targets.append(f"i{at}")
                 values.append(f"i{at} + {steps[at]}")

@@ -77,16 +77,6 @@ class View(Path):
         return f"dropped({self.items}, {self.start} + {count})"
 
 
-class Walked(Path):
-    """A list that a loop of Python walks: its first item has a name, and whether there is one is known."""
-
-    def tests(self, count, is_whole):
-        return []
-
-    def item(self, at):
-        return str(self)
-
-
 def list_pattern(pattern):
     """The patterns of the first items of a list, and that of the rest."""
     heads = []
@@ -147,7 +137,7 @@ class Match:
         self.tests += path.tests(len(heads), is_whole)
         for at, head in enumerate(heads):
             self.take(head, path.item(at))
-        if not is_whole and not isinstance(path, Walked):
+        if not is_whole:
             self.take(rest, path.rest(len(heads)))
 
     def take_name(self, name, path):

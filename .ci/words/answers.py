@@ -1,9 +1,9 @@
 """Writes answers for goals of functions whose search takes long. Functions are named as checks print them below the crate.
 
-`slow` tells which functions spend long on goals. A goal without an answer is tried by `search` first, and then by one `grind` after
-another. Here each such goal stands in a module of its own, in a copy of the crate, so that its seconds show. Where one `grind` alone closes
-it much sooner, an answer that says so goes into the function's Answers.antt. `rt tidy` lays the file out. After that `.ci/wrong CRATE` must
-still refuse each wrong body: an answer tries less than the search did.
+`slow` tells which functions spend long on goals. A goal without an answer is tried by `search` first, and then by one `grind`
+after another. Here each such goal stands in a module of its own, in a copy of the crate, so that its seconds show. Where one
+`grind` alone closes it much sooner, an answer that says so goes into the function's Answers.antt. `rt tidy` lays the file out.
+After that `.ci/wrong CRATE` must still refuse each wrong body: an answer tries less than the search did.
 
 It takes five checks of these functions. Functions of a cycle have their answers elsewhere, and are not looked at."""
 
@@ -26,14 +26,15 @@ SEARCH = (
     "grind (arith, common_steps) steps 4000000)"
 )
 TACTICS = ["grind (arith, common_steps)", "grind (arith, elements)", "grind (arith, common_steps) steps 4000000"]
-MODULES = {"arith": "Rattle.std.proofs.Common", "common_steps": "Rattle.std.proofs.lemmas.Grind", "elements": "Rattle.std.proofs.lemmas.Grind"}
+MODULES = dict.fromkeys(["common_steps", "elements"], "Rattle.std.proofs.lemmas.Grind") | {"arith": "Rattle.std.proofs.Common"}
 # The least seconds of a goal that is looked at, and the least that an answer is to save.
 SLOW, WORTH = 0.6, 0.4
 OFFERED = re.compile(r"(?m)^pub (\S+) : goal\.\S+\n(\S+) ([^=?\n]*\S) = \?$")
 
 
 class Goals:
-    """The goals of a function that have no answer: the variables of each, the answers of the others, and what all of them import."""
+    """The goals of a function that have no answer: the variables of each, the answers of the others, and what all of them
+    import."""
 
     def __init__(self, crate, function, room):
         self.function, self.name = function, f"Rattle.{crate.name}.proofs.{function.name.replace('::', '.')}"

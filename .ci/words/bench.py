@@ -1,17 +1,18 @@
-"""Measures the program `snesl`, or SNESL where it is named, beside its peers of bench/peers, all in one sitting and by turns, and prints
-a table. It takes some minutes.
+"""Measures the program `snesl`, or SNESL where it is named, beside its peers of bench/peers, all in one sitting and by turns, and
+prints a table. It takes some minutes.
 
-The peers are plain Rust without a proof, which cargo builds here: an unproved twin of the drive, whole vectors, a plain loop,
-and a thread a node over channels. All answers have to be the same. The twin and the threads have no nodes for vectors, so two programs have
-no figures of theirs.
+The peers are plain Rust without a proof, which cargo builds here: an unproved twin of the drive, whole vectors, a plain loop, and
+a thread a node over channels. All answers have to be the same. The twin and the threads have no nodes for vectors, so two
+programs have no figures of theirs.
 
 Times are nanoseconds an element: what a run takes beyond a run of a few elements, so that starting does not count. They are of
 the processor for what runs in one thread, and by the clock for what runs in several or over rings. Instructions are counted by
 `perf` where it can count, and else by valgrind, at fewer elements.
 
-With --threads the product is measured by rings of so many threads too, at the defaults, and with capacity 4,096 at chunk 256 and 1,024;
-for more than one thread with neighbours apart, and in parts: ten nodes that follow one another lie in one thread, and of heavy as many as
-can. A last table tells when threads pay: the best of each number beside one thread without rings, all by the clock."""
+With --threads the product is measured by rings of so many threads too, at the defaults, and with capacity 4,096 at chunk 256 and
+1,024; for more than one thread with neighbours apart, and in parts: ten nodes that follow one another lie in one thread, and of
+heavy as many as can. A last table tells when threads pay: the best of each number beside one thread without rings, all by the
+clock."""
 
 import argparse
 import collections
@@ -42,16 +43,16 @@ FEWER_IN_THREADS = 16
 # Instructions are counted at these two, since valgrind is slow.
 COUNTED = {"squares": (10_000, 30_000), "wide": (10_000, 30_000), "nest": (10_000, 20_000), "deep": (6_000, 10_000)}
 COUNTED |= {"heavy": (4_000, 8_000), "row": (10_000, 20_000), **dict.fromkeys(WITH_VECTORS, (20_000, 40_000))}
-# So many nodes that follow one another lie in one thread, as far as the list that deals nodes out may be long. Those of heavy hang on
-# one another by the hundred.
+# So many nodes that follow one another lie in one thread, as far as the list that deals nodes out may be long. Those of heavy
+# hang on one another by the hundred.
 TOGETHER, DIGITS = {it: 100 if it == "heavy" else 10 for it in PROGRAMS}, 64
 # How nodes are dealt out to threads: all in one thread without rings, over rings in turn, or over rings in parts.
 ALONE, APART, PARTS = "alone", "apart", "parts"
 
 
 class Variant(NamedTuple):
-    """One way to run the programs: who runs them, at which chunk and capacity (None where they change nothing), in how many threads,
-    and how nodes are dealt out to them."""
+    """One way to run the programs: who runs them, at which chunk and capacity (None where they change nothing), in how many
+    threads, and how nodes are dealt out to them."""
 
     who: str
     chunk: int | None
@@ -133,7 +134,8 @@ def an_element(spent, clock):
 
 
 def counts(snesl, cells):
-    """The name of what counts instructions, and those of an element of each variant of one thread and program. It counts some side by side."""
+    """The name of what counts instructions, and those of an element of each variant of one thread and program. It counts some
+    side by side."""
     name, alone = counter(), [cell for cell in cells if not cell[0].is_beside]
 
     def count(cell):
@@ -146,7 +148,8 @@ def counts(snesl, cells):
 
 
 def sitting(snesl, threads, runs):
-    """What counted instructions, and the figure of each variant and program: by the clock where nodes wait, and else of the processor."""
+    """What counted instructions, and the figure of each variant and program: by the clock where nodes wait, and else of the
+    processor."""
     cells = [(variant, program) for variant in variants(threads) for program in PROGRAMS if variant.runs(program)]
     spent = times(snesl, cells, runs)
     name, found = counts(snesl, cells)
@@ -199,7 +202,8 @@ def multiple(its, one):
 
 
 def when_threads_pay(figures, threads):
-    """What an element takes by the clock in one thread without rings, and over rings of each number of threads, with both multiples."""
+    """What an element takes by the clock in one thread without rings, and over rings of each number of threads, with both
+    multiples."""
     alone = [best(figures, program, in_one_thread(PRODUCT), "by_clock") for program in PROGRAMS]
     yield ["one thread without rings", *map(both, alone)]
     for count in threads:
@@ -228,7 +232,8 @@ def main():
     counted_by, figures = sitting(snesl, words.threads, runs)
     counted = f"; in brackets instructions an element, by {counted_by}" if counted_by else ""
     print(f"{what}: nanoseconds an element, the least and the median of {runs} runs{counted}.\n")
-    rows = [[it.title(), *(spelled(figures.get((it, program))) for program in PROGRAMS)] for it in dict.fromkeys(it for it, _ in figures)]
+    made = dict.fromkeys(variant for variant, _ in figures)
+    rows = [[it.title(), *(spelled(figures.get((it, program))) for program in PROGRAMS)] for it in made]
     print(table(["nanoseconds an element", *PROGRAMS], *rows))
     print("\nA cell is empty where the peer has no nodes for vectors. The programs:\n")
     print("\n".join(f"- {program}: {means}" for program, means in MEANS.items()))

@@ -1,10 +1,10 @@
 """Checks that docs/CALLING.md names callers that are proved, and contracts that stand; or prints the callers of some files of
 crates/callers/src, and the clauses on which they rest.
 
-In the block of the page that begins with ```text a line names a file of crates/callers/src, and a line below it, `FUNCTION, FILE: CLAUSE ..`,
-a function of a file of crates/, with the clauses of it on which the callers rest: by their names, or by `requires` or `ensures` where they
-have none. Each file of crates/callers/src has its lines, so that no caller is forgotten. A block that begins with ```rust stands word for
-word in one of them, from the beginning of a line to the end of one."""
+In the block of the page that begins with ```text a line names a file of crates/callers/src, and a line below it, `FUNCTION, FILE:
+CLAUSE ..`, a function of a file of crates/, with the clauses of it on which the callers rest: by their names, or by `requires` or
+`ensures` where they have none. Each file of crates/callers/src has its lines, so that no caller is forgotten. A block that begins
+with ```rust stands word for word in one of them, from the beginning of a line to the end of one."""
 
 import re
 import sys

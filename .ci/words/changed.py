@@ -1,10 +1,10 @@
-"""Proves the crates that changed and builds their libraries, many side by side, over what earlier checks kept in their out/: crates that are
-named and all below them, or all.
+"""Proves the crates that changed and builds their libraries, many side by side, over what earlier checks kept in their out/:
+crates that are named and all below them, or all.
 
-It is for the time between two runs of the gate: tests, wrong bodies and what `rt ci` refuses besides are not looked at. Several `rt` in one
-tree wait for one another, and each sums up all that a crate stands on many times over; so this does in one process what `rt lib` does
-of a library and `rt check` of a program. What a check says is in crates/CRATE/out/changed.log. RT_JOBS is the number of checks at a time, if
-not what processors and memory allow. It prints a line for each crate that was not as it stands."""
+It is for the time between two runs of the gate: tests, wrong bodies and what `rt ci` refuses besides are not looked at. Several
+`rt` in one tree wait for one another, and each sums up all that a crate stands on many times over; so this does in one process
+what `rt lib` does of a library and `rt check` of a program. What a check says is in crates/CRATE/out/changed.log. RT_JOBS is the
+number of checks at a time, if not what processors and memory allow. It prints a line for each crate that was not as it stands."""
 
 import copy
 import functools

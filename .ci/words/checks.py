@@ -36,7 +36,8 @@ def check(crate, kept, *words, folder=None, tests=False):
 
 
 def kept_modules(kept, begun):
-    """The modules that a check kept, in turn: the name of each, and the seconds since the one before it, or since the check began."""
+    """The modules that a check kept, in turn: the name of each, and the seconds since the one before it, or since the check
+    began."""
     files = sorted((it.stat().st_mtime, it.name) for it in pathlib.Path(kept).rglob("*.oantt"))
     for at, name in files:
         yield name.removesuffix(".oantt").removesuffix(".decls"), at - begun

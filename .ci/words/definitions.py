@@ -1,5 +1,5 @@
-"""Evaluates the trusted definitions, crates/*/specs/*.antt, read as they stand, without any code of the product: over the rows of the tables,
-the forms that are known, what is not run, and docs/TRUST.md.
+"""Evaluates the trusted definitions, crates/*/specs/*.antt, read as they stand, without any code of the product: over the rows of
+the tables, the forms that are known, what is not run, and docs/TRUST.md.
 
     --page           whether docs/TRUST.md and README.md have the numbers of `trust`; two seconds
     --write          writes .ci/definitions_unread and the table of docs/TRUST.md anew
@@ -8,9 +8,9 @@ the forms that are known, what is not run, and docs/TRUST.md.
                      TEXTs in their names, which are printed where they live
     --processes N    by so many processes, where it is not one for each core
 
-Each row of crates/tool_runs/data and of .ci/definitions_rows is answered by evaluation, and by its network: laid out, and its nodes stepped
-by their machines at the capacity of the row. .ci/definitions_unread names what the headline rests on and no row runs; a name too many
-fails as one that is missing does."""
+Each row of crates/tool_runs/data and of .ci/definitions_rows is answered by evaluation, and by its network: laid out, and its
+nodes stepped by their machines at the capacity of the row. .ci/definitions_unread names what the headline rests on and no row
+runs; a name too many fails as one that is missing does."""
 
 import os
 

@@ -1,9 +1,9 @@
-"""Has Graphviz read what `levuttar draw` writes: of the jobs of examples/, and of random programs, 200 where no word tells, of each with and
-without --traffic.
+"""Has Graphviz read what `levuttar draw` writes: of the jobs of examples/, and of random programs, 200 where no word tells, of
+each with and without --traffic.
 
-`dot` has to take each drawing without a word, and to find as many nodes and edges as `levuttar draw --text` has. The title of a frame is
-a node to Graphviz, whose name begins with an f. It needs Graphviz (Debian's package graphviz), which the gate's machine need not have, so it
-is no part of .ci/run."""
+`dot` has to take each drawing without a word, and to find as many nodes and edges as `levuttar draw --text` has. The title of a
+frame is a node to Graphviz, whose name begins with an f. It needs Graphviz (Debian's package graphviz), which the gate's machine
+need not have, so it is no part of .ci/run."""
 
 import re
 import shutil

@@ -1,10 +1,10 @@
-"""Checks that the grammars of editors/ know the words, operators, built-ins and signs of the language, and no others, and that the problem
-matcher reads messages.
+"""Checks that the grammars of editors/ know the words, operators, built-ins and signs of the language, and no others, and that
+the problem matcher reads messages.
 
 The lexer's tables have them all, and the parser's the kinds that are operators and built-ins. Each grammar is to read each of
-them whole, as what it is: a shorter sign that stands first hides a longer one. The problem matcher is to read the first line of each
-message about a file in examples/*.rows, which `printed` compares with what the programs print, and no other line there: no line of
-`levuttar check --json` either. The tasks of editors/README.md name it, and commands that docs/help has."""
+them whole, as what it is: a shorter sign that stands first hides a longer one. The problem matcher is to read the first line of
+each message about a file in examples/*.rows, which `printed` compares with what the programs print, and no other line there: no
+line of `levuttar check --json` either. The tasks of editors/README.md name it, and commands that docs/help has."""
 
 import json
 import re
@@ -25,7 +25,8 @@ SCOPES = {
     "support.function": BUILTIN,
     "punctuation": SIGN,
 }
-GROUPS = dict.fromkeys(["Conditional", "Keyword", "Type", "Boolean"], WORD) | {"Operator": OPERATOR, "Function": BUILTIN, "Delimiter": SIGN}
+GROUPS = dict.fromkeys(["Conditional", "Keyword", "Type", "Boolean"], WORD)
+GROUPS |= {"Operator": OPERATOR, "Function": BUILTIN, "Delimiter": SIGN}
 # What is behind the words in a rule of the TextMate grammar: no word goes on there.
 WORDS_END = ")(?![A-Za-z0-9_])"
 
@@ -84,8 +85,8 @@ def look_at_grammar(tally, path, rules, lexemes):
 
 
 def look_at_messages(tally):
-    """Counts the lines that the programs print by examples/*.rows, and that the problem matcher reads as the messages that they are. Other
-    lines count where it reads them."""
+    """Counts the lines that the programs print by examples/*.rows, and that the problem matcher reads as the messages that they
+    are. Other lines count where it reads them."""
     parts = [MATCHER["pattern"][it] for it in ("file", "line", "column", "severity", "message")]
     for line in (it for table in sorted(ROOT.glob("examples/*.rows")) for it in table.read_text(encoding="utf-8").splitlines()):
         place, is_message, message = line.partition(": error: ")

@@ -15,10 +15,11 @@ TOO_LONG = {"program": (b"", 70_000, b"refused 1\n"), "input": (b"1\n---\n", 16_
 
 
 def worked():
-    """Runs the programs of the worked rows by every drive, in tool_runs as both compilers build it: several threads end as one does.
+    """Runs the programs of the worked rows by every drive, in tool_runs as both compilers build it: several threads end as one
+    does.
 
-    These are thousands of runs, whose threads wait for one another, and on a busy machine they take minutes. A stored run may take 120
-    seconds, so they are no part of it."""
+    These are thousands of runs, whose threads wait for one another, and on a busy machine they take minutes. A stored run may
+    take 120 seconds, so they are no part of it."""
     asked(worked.__doc__)
     tally = Tally("worked")
     for program in (it["tool_runs"] for it in built("tool_runs").values()):
@@ -30,8 +31,8 @@ def worked():
 def full():
     """Runs the programs, as both compilers build them, with a standard output that takes no byte.
 
-    What cannot be printed is said on standard error, once and with status 4: as `refused 12` by the program for scripts, and in words by the
-    one for people."""
+    What cannot be printed is said on standard error, once and with status 4: as `refused 12` by the program for scripts, and in
+    words by the one for people."""
     asked(full.__doc__)
     built("snesl", "levuttar")
     tally = Tally("full")
@@ -46,7 +47,8 @@ def full():
 
 
 def answered(program, job):
-    """What a program prints within ten seconds while its job stays open behind these bytes, and its status, less than 0 where it goes on."""
+    """What a program prints within ten seconds while its job stays open behind these bytes, and its status, less than 0 where it
+    goes on."""
     ran = subprocess.Popen([program, "--drive", "serial"], stdin=subprocess.PIPE, stdout=subprocess.PIPE)
     writer, ender = threading.Thread(target=given, args=(ran.stdin, job)), threading.Timer(10, ran.kill)
     for it in (writer, ender):
@@ -70,7 +72,8 @@ def given(pipe, job):
 def open_pipe():
     """Runs the program for scripts, as both compilers build it, on a pipe that stays open.
 
-    The answer of a program that is too long comes while more of the job may come, and so does that of an input text that is too long."""
+    The answer of a program that is too long comes while more of the job may come, and so does that of an input text that is too
+    long."""
     asked(open_pipe.__doc__)
     built("snesl")
     tally = Tally("open_pipe")

@@ -1,15 +1,15 @@
-"""Prints the figures of docs/TIMES.md, of the programs as LLVM builds them: what an element of a sum of squares takes as a network, beside the
-same network built by hand and beside the plain evaluation; how much memory a network and an evaluation take; how long programs take that
-are as great as they may be; what the longest input texts take of memory and time in one thread; what an element of a vector takes where it
-is read by its index, beside plain Rust (bench/peers); and what the drives take beside one another, on several threads. What is not the
-program's is done by tool_runs.
+"""Prints the figures of docs/TIMES.md, of the programs as LLVM builds them: what an element of a sum of squares takes as a
+network, beside the same network built by hand and beside the plain evaluation; how much memory a network and an evaluation take;
+how long programs take that are as great as they may be; what the longest input texts take of memory and time in one thread; what
+an element of a vector takes where it is read by its index, beside plain Rust (bench/peers); and what the drives take beside one
+another, on several threads. What is not the program's is done by tool_runs.
 
     dev figures                     all of it
     dev figures vectors [PROGRAM]   vectors alone, by this program in place of the proved snesl
 
-It needs what counts instructions, perf or valgrind, and GNU time, which tells the memory of a program. All of it takes some minutes. For
-vectors it needs cargo, and takes two. Instructions and seconds of an element are those of one run less those of a shorter one, so that what
-each run begins with does not count. Seconds are the least of several runs."""
+It needs what counts instructions, perf or valgrind, and GNU time, which tells the memory of a program. All of it takes some
+minutes. For vectors it needs cargo, and takes two. Instructions and seconds of an element are those of one run less those of a
+shorter one, so that what each run begins with does not count. Seconds are the least of several runs."""
 
 import math
 import os
@@ -56,7 +56,8 @@ def elements():
     """What an element takes, at each of the drives that a run makes."""
     by_text = lambda command: lambda count: (command, squares(count).encode())
     by_hand = lambda count: ([program_of("tool_runs"), "graph", str(count)], b"")
-    ways, counted_by, rows = {"network": by_text(network()), "network built by hand": by_hand, "plain evaluation": by_text(plain())}, counter(), []
+    ways = {"network": by_text(network()), "network built by hand": by_hand, "plain evaluation": by_text(plain())}
+    counted_by, rows = counter(), []
     for row, run in ways.items():
         beyond = lambda measure, small, great, run=run: (measure(*run(great)) - measure(*run(small))) / (great - small)
         found = [beyond(lambda *it: instructions(counted_by, *it), *COUNTED), beyond(least, *TIMED) * 1e9]
@@ -67,7 +68,8 @@ def elements():
 def memory():
     # The sum of so many squares is over 64 bits.
     jobs = [f"dialect 2; {squares(count)}".encode() for count in (FEW, MANY)]
-    rows = [[row, *(megabytes(command, job) for job in jobs)] for row, command in {"network": network(), "plain evaluation": plain()}.items()]
+    ways = {"network": network(), "plain evaluation": plain()}
+    rows = [[row, *(megabytes(command, job) for job in jobs)] for row, command in ways.items()]
     print("\n" + table(["most memory, MB", f"{FEW:,} elements", f"{MANY:,} elements"], *rows))
 
 
@@ -117,7 +119,8 @@ def great_programs():
 
 
 def inputs():
-    """Input texts of the greatest length, each behind its program: a long inner sequence, as many short ones as fit, a long vector."""
+    """Input texts of the greatest length, each behind its program: a long inner sequence, as many short ones as fit, a long
+    vector."""
     jobs = {
         "one inner sequence of ones": (SUMS, "xs = {{1", ",1", "}}"),
         "one inner sequence of numbers of six digits": (SUMS, "xs = {{1", ",123456", "}}"),
@@ -147,7 +150,8 @@ def rows_of(count):
 
 
 def growth(run, sizes):
-    """Of each size the answer, the nanoseconds of an element beyond a run of one element, and the exponent by which the time grows."""
+    """Of each size the answer, the nanoseconds of an element beyond a run of one element, and the exponent by which the time
+    grows."""
     begun, made, before = least(*run(1), "processor"), [], None
     for count in sizes:
         spent = max(least(*run(count), "processor") - begun, 1e-6)
@@ -191,10 +195,12 @@ def vectors(program):
     rows.append(grown("network, `tab` alone", "an element", growth(by_text(gathered), (INDICES,))))
     print("\n" + table(head("indices into a vector that `tab` made, n is", (INDICES,)), *rows))
     name = counter()
-    few, many = (instructions(name, *by_text(indices)(count)) - instructions(name, *by_text(without_indices)(count)) for count in COUNTED)
+    ours, others = ([instructions(name, *by_text(make)(count)) for count in COUNTED] for make in (indices, without_indices))
+    few, many = (its - other for its, other in zip(ours, others))
     print(f"\nAn index takes the network {made['network'][0][1] - without[0][1]:,.0f} ns", end=" ")
     print(f"and {(many - few) / (COUNTED[1] - COUNTED[0]):,.0f} instructions beyond the loop.")
-    rows = [grown(said, "an index", growth(by_text(make), NESTED)) for said, make in (("vectors of pairs", pairs), ("vectors of vectors", rows_of))]
+    made = {"vectors of pairs": pairs, "vectors of vectors": rows_of}
+    rows = [grown(said, "an index", growth(by_text(make), NESTED)) for said, make in made.items()]
     print("\n" + table(head("elements that are not scalars, read by as many indices, n is", NESTED), *rows))
 
 

@@ -1,10 +1,10 @@
-"""Runs the jobs of examples/ by each drive, and by `levuttar run`, in the programs as both compilers build them, or with --unproved as they
-are built without proofs: each prints just the line of its answer, NAME.answer, with status 0.
+"""Runs the jobs of examples/ by each drive, and by `levuttar run`, in the programs as both compilers build them, or with
+--unproved as they are built without proofs: each prints just the line of its answer, NAME.answer, with status 0.
 
-At the least capacity that `levuttar size` tells it does so too, and at the one below it stalls. A job that has a drawing beside it,
-NAME.network, is drawn just as that by `levuttar draw`. A job with no answer, or with no heading in examples/README.md, has failed; so has an
-answer or a heading with no job. A program that stalls is told where, and one whose types do not fit is told the types. What else the
-programs print is a table (`printed`), or stands in a page (`pages`)."""
+At the least capacity that `levuttar size` tells it does so too, and at the one below it stalls. A job that has a drawing beside
+it, NAME.network, is drawn just as that by `levuttar draw`. A job with no answer, or with no heading in examples/README.md, has
+failed; so has an answer or a heading with no job. A program that stalls is told where, and one whose types do not fit is told the
+types. What else the programs print is a table (`printed`), or stands in a page (`pages`)."""
 
 import re
 

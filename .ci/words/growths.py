@@ -6,15 +6,15 @@ end in the job's own answer, or in nothing on standard output, `refused 11` on s
 in threads too: there a growth may be part of a thread's start, which is `refused 13`. Over rings its number may belong to
 another growth in each run. Of a job that is no worked row and has more than 1,000 growths so many are tried, evenly spread.
 
-Of the worked rows growth n is refused for each n from 1 on, until a run meets no refusal, in one thread and in rounds; over rings for n from
-1 to 200. And `refused 13` is only right there where the growth was part of a start: one of the last that the first thread makes before it
-starts another. How many these are is measured: as many as lie between two starts of one round.
+Of the worked rows growth n is refused for each n from 1 on, until a run meets no refusal, in one thread and in rounds; over rings
+for n from 1 to 200. And `refused 13` is only right there where the growth was part of a start: one of the last that the first
+thread makes before it starts another. How many these are is measured: as many as lie between two starts of one round.
 
-The nodes that take memory while they run are driven by `tool_runs nodes`, message by message: a node to which memory is refused is as it was,
-since it goes on as with ample memory. So are those that share vectors, and none of their calls is refused. An input text is read by
-`tool_runs inputs`, once with one inner sequence and once with a thousand: so many refusals end the reading as out of memory, the same number
-for both, and none is refused to a source that was made. The program for people runs, checks, lays out, sizes and draws a job: it does as
-with ample memory, or prints nothing and says in words, with status 4, that memory was refused.
+The nodes that take memory while they run are driven by `tool_runs nodes`, message by message: a node to which memory is refused
+is as it was, since it goes on as with ample memory. So are those that share vectors, and none of their calls is refused. An input
+text is read by `tool_runs inputs`, once with one inner sequence and once with a thousand: so many refusals end the reading as out
+of memory, the same number for both, and none is refused to a source that was made. The program for people runs, checks, lays out,
+sizes and draws a job: it does as with ample memory, or prints nothing and says in words, with status 4, that memory was refused.
 
 --quick tries at most 100 growths of each job, of those in threads 40; and any refusal of a start is right in threads."""
 
@@ -41,8 +41,8 @@ MOST_OVER_RINGS = 200
 SHARING = {"source", "fork", "dist"}
 # What `tool_runs` says where memory is refused to anything but a node: to the words of its command line, and to all else.
 NO_MEMORY = b"Error: out of memory\n", b"Error: memory allocation failed\n"
-# What `tool_runs inputs` prints: where reading was refused memory, and where it was not. Of how many inner sequences an input text
-# is made, and how many messages its three sources write then.
+# What `tool_runs inputs` prints: where reading was refused memory, and where it was not. Of how many inner sequences an input
+# text is made, and how many messages its three sources write then.
 READING_REFUSED = b"read_inputs: out of memory\n"
 SOURCES = b"read_inputs: 1, sources: %d messages, calls refused: 0\n"
 SEQUENCES = {1: 8, 1000: 4004}
@@ -161,8 +161,8 @@ for form in ("literal_then_where_source", "binary_left"):
     JOBS[form] = (deepest.program(form).encode(), line, int(line.startswith(b"refused")))
 
 
-# What `levuttar` is asked for over a job, beside what it prints and how what it says begins, and its status. What `size` prints is taken
-# from its run with ample memory.
+# What `levuttar` is asked for over a job, beside what it prints and how what it says begins, and its status. What `size` prints
+# is taken from its run with ample memory.
 PRIMES = [(ROOT / "examples" / f"primes.{ending}").read_bytes() for ending in ("snesl", "network")]
 UNBOUND = b'{"file":null,"line":1,"column":2,"end":3,"severity":"error","message":"there is no value `y` here","hint":null}\n'
 PEOPLE = {
@@ -200,7 +200,8 @@ def threads_of(words):
 
 
 def growths_of_a_start(compiler, library):
-    """How many growths the first thread makes for a start before it asks the system for the thread: those between two starts of a round."""
+    """How many growths the first thread makes for a start before it asks the system for the thread: those between two starts of a
+    round."""
     (text, _, _), words = JOBS["sum, rounds"], WORDS["sum, rounds"]
     before = run(program_of("snesl", compiler), words, text, library).before_starts[: threads_of(words)]
     found = {after - at for at, after in zip(before, before[1:])}
@@ -210,10 +211,11 @@ def growths_of_a_start(compiler, library):
 
 
 def is_of_a_start(ran, ample, words, most):
-    """Whether the refused growth, an own one, was among the last so many before a start of a thread, as the run with ample memory has them.
+    """Whether the refused growth, an own one, was among the last so many before a start of a thread, as the run with ample memory
+    has them.
 
-    Over rings there may be more epochs than in that run. So there the growth is looked for behind the last start, between two that
-    stand at the same places among the threads of an epoch."""
+    Over rings there may be more epochs than in that run. So there the growth is looked for behind the last start, between two
+    that stand at the same places among the threads of an epoch."""
     own, before, made = ran.refused_own, ample.before_starts, len(ran.before_starts)
     if b"rings" not in words or not made:
         return made < len(before) and before[made] - most < own <= before[made]
@@ -263,7 +265,8 @@ def runs(numbers, pool, of, goes_on):
 
 def refused_call(ran, ample):
     """The node of which a call was refused, where a growth was: the one whose line says so. None where the growth was of
-    something else, which ends the program. It is an error where anything else differs from what the nodes do with ample memory."""
+    something else, which ends the program. It is an error where anything else differs from what the nodes do with ample
+    memory."""
     lines, wanted = (text.decode().splitlines() for text in (ran.printed, ample.printed))
     told = [number for number, line in enumerate(lines) if line != wanted[number]]
     if not told and ran.refused == A_GROWTH and ran.said in NO_MEMORY and ran.status == 1:
@@ -297,8 +300,8 @@ def tried_nodes(tally, compiler, library, pool):
 
 
 def tried_inputs(tally, compiler, library, pool):
-    """Counts the runs that end as they must while an input text is read and its sources are made and driven, and whether it takes as many
-    growths for few values as for many."""
+    """Counts the runs that end as they must while an input text is read and its sources are made and driven, and whether it takes
+    as many growths for few values as for many."""
     program, counts, job = program_of("tool_runs", compiler), [], f"inputs, built by {compiler}"
     for count, messages in SEQUENCES.items():
         of = lambda number: run(program, [b"inputs", b"%d" % count], b"", library, GROWTH=number)

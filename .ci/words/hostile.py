@@ -1,5 +1,5 @@
-"""Runs random programs under a system that gives less than is asked for (preloaded.py), in both builds of the programs: for a minute, from
-the seed that the clock gives, where no word tells.
+"""Runs random programs under a system that gives less than is asked for (preloaded.py), in both builds of the programs: for a
+minute, from the seed that the clock gives, where no word tells.
 
 Job number k of a seed S is that of the seed S + k (`tool_runs job SEED`). It is run undisturbed by one thread, whose answer must
 be that of plain evaluation (`tool_runs plain`), a stall or a network that is too big; then under random options by a random
@@ -13,11 +13,11 @@ drive, which must give the same; and then some times more under these options:
     empty write    one write takes no byte, likewise
     short writes   each write takes few bytes
 
-Such a run must give the right answer, or the one refusal that is due to what was refused: 11 for memory, 13 for a start and
-what it takes, 14 for the reader, and 12 for the writer, which then has exactly what the calls before took. `levuttar run` is given each
-job under the same options too, undisturbed and while a growth, a read and a write are refused: it prints the same values, has the
-same statuses, and says the same refusals in words. All is over at the first answer that is another. The last lines say how many runs there
-were of each kind, and how many were right."""
+Such a run must give the right answer, or the one refusal that is due to what was refused: 11 for memory, 13 for a start and what
+it takes, 14 for the reader, and 12 for the writer, which then has exactly what the calls before took. `levuttar run` is given
+each job under the same options too, undisturbed and while a growth, a read and a write are refused: it prints the same values,
+has the same statuses, and says the same refusals in words. All is over at the first answer that is another. The last lines say
+how many runs there were of each kind, and how many were right."""
 
 import dataclasses
 import os
@@ -117,8 +117,8 @@ def as_for_scripts(ran, right):
 
 
 def tried_for_people(of, dice, right, job):
-    """Runs a job by levuttar, undisturbed and under some disturbances, and gives the kind of each run. `of` runs it, and `right` is
-    what snesl answers. A writer fails only where there is a value, since nothing else is printed."""
+    """Runs a job by levuttar, undisturbed and under some disturbances, and gives the kind of each run. `of` runs it, and `right`
+    is what snesl answers. A writer fails only where there is a value, since nothing else is printed."""
     ample = of()
     if as_for_scripts(ample, right).answer() != right:
         raise Wrong(f"levuttar comes out as {ample}, and the answer is {right}")
@@ -136,8 +136,8 @@ def tried_for_people(of, dice, right, job):
 
 
 def tried_for_scripts(of, dice, options, job, library):
-    """Runs a job by snesl, alone, under these options, and under disturbances, and gives the kind of each run, with the right answer. `of` runs
-    it. It is passed over where it takes long undisturbed."""
+    """Runs a job by snesl, alone, under these options, and under disturbances, and gives the kind of each run, with the right
+    answer. `of` runs it. It is passed over where it takes long undisturbed."""
     alone = ["--drive", "serial", "--capacity", str(options["--capacity"])]
     right = of(alone, seconds=LONG).answer()
     evaluated = run(program_of("tool_runs"), ["plain"], job, library, seconds=LONG).printed

@@ -1,8 +1,8 @@
 """Prints how the house stands: what is long, and what stands more often than it should.
 
-Of crates that are named it prints the clauses that are over 100 columns, or stand in more than two functions; without a name the numbers of
-the whole tree. A clause is counted as one line, its words apart by one blank, from `requires` or `ensures` to its end. Words of pages
-have a letter or a digit. Of .ci what the tools read is counted apart, as lists and tables."""
+Of crates that are named it prints the clauses that are over 100 columns, or stand in more than two functions; without a name the
+numbers of the whole tree. A clause is counted as one line, its words apart by one blank, from `requires` or `ensures` to its end.
+Words of pages have a letter or a digit. Of .ci what the tools read is counted apart, as lists and tables."""
 
 import collections
 import re

@@ -13,12 +13,13 @@ def edits():
     """Prints the names of the wrong bodies by crate, all or those of some. A name says what the body does.
 
     A * marks those of must-fail/, a + those of planted/, which a test must show; the prover must refuse all others."""
-    crates = asked(edits.__doc__, "CRATE").rest or sorted(it.name for it in CRATES.iterdir())
-    found = {crate: sorted(it.stem + mark for folder, mark in FOLDERS.items() for it in (CRATES / crate / folder).glob("*.edit")) for crate in crates}
-    for crate, names in found.items():
-        text = f"{crate} ({len(names)}): {', '.join(names)}."
-        print(textwrap.fill(text, 118, subsequent_indent="  ", break_long_words=False, break_on_hyphens=False) + "\n" if names else "", end="")
-    print(f"{sum(map(len, found.values()))} in all")
+    count, lines = 0, textwrap.TextWrapper(118, subsequent_indent="  ", break_long_words=False, break_on_hyphens=False)
+    for crate in asked(edits.__doc__, "CRATE").rest or sorted(it.name for it in CRATES.iterdir()):
+        names = sorted(it.stem + mark for folder, mark in FOLDERS.items() for it in (CRATES / crate / folder).glob("*.edit"))
+        count += len(names)
+        if names:
+            print(lines.fill(f"{crate} ({len(names)}): {', '.join(names)}."))
+    print(f"{count} in all")
 
 
 def print_whole(closure, root):
@@ -66,6 +67,7 @@ def trust():
 
 
 def programs():
-    """Sees that programs stand built by both compilers, over what stands in the crates now, and prints their places: of snesl, or of these."""
+    """Sees that programs stand built by both compilers, over what stands in the crates now, and prints their places: of snesl, or
+    of these."""
     places = built(*(asked(programs.__doc__, "CRATE").rest or ["snesl"]))
     print(*(place for compiler in COMPILERS for place in places[compiler].values()), sep="\n")

@@ -1,14 +1,15 @@
-"""Runs great jobs over rings in several threads, while random ones of these sleep at random moments (delays.c), and compares each run
-with that of one thread without rings: for half a minute, from the seed that the clock gives, where no word tells.
+"""Runs great jobs over rings in several threads, while random ones of these sleep at random moments (delays.c), and compares each
+run with that of one thread without rings: for half a minute, from the seed that the clock gives, where no word tells.
 
     dev load [--seconds N] [--seed S] [SNESL [LEVUTTAR]]
 
-SNESL and LEVUTTAR are the programs that are tried: those that .ci/run proved, in both builds, where no word tells. Where SNESL stands
-alone no messages are counted. Job number k of a seed S is that of the seed S + k; the shapes of programs come by turns. A job has a
-capacity of 1,024 to 65,536, and sends 100,000 messages and more over its edges; some have a small one. Each runs some times in 2 to 16
-threads, with random chunks and idle turns, nodes dealt in turn or by a random list, and mostly with delays. What comes out is that of one
-thread at the same capacity: what snesl prints, what it says, and its status; and the same of `levuttar draw --text --traffic`, which has how
-many messages went over each edge. All is over at the first answer that is another or does not come."""
+SNESL and LEVUTTAR are the programs that are tried: those that .ci/run proved, in both builds, where no word tells. Where SNESL
+stands alone no messages are counted. Job number k of a seed S is that of the seed S + k; the shapes of programs come by turns. A
+job has a capacity of 1,024 to 65,536, and sends 100,000 messages and more over its edges; some have a small one. Each runs some
+times in 2 to 16 threads, with random chunks and idle turns, nodes dealt in turn or by a random list, and mostly with delays. What
+comes out is that of one thread at the same capacity: what snesl prints, what it says, and its status; and the same of `levuttar
+draw --text --traffic`, which has how many messages went over each edge. All is over at the first answer that is another or does
+not come."""
 
 import os
 import random
@@ -36,8 +37,8 @@ IDLE = [1, 64, 64, 1_000, 10_000]
 COUNTS = struct.Struct("2q")
 # The messages over an edge, in the line of the node that writes it.
 MESSAGES = re.compile(rb"-> \d+ [a-z]+ (\d+)")
-# Programs that send 100,000 messages and more, each beside the N that does. INPUT stands for N rows, and HELD for how many elements an
-# edge is to hold, which is about as many as it can.
+# Programs that send 100,000 messages and more, each beside the N that does. INPUT stands for N rows, and HELD for how many
+# elements an edge is to hold, which is about as many as it can.
 SHAPES = {
     "squares": (15_000, "reduce_add({x * x : x in iota(N)})"),
     "wide": (12_000, " + ".join(f"reduce_add({{x * x + {k} : x in iota(N / 8)}})" for k in range(8))),

@@ -1,5 +1,5 @@
-"""The programs that `bench` and `figures` measure, each as a text over so many elements, which bench/peers has by the same names; and how
-a command is measured.
+"""The programs that `bench` and `figures` measure, each as a text over so many elements, which bench/peers has by the same names;
+and how a command is measured.
 
     squares(4)                the text of a program over four elements
     TEXTS["squares"](4)       the same, by its name"""

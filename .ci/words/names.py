@@ -1,8 +1,10 @@
-"""Checks that no name stands for two ideas in two crates, but for those that .ci/names_allowed has; or prints where names are defined.
+"""Checks that no name stands for two ideas in two crates, but for those that .ci/names_allowed has; or prints where names are
+defined.
 
-Looked at are what other crates can name: public definitions of crates/*/specs that are no proofs, and public types, functions and constants of
-crates/*/src that lib.rt passes on or has in a public module. Methods are not, since their type tells them apart; nor are crates on which, by
-crates.txt, none stands but those of tests. A line of the list has names, the crates that have them, and a reason, which begins with a word:
+Looked at are what other crates can name: public definitions of crates/*/specs that are no proofs, and public types, functions and
+constants of crates/*/src that lib.rt passes on or has in a public module. Methods are not, since their type tells them apart; nor
+are crates on which, by crates.txt, none stands but those of tests. A line of the list has names, the crates that have them, and a
+reason, which begins with a word:
 
     same      they say the same, each of its own type or of what it stands on
     field     words of the field or of the interface, which docs/GLOSSARY.md tells apart

@@ -2,9 +2,9 @@
 
     dev pages SNESL LEVUTTAR    the places of the two programs
 
-A block is lines with four blanks or more before them. Those of one page are run by one shell, in a folder that has the two programs and examples/.
-`$ cat NAME` of a file that is not there makes it, as the page shows it. What Graphviz draws is not compared: `cat` stands in its place where
-there is none."""
+A block is lines with four blanks or more before them. Those of one page are run by one shell, in a folder that has the two
+programs and examples/. `$ cat NAME` of a file that is not there makes it, as the page shows it. What Graphviz draws is not
+compared: `cat` stands in its place where there is none."""
 
 import os
 import pathlib

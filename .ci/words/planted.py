@@ -1,13 +1,14 @@
 """Plants wrong bodies that tests are there to show, all or those of some names, and looks whether the test of each fails.
 
-Most of them meet their contracts: none can say that threads run side by side, or that a call does not always want memory. Each is a file
-crates/CRATE/planted/NAME.edit, written as those of wrong/ are (docs/TESTS.md), with one more line, which names the test that has to fail:
+Most of them meet their contracts: none can say that threads run side by side, or that a call does not always want memory. Each is
+a file crates/CRATE/planted/NAME.edit, written as those of wrong/ are (docs/TESTS.md), with one more line, which names the test
+that has to fail:
 
     fails: snesl_tests threads::threads_run_side_by_side
 
-First a copy of the tree is tried as it stands, by these tests alone: each has to pass. Then each body is planted in the copy, and its
-test has to fail. `rt try --test` builds the tests, with no proof: a processor minute or so for each body, and for each crate of tests. So
-this is no part of the gate."""
+First a copy of the tree is tried as it stands, by these tests alone: each has to pass. Then each body is planted in the copy, and
+its test has to fail. `rt try --test` builds the tests, with no proof: a processor minute or so for each body, and for each crate
+of tests. So this is no part of the gate."""
 
 import collections
 import os
@@ -31,7 +32,8 @@ TOLD = r"(?m)^test {name} \.\.\. (\w+)(?:\n +checked: (no-answer))?"
 
 
 class Planted:
-    """A wrong body: its name, the folder of its crate, the texts of its files, the crate of the test that has to fail and its name; or why not."""
+    """A wrong body: its name, the folder of its crate, the texts of its files, the crate of the test that has to fail and its
+    name; or why not."""
 
     def __init__(self, file):
         self.name, self.folder = file.stem, str(file.parent.parent)
@@ -60,12 +62,13 @@ class Copy:
         return self.top / "crates" / os.path.basename(planted.folder) / path
 
     def told(self, crate, names):
-        """What these tests of a crate come to: 'ok', 'FAILED' or 'no-answer', by name. All other tests are struck out, so that none of them is
-        built. Beside it all that rt try said."""
+        """What these tests of a crate come to: 'ok', 'FAILED' or 'no-answer', by name. All other tests are struck out, so that
+        none of them is built. Beside it all that rt try said."""
         folder = ROOT / "crates" / crate
         for file, tokens in tokens_of(types.SimpleNamespace(folder=folder)).items():
             (self.top / "crates" / crate / file).write_bytes(with_tests(folder, file, tokens, names))
-        ran = run(["rt", "try", "--test", "--seconds", str(SECONDS)], seconds=None, cwd=self.top / "crates" / crate, stderr=subprocess.STDOUT)
+        how = {"seconds": None, "cwd": self.top / "crates" / crate, "stderr": subprocess.STDOUT}
+        ran = run(["rt", "try", "--test", "--seconds", str(SECONDS)], **how)
         said = ran.printed.decode(errors="replace")
         found = {it: re.search(TOLD.format(name=re.escape(it)), said) for it in names}
         return {it: told[2] or told[1] for it, told in found.items() if told}, said

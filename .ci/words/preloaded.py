@@ -33,8 +33,8 @@ class Wrong(Exception):
 class Ran:
     """What a program printed and said, and its status; its calls by kind, and what was refused to it.
 
-    Own growths are those of its first thread, but for those made within the start of another. `refused_own` is the number of the refused one
-    among them, and `before_starts` has for each start how many of them came before it."""
+    Own growths are those of its first thread, but for those made within the start of another. `refused_own` is the number of the
+    refused one among them, and `before_starts` has for each start how many of them came before it."""
 
     printed: bytes
     said: bytes
@@ -113,8 +113,8 @@ def run(program, words, job, library, seconds=SECONDS, **refusals):
 
 
 def over_seeds(name, tried, first, seconds, lanes):
-    """Tries seeds from the first on, by so many lanes, until the time is over or one of them has gone wrong, which is printed. What `tried` gives
-    of each is summed up; `wrong` is how many have gone wrong."""
+    """Tries seeds from the first on, by so many lanes, until the time is over or one of them has gone wrong, which is printed.
+    What `tried` gives of each is summed up; `wrong` is how many have gone wrong."""
     seeds, stop, deadline = itertools.count(first), threading.Event(), time.monotonic() + seconds
     is_over = lambda: time.monotonic() > deadline or stop.is_set()
 

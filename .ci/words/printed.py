@@ -2,13 +2,13 @@
 
     dev printed SNESL LEVUTTAR    the places of the two programs
 
-A row of examples/*.rows begins with a line `$ PROGRAM WORD..`. Lines that begin with `< ` are its job, and the others, up to a line
-`= STATUS`, all that it prints, on standard output and standard error together. What stands between backquotes in a hint stands in the words
-or the job of a row with status 0 too: so each program that a hint shows was run. Of each job there `levuttar check` says what `run` refuses, and
-nothing else; with `--json` its object has the message's parts. `levuttar fmt` refuses what is no program, and else its layout means the same, and is
-its own. `fmt --write` writes a file anew, or leaves it as it was. The files of docs/help are what words for help print, and
-editors/levuttar.bash has their options. A pipe that breaks is no error. On a terminal `error` is red, but for NO_COLOR, and the search for a
-capacity is told, and taken away again."""
+A row of examples/*.rows begins with a line `$ PROGRAM WORD..`. Lines that begin with `< ` are its job, and the others, up to a
+line `= STATUS`, all that it prints, on standard output and standard error together. What stands between backquotes in a hint
+stands in the words or the job of a row with status 0 too: so each program that a hint shows was run. Of each job there `levuttar
+check` says what `run` refuses, and nothing else; with `--json` its object has the message's parts. `levuttar fmt` refuses what is
+no program, and else its layout means the same, and is its own. `fmt --write` writes a file anew, or leaves it as it was. The
+files of docs/help are what words for help print, and editors/levuttar.bash has their options. A pipe that breaks is no error. On
+a terminal `error` is red, but for NO_COLOR, and the search for a capacity is told, and taken away again."""
 
 import json
 import os

@@ -1,14 +1,15 @@
 """Compares the built program with a second reference, which was written from docs/LANGUAGE.md alone (.ci/reference).
 
-First the reference answers the rows of crates/tool_runs/data, where a stall and a network that is too big are no matter of that page; then with the
-program its examples. Then come random jobs: typed programs with their input texts, ill-typed ones, cut and changed texts, texts near the limits, and
-words of the command line. Each is answered by the reference and by a program, each of those that are named in turn, or of both builds of
-crates/snesl. A lawful job is run by several drives and capacities. Its value has to be the same. Its fault has to be one that the network may come
-to, and the first of them where all edges are wide; where they are small a run may stall. One of N jobs is answered by the definitions of specs/
-too (--definitions N), where these can be run.
+First the reference answers the rows of crates/tool_runs/data, where a stall and a network that is too big are no matter of that
+page; then with the program its examples. Then come random jobs: typed programs with their input texts, ill-typed ones, cut and
+changed texts, texts near the limits, and words of the command line. Each is answered by the reference and by a program, each of
+those that are named in turn, or of both builds of crates/snesl. A lawful job is run by several drives and capacities. Its value
+has to be the same. Its fault has to be one that the network may come to, and the first of them where all edges are wide; where
+they are small a run may stall. One of N jobs is answered by the definitions of specs/ too (--definitions N), where these can be
+run.
 
-The jobs of a seed are always the same. Without --seconds so many are tried, from one seed; with it as many as the time allows, from the clock's
-seed. A job that differs is made smaller and printed."""
+The jobs of a seed are always the same. Without --seconds so many are tried, from one seed; with it as many as the time allows,
+from the clock's seed. A job that differs is made smaller and printed."""
 
 import collections
 import itertools

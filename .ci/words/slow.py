@@ -1,5 +1,5 @@
-"""Proves crates from nothing, over the libraries that stand, or with --test with their tests, and prints where the time went: the functions
-and lemmas that took most seconds by the clock.
+"""Proves crates from nothing, over the libraries that stand, or with --test with their tests, and prints where the time went: the
+functions and lemmas that took most seconds by the clock.
 
     walk      the steps of the code, with each value that is let go
     tie       what joins these steps to the goals
@@ -8,9 +8,9 @@ and lemmas that took most seconds by the clock.
     lemma     a file of lemmas, and what it stands on
     rest      statements, layouts and the like
 
-The prover keeps each module of a proof once it has checked it. So the time between two of them is taken for what the later one took: what was
-loaded for it counts too, as the code of the libraries below, and the first function that needs that pays for all. Beside other work the
-seconds are more."""
+The prover keeps each module of a proof once it has checked it. So the time between two of them is taken for what the later one
+took: what was loaded for it counts too, as the code of the libraries below, and the first function that needs that pays for all.
+Beside other work the seconds are more."""
 
 import collections
 import re

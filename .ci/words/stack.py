@@ -1,6 +1,7 @@
-"""Runs the deepest lawful programs and input texts (`deepest`) within half of the 8 MB of stack that a thread has by default, in the
-program as LLVM builds it, and within 6 MB as Rattle's own compiler does: that one keeps no function apart whose attribute asks for it, so a
-step of the translation takes more. With --measure it prints the least stack, in KB, that the program of each form runs with."""
+"""Runs the deepest lawful programs and input texts (`deepest`) within half of the 8 MB of stack that a thread has by default, in
+the program as LLVM builds it, and within 6 MB as Rattle's own compiler does: that one keeps no function apart whose attribute
+asks for it, so a step of the translation takes more. With --measure it prints the least stack, in KB, that the program of each
+form runs with."""
 
 import resource
 

@@ -1,9 +1,9 @@
-"""Builds the programs and the tests without proofs, and runs every test, table, worked row and job of examples/: minutes, where .ci/run
-takes an hour. It proves nothing.
+"""Builds the programs and the tests without proofs, and runs every test, table, worked row and job of examples/: minutes, where
+.ci/run takes an hour. It proves nothing.
 
-Several are built side by side (.ci/unproved), as memory and processors allow. A part that passed leaves a file in .build/test, named by the
-sum of all that it reads, and is not run again while that stands, unless by --anew. What a part printed that has failed stands above its
-line."""
+Several are built side by side (.ci/unproved), as memory and processors allow. A part that passed leaves a file in .build/test,
+named by the sum of all that it reads, and is not run again while that stands, unless by --anew. What a part printed that has
+failed stands above its line."""
 
 import dataclasses
 import hashlib
@@ -25,8 +25,8 @@ NEEDED, LIMIT = 2.5, 300
 
 @dataclasses.dataclass
 class Part:
-    """Some of what is run: its name, what is built for it (a crate, and whether its tests), the files that it reads besides, and the
-    command, which is given the places of what was built."""
+    """Some of what is run: its name, what is built for it (a crate, and whether its tests), the files that it reads besides, and
+    the command, which is given the places of what was built."""
 
     name: str
     builds: list
@@ -56,7 +56,9 @@ def tests(program):
 def compared(command, folder, wanted, job=b""):
     """What a program has printed and said, where it prints something else than it is to."""
     ran = run(command, job, seconds=None, cwd=folder)
-    return None if (ran.printed, ran.status) == (wanted, 0) else f"{(ran.said + ran.printed).decode(errors='replace')}\n(status {ran.status})"
+    if (ran.printed, ran.status) == (wanted, 0):
+        return None
+    return f"{(ran.said + ran.printed).decode(errors='replace')}\n(status {ran.status})"
 
 
 def stored_run(program):
@@ -76,6 +78,10 @@ def word(name, *words):
     return lambda *_: told(".ci/dev", name, *words)
 
 
+def files_of(*names):
+    return [f".ci/words/{it}.py" for it in names]
+
+
 SNESL, LEVUTTAR, TOOL_RUNS = (("snesl", False), ("levuttar", False), ("tool_runs", False))
 SOURCES_OF_WORDS = ["crates/snesl_lexer/src/**/*", "crates/snesl_expressions/src/**/*"]
 EXAMPLES = ["README.md", "docs/*.md", "examples/**/*", "docs/help/*", "editors/levuttar.bash"]
@@ -86,15 +92,15 @@ PARTS = [
     Part("stored run of levuttar", [LEVUTTAR], ["crates/levuttar/std*", "crates/levuttar/args"], stored_run),
     Part("tables", [TOOL_RUNS], ["crates/tool_runs/*", "crates/tool_runs/data/*"], stored_run),
     Part("worked rows", [TOOL_RUNS], ["crates/tool_runs/data/worked.*"], worked),
-    Part("gallery", [SNESL, LEVUTTAR], [f".ci/words/{it}.py" for it in ("gallery", "printed", "pages")] + EXAMPLES, word("gallery", "--unproved")),
+    Part("gallery", [SNESL, LEVUTTAR], [*files_of("gallery", "printed", "pages"), *EXAMPLES], word("gallery", "--unproved")),
     Part(
         "second reference",
         [SNESL],
-        [".ci/words/second.py", ".ci/reference/*.py", "docs/LANGUAGE.md", "crates/tool_runs/data/*"],
+        [*files_of("second"), ".ci/reference/*.py", "docs/LANGUAGE.md", "crates/tool_runs/data/*"],
         lambda it: told(".ci/dev", "second", "--jobs", "300", it),
     ),
-    Part("quoted callers", [], [".ci/words/callers.py", "docs/CALLING.md", "crates/*/src/**/*.rt"], word("callers")),
-    Part("editors", [], [".ci/words/editors.py", "editors/**/*", "examples/*.rows", *SOURCES_OF_WORDS], word("editors")),
+    Part("quoted callers", [], [*files_of("callers"), "docs/CALLING.md", "crates/*/src/**/*.rt"], word("callers")),
+    Part("editors", [], [*files_of("editors"), "editors/**/*", "examples/*.rows", *SOURCES_OF_WORDS], word("editors")),
 ]
 
 

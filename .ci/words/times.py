@@ -4,10 +4,11 @@ The columns are the proof of the crate, that of its tests, the two checks that i
 edits, the batches in which its other wrong bodies are tried, the sum, and the bar (.ci/bars: the sum from nothing that the crate
 is to keep). Under the table stand the must-fail edits that took most, in processor seconds.
 
-The checks are the processes of the prover below the command, for crates that stand here. They are looked at once a second; so a figure is
-short by a second or two a check. What an earlier run kept takes nothing. The status is that of the command."""
+The checks are the processes of the prover below the command, for crates that stand here. They are looked at once a second; so a
+figure is short by a second or two a check. What an earlier run kept takes nothing. The status is that of the command."""
 
 import collections
+import inspect
 import os
 import pathlib
 import subprocess
@@ -51,8 +52,8 @@ def name_of(crate, edit):
 
 
 def edit_of(words):
-    """The number of the edit that is tried, from 0 on, or None where the crate is checked as it stands: before its edits, which begin
-    with what that check kept, and after them, to see that it still holds.
+    """The number of the edit that is tried, from 0 on, or None where the crate is checked as it stands: before its edits, which
+    begin with what that check kept, and after them, to see that it still holds.
 
     The name of the folder of kept work tells. An edit that is tried from nothing counts as the first: a crate's only edit is.
     """
@@ -123,7 +124,7 @@ def show(minutes, edits, elapsed):
 def command_of(text):
     """The command that the words of the command line give."""
     if not sys.argv[1:] or sys.argv[1] in ("-h", "--help"):
-        sys.exit(text)
+        sys.exit(inspect.cleandoc(text))
     return sys.argv[1:]
 
 
@@ -138,7 +139,7 @@ def main():
 def idle():
     """Runs a command that takes only the time that nothing else wants, as beside the gate.
 
-    `chrt -i 0` alone is not enough: the system gives each session of processes its share, however idle it is. So the command gets a
-    session of its own, whose share is the least."""
+    `chrt -i 0` alone is not enough: the system gives each session of processes its share, however idle it is. So the command gets
+    a session of its own, whose share is the least."""
     least = 'if [ -w /proc/self/autogroup ]; then echo 19 > /proc/self/autogroup; fi; exec chrt -i 0 "$@"'
     return subprocess.run(["sh", "-c", least, "idle", *command_of(idle.__doc__)], start_new_session=True, check=False).returncode
