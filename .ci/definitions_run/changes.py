@@ -37,7 +37,6 @@ class Reached(typing.NamedTuple):
     reached: bytes
 
     def reaches(self, place):
-        """Whether it reached a place."""
         return place is not None and place < len(self.reached) and self.reached[place] == 1
 
 

@@ -63,7 +63,6 @@ class Writer:
         self.wholes = {}
 
     def fresh(self):
-        """A new name of Python."""
         self.names += 1
         return f"v{self.names}"
 
@@ -72,15 +71,12 @@ class Writer:
         return getattr(self, "write_" + term[0])(term, bound)
 
     def write_number(self, term, bound):
-        """A number."""
         return str(term[1])
 
     def write_text(self, term, bound):
-        """The bytes of a text."""
         return repr(term[1])
 
     def write_name(self, term, bound):
-        """A name alone."""
         return self.write_call(term, [], bound)
 
     def write_apply(self, term, bound):
@@ -203,17 +199,14 @@ class Writer:
         return f"OPERATORS[{operator!r}]({left}, {right})"
 
     def write_if(self, term, bound):
-        """A choice."""
         condition, positive, negative = (self.write(one, bound) for one in term[1:])
         return f"({positive} if {condition} else {negative})"
 
     def write_let(self, term, bound):
-        """A name for a value."""
         name = self.fresh()
         return f"(lambda {name}: {self.write(term[3], {**bound, term[1]: name})})({self.write(term[2], bound)})"
 
     def write_lambda(self, term, bound):
-        """A function."""
         inner = dict(bound)
         heads = ""
         for name in term[1]:
@@ -243,7 +236,6 @@ class Writer:
         return self.write(term[1], bound)
 
     def write_cases(self, term, bound):
-        """Alternatives by patterns."""
         name = self.fresh()
         written = "missing()"
         for pattern, value in reversed(term[2]):

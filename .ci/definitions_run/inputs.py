@@ -43,7 +43,6 @@ class InputReader:
         self.token, self.length = lexeme.given[0] if lexeme.tag == "Some" else (None, 0)
 
     def take(self):
-        """Takes the token."""
         self.found.append(self.token)
         self.advance(self.end + self.length)
 
@@ -52,11 +51,9 @@ class InputReader:
         raise refusal("BadInput", self.end)
 
     def is_sign(self, sign):
-        """Whether the token is this sign."""
         return self.token is not None and self.token.tag == TOKENS + "sign" and self.token.given[0] == ord(sign)
 
     def sign(self, sign):
-        """Takes this sign."""
         if not self.is_sign(sign):
             self.stop()
         self.take()
@@ -82,7 +79,6 @@ class InputReader:
         return number
 
     def value_of_bool(self):
-        """A truth value."""
         word = self.word()
         if word not in (b"true", b"false"):
             self.stop()
@@ -90,7 +86,6 @@ class InputReader:
         return Built(VALUES + "a_bool", (word == b"true",))
 
     def value_of_pair(self, first, second):
-        """A pair."""
         self.sign("(")
         left = self.value(first)
         self.sign(",")
@@ -99,11 +94,9 @@ class InputReader:
         return Built(VALUES + "a_pair", (left, right))
 
     def value_of_vec(self, item):
-        """A vector."""
         return Built(VALUES + "a_vec", (self.items("[", item, "]"),))
 
     def value_of_seq(self, item):
-        """A sequence."""
         return Built(VALUES + "a_seq", (self.items("{", item, "}"),))
 
     def items(self, opening, item, closing):

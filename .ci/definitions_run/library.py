@@ -6,7 +6,6 @@ NONE = Built("None")
 
 
 def some(value):
-    """`Some value`."""
     return Built("Some", (value,))
 
 

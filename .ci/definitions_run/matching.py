@@ -13,7 +13,6 @@ class Equation:
         self.implicit = dict(implicit)
 
     def with_right(self, right):
-        """The equation with another right side."""
         return Equation(self.patterns, right, self.implicit)
 
 
@@ -49,7 +48,6 @@ class Path(str):
         return [f"len({self}) {'==' if is_whole else '>='} {count}"]
 
     def item(self, at):
-        """The expression of an item."""
         return f"{self}[{at}]"
 
     def rest(self, count):

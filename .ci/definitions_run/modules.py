@@ -48,7 +48,6 @@ class Definition:
 
     @property
     def place(self):
-        """The file and line of it."""
         return f"{self.module.path}:{self.line}"
 
 
@@ -117,7 +116,6 @@ class Reader:
         self.last = None
 
     def fail(self, line, why):
-        """Refuses a form, with its place."""
         raise FormError(f"{self.module.path}:{line.number}: {why}: {' '.join(line.tokens[:8])}")
 
     def read(self, text):
@@ -232,7 +230,6 @@ def blocks_in(text):
 
 
 def read_module(path, name):
-    """The module of a file."""
     with open(path, encoding="utf-8") as file:
         text = file.read()
     return Reader(name, path, blocks_in(text)).read(text)

@@ -58,7 +58,6 @@ class Node:
         return self.wanted
 
     def read(self, message):
-        """Takes a message."""
         self.state, self.wanted = self.process["read"](self.state)(message), None
 
     def ports(self):

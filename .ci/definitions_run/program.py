@@ -50,7 +50,6 @@ class Program:
         return cls(read_modules(os.path.abspath(root)))
 
     def equations(self, definition):
-        """The equations of a definition."""
         if definition.key not in self.read_equations:
             self.read_equations[definition.key] = equations_of(definition)
         return self.read_equations[definition.key]
@@ -99,7 +98,6 @@ class Program:
         self.space[name] = first_call
 
     def compile(self, definition, name, count):
-        """Compiles a definition."""
         text = Writer(self, definition).function(name, count)
         exec(compile(text, f"{definition.module.path}:{definition.line}", "exec"), self.space)
         if count == 0:

@@ -15,7 +15,6 @@ class Refused(Exception):
 
 
 def refusal(name, *given):
-    """A refusal by its name."""
     return Refused(Built("Rattle.snesl_data.specs.declared.refusal.Refusal.TheVariants." + name, given))
 
 
@@ -60,7 +59,6 @@ class Source:
         return value
 
     def dialect(self):
-        """The dialect that the text names."""
         return self.call(LEXICAL, "dialect_of", self.text)
 
     def tokens(self):
@@ -68,7 +66,6 @@ class Source:
         return self.keep("tokens", self.read_tokens)
 
     def tree(self):
-        """The tree of the program."""
         return self.keep("tree", self.read_tree)
 
     def typing(self):

@@ -98,7 +98,6 @@ class Deriver:
         self.open = set()
 
     def relation(self, definition):
-        """The rules of a relation."""
         if definition.key not in self.relations:
             self.relations[definition.key] = Relation(self.program, definition)
         return self.relations[definition.key]

@@ -19,7 +19,6 @@ class Row:
 
     @property
     def job(self):
-        """The bytes of the job."""
         return spelled("\n".join(self.lines))
 
     def line_of(self, field):
@@ -46,7 +45,6 @@ def spelled(text):
 
 
 def rows_of(path):
-    """The rows of a table."""
     rows = []
     with open(path, encoding="utf-8", newline="\n") as file:
         text = file.read()

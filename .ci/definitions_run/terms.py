@@ -44,13 +44,11 @@ class Parser:
         return self.tokens[self.at - 1]
 
     def want(self, word):
-        """Takes this token."""
         if self.next() != word:
             self.at -= 1
             self.fail(f"no `{word}`")
 
     def whole(self):
-        """The term of all tokens."""
         term = self.term()
         if self.peek() is not None:
             self.fail("what comes after a term")
@@ -195,7 +193,6 @@ class Parser:
             depth += {"(": 1, ")": -1}.get(self.next(), 0)
 
     def choice(self):
-        """`if C then A else B`."""
         condition = self.term()
         self.want("then")
         positive = self.term()
@@ -228,7 +225,6 @@ class Parser:
 
 
 def parsed(tokens, path):
-    """The term of these tokens."""
     return Parser(tokens, path).whole()
 
 

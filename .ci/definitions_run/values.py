@@ -27,7 +27,6 @@ class Built:
 
     @property
     def name(self):
-        """The constructor's own name."""
         return self.tag.rsplit(".", 1)[-1] if isinstance(self.tag, str) else self.tag[-1]
 
 

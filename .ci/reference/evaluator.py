@@ -66,7 +66,6 @@ class Evaluation:
         return form.kind == "true"
 
     def of_let(self, form, names):
-        """The value of a binding's body."""
         bound = self.value(form.parts[0], names)
         return self.value(form.parts[1], {**names, form.binders[0].text: bound})
 
@@ -88,7 +87,6 @@ class Evaluation:
             self.calls = before
 
     def of_guard(self, form, names):
-        """`{e | b}`: the condition first."""
         condition = self.value(form.parts[1], names)
         if condition is BROKEN:
             return Sequence(is_open=True)

@@ -38,7 +38,6 @@ class Form:
 
     @property
     def has_condition(self):
-        """Whether a comprehension has a condition."""
         return len(self.parts) == len(self.binders) + 2
 
 
@@ -151,7 +150,6 @@ class Reader:
         return Function(name, parameters, result, body)
 
     def type(self, room):
-        """type."""
         token = self.take("int", "bool", "(", "[", "{")
         if token.kind in ("int", "bool"):
             return Form(token.kind, token.offset)
@@ -164,7 +162,6 @@ class Reader:
         return Form({"(": "pair", "[": "vector", "{": "sequence"}[token.kind], token.offset, tuple(parts))
 
     def expression(self, room):
-        """expr."""
         if self.next.kind == "let":
             return self.let(room)
         if self.next.kind == "if":
@@ -204,7 +201,6 @@ class Reader:
         return left
 
     def prefixed(self, room):
-        """prefixed."""
         if self.next.kind not in ("-", "not"):
             return self.indexed(room)
         asks_for(2, room)
@@ -212,7 +208,6 @@ class Reader:
         return Form("negate" if token.kind == "-" else "not", token.offset, (self.prefixed(room - 1),))
 
     def indexed(self, room):
-        """indexed."""
         left = self.primary(room)
         while self.next.kind == "!":
             asks_for(left.depth + 1, room)
@@ -221,7 +216,6 @@ class Reader:
         return left
 
     def primary(self, room):
-        """primary."""
         kind = self.next.kind
         if kind in ("integer", "true", "false"):
             token = self.take(kind)

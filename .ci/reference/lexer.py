@@ -21,7 +21,6 @@ class Dialect:
 
     @property
     def least(self):
-        """The least integer."""
         return -(1 << (self.bits - 1))
 
     @property

@@ -26,7 +26,6 @@ class Job:
     words: tuple = ()
 
     def bytes(self):
-        """The bytes of the job."""
         return self.text.encode("latin-1")
 
 

@@ -53,7 +53,6 @@ def remainder(evaluation, form, left, right):
 
 
 def iota(evaluation, form, count):
-    """`iota`."""
     if count is BROKEN or count < 0:
         if count is not BROKEN:
             evaluation.fault(NEGATIVE_COUNT, form)
@@ -88,7 +87,6 @@ def reduce_add(evaluation, form, terms):
 
 
 def reduce_max(evaluation, form, terms):
-    """`reduce_max`."""
     if not is_whole(terms):
         return BROKEN
     return max(terms) if terms else evaluation.fault(EMPTY_MAX, form)
@@ -105,7 +103,6 @@ def length(_, form, elements):
 
 
 def concat(_, form, sequences):
-    """`concat`."""
     sequences, found = as_sequence(sequences), Sequence()
     for it in map(as_sequence, sequences):
         found.extend(it)
@@ -159,12 +156,10 @@ def the(evaluation, form, elements):
 
 
 def tab(_, form, elements):
-    """`tab`."""
     return Vector(elements) if is_whole(elements) else BROKEN
 
 
 def seq(_, form, elements):
-    """`seq`."""
     return Sequence(elements) if is_whole(elements) else Sequence(is_open=True)
 
 

@@ -37,7 +37,6 @@ class Maker:
         return self.dice.random() * 100 < percent
 
     def type(self, room, is_concrete=False):
-        """A random type."""
         kind = self.dice.choice(["int", "int", "bool", "pair", "vector", "sequence", "sequence"])
         if room == 0 or kind == "int":
             return BOOL if self.chance(20) else INT
@@ -114,7 +113,6 @@ class Maker:
         return self.dice.choice(makes)(found, fuel, scope)
 
     def let(self, found, fuel, scope):
-        """`let`."""
         name, its = self.dice.choice(NAMES), self.type(2)
         first, second = self.shares(fuel, 2)
         return f"let {name} = {self.whole(its, first, scope)} in {self.whole(found, second, scope.binds(name, its))}", LOOSE
@@ -199,12 +197,10 @@ class Maker:
         return self.two([word], BOOL, fuel, scope, strength)
 
     def pair(self, found, fuel, scope):
-        """A pair."""
         first, second = [self.whole(it, share, scope) for it, share in zip(found.parts, self.shares(fuel, 2))]
         return f"({first}, {second})", PRIMARY
 
     def vector(self, found, fuel, scope):
-        """A vector."""
         return f"tab({self.whole(sequence(found.parts[0]), fuel, scope)})", PRIMARY
 
     def sequence(self, found, fuel, scope):
@@ -215,12 +211,10 @@ class Maker:
         return self.dice.choice(makes)(element, fuel, scope)
 
     def literal(self, element, fuel, scope):
-        """`{e1, ..}`."""
         shares = self.shares(fuel, self.dice.randint(1, 4))
         return "{" + ", ".join(self.whole(element, it, scope) for it in shares) + "}", PRIMARY
 
     def guard(self, element, fuel, scope):
-        """`{e | b}`."""
         first, second = self.shares(fuel, 2)
         return f"{{{self.whole(element, first, scope)} | {self.whole(BOOL, second, scope)}}}", PRIMARY
 
@@ -229,11 +223,9 @@ class Maker:
         return self.two(["++"], sequence(element), fuel, scope, JOINED)
 
     def concat(self, element, fuel, scope):
-        """`concat`."""
         return f"concat({self.whole(sequence(sequence(element)), fuel, scope)})", PRIMARY
 
     def seq(self, element, fuel, scope):
-        """`seq`."""
         return f"seq({self.whole(vector(element), fuel, scope)})", PRIMARY
 
     def ranges(self, element, fuel, scope):

@@ -31,7 +31,6 @@ class Row:
 
 
 def rows_of(path):
-    """The rows of a table."""
     rows, is_in_job = [], False
     for number, line in enumerate(path.read_bytes().decode("latin-1").split("\n"), 1):
         word, _, rest = line.partition(" ")

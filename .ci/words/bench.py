@@ -214,7 +214,6 @@ def when_threads_pay(figures, threads):
 
 
 def asked():
-    """The words of the command line."""
     words = argparse.ArgumentParser(description=__doc__, formatter_class=argparse.RawDescriptionHelpFormatter)
     words.add_argument("snesl", nargs="?")
     words.add_argument("--threads", type=lambda text: [int(it) for it in text.split(",")], default=[], metavar="N,..")

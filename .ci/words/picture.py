@@ -37,7 +37,6 @@ def axis(column, low, high, bottom):
 
 
 def bar(column, y, who, least, low, high):
-    """A bar and its number."""
     left = LEFT + column * COLUMN
     long = BARS * max(math.log10(least) - low, 0) / (high - low)
     number = f"{least:.1f}" if least < 9.95 else f"{least:,.0f}"

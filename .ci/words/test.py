@@ -49,7 +49,6 @@ def told(*words):
 
 
 def tests(program):
-    """Runs the tests of a crate."""
     return told(pathlib.Path(os.path.realpath(shutil.which("rt"))).with_name("rattle-test"), "--seconds", LIMIT, program)
 
 
