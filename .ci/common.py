@@ -105,7 +105,7 @@ def built(*crates):
     for folder, folders, names in os.walk(CRATES):
         folders[:] = [it for it in folders if it != "out"]
         files += [pathlib.Path(folder, it) for it in names]
-    newest = max(it.stat().st_mtime_ns for it in files)
+    newest = max(it.lstat().st_mtime_ns for it in files)
     for crate in crates:
         places = [pathlib.Path(program_of(crate, it)) for it in COMPILERS]
         if not all(it.is_file() and it.stat().st_mtime_ns >= newest for it in places):
