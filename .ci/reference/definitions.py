@@ -1,24 +1,16 @@
 """The third answer: that of the definitions of specs/, run as they stand (.ci/definitions_run)."""
 
-try:
-    from definitions_run import answers
-except ImportError:
-    answers = None
-
-
-def are_here():
-    """Whether the definitions can be run."""
-    return answers is not None
+from definitions_run import answers
 
 
 def with_room(function, *given):
     """What a function gives, run where there is room for the deep recursion that the definitions need."""
-    return answers.on_large_stack(function, *given) if are_here() else function(*given)
+    return answers.on_large_stack(function, *given)
 
 
 def difference(job, expected):
     """How the definitions answer a job otherwise than the reference, or nothing. Words of the command line are no matter of theirs."""
-    if not are_here() or job.words:
+    if job.words:
         return None
     line = answers.answer_of(job.bytes()).decode("latin-1")
     if line == expected.line or (line == "refused 9" and expected.size):

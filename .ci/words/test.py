@@ -95,7 +95,7 @@ PARTS = [
     Part(
         "second reference",
         [SNESL],
-        [*files_of("second"), ".ci/reference/*.py", "docs/LANGUAGE.md", "crates/tool_runs/data/*"],
+        [*files_of("second"), ".ci/reference/*.py", ".ci/definitions_run/*.py", "docs/LANGUAGE.md", "crates/tool_runs/data/*"],
         lambda it: told(".ci/dev", "second", "--jobs", "300", it),
     ),
     Part("quoted callers", [], [*files_of("callers"), "docs/CALLING.md", "crates/*/src/**/*.rt"], word("callers")),
