@@ -8,32 +8,16 @@ WANT = "Rattle.kahn.specs.declared.want.Want.TheVariants."
 OPERATION = "Rattle.flow_plans.specs.Plans."
 UNIT = Built("tt")
 
-# The machine of each operation: its module and name, and what its parameters are, given the operation's own.
-MACHINES = {
-    "const": ("flow_scalar.specs.ConstMachine", "const_machine", lambda scalar: scalar),
-    "unary": ("flow_scalar.specs.UnaryMachine", "unary_machine", lambda dialect, operator: (dialect, operator)),
-    "binary": ("flow_scalar.specs.BinaryMachine", "binary_machine", lambda dialect, operator: (dialect, operator)),
-    "iota": ("flow_scalar.specs.IotaMachine", "iota_machine", lambda: UNIT),
-    "units_of": ("flow_scalar.specs.UnitsOfMachine", "units_of_machine", lambda: UNIT),
-    "sink": ("flow_scalar.specs.SinkMachine", "sink_machine", lambda kind: kind),
-    "scan_add": ("flow_folds.specs.ScanAddMachine", "scan_add_machine", lambda dialect: dialect),
-    "reduce": ("flow_folds.specs.ReduceMachine", "reduce_machine", lambda dialect, reduction: (dialect, reduction)),
-    "length_of": ("flow_folds.specs.LengthMachine", "length_machine", lambda dialect: dialect),
-    "dist": ("flow_segment.specs.DistMachine", "dist_machine", lambda kind: kind),
-    "pack": ("flow_segment.specs.PackMachine", "pack_machine", lambda kind: kind),
-    "pack_groups": ("flow_segment.specs.PackGroupsMachine", "pack_groups_machine", lambda: UNIT),
-    "flag_of_bool": ("flow_segment.specs.FlagOfBoolMachine", "flag_of_bool_machine", lambda: UNIT),
-    "same_flags": ("flow_segment.specs.SameFlagsMachine", "same_flags_machine", lambda: UNIT),
-    "concat_flags": ("flow_segment.specs.ConcatFlagsMachine", "concat_flags_machine", lambda: UNIT),
-    "part_flags": ("flow_segment.specs.PartFlagsMachine", "part_flags_machine", lambda: UNIT),
-    "the_check": ("flow_segment.specs.TheCheckMachine", "the_check_machine", lambda: UNIT),
-    "append_flags": ("flow_segment.specs.AppendFlagsMachine", "append_flags_machine", lambda: UNIT),
-    "interleave": ("flow_segment.specs.InterleaveMachine", "interleave_machine", lambda kind: kind),
-    "interleave_groups": ("flow_segment.specs.InterleaveGroupsMachine", "interleave_groups_machine", lambda: UNIT),
-    "tab": ("flow_values.specs.TabMachine", "tab_machine", lambda ty: ty),
-    "seq_of": ("flow_values.specs.SeqMachine", "seq_machine", lambda ty: ty),
-    "index": ("flow_values.specs.IndexMachine", "index_machine", lambda ty: ty),
+# The operations whose nodes are machines, by the crates that have these.
+CRATES = {
+    "flow_scalar": "const unary binary iota units_of sink",
+    "flow_folds": "scan_add reduce length_of",
+    "flow_segment": "dist pack pack_groups flag_of_bool same_flags concat_flags part_flags the_check append_flags interleave interleave_groups",
+    "flow_values": "tab seq_of index",
 }
+MACHINES = {name: crate for crate, names in CRATES.items() for name in names.split()}
+# Those whose machines have another name.
+NAMES = {"length_of": "length", "seq_of": "seq"}
 
 
 class NotAsSaid(Exception):
@@ -92,7 +76,8 @@ class Network:
         """The node of an operation, which is told to have the ports of it, and to be in its opening state (`Performs` of flow_plans)."""
         node, operation = self.opened(placed), placed["operation"]
         if operation not in self.kinds:
-            self.kinds[operation] = [tuple(self.definitions.call("flow_plans.specs.Ports", name, operation)) for name in ("kinds_read", "kinds_written")]
+            of_ports = lambda name: tuple(self.definitions.call("flow_plans.specs.Ports", name, operation))
+            self.kinds[operation] = [of_ports("kinds_read"), of_ports("kinds_written")]
             if self.kinds[operation] != list(node.ports()):
                 raise NotAsSaid(operation)
         node.kinds = self.kinds[operation]
@@ -122,8 +107,11 @@ class Network:
         if name == "fork":
             module = "flow_scalar.specs.ForkMachine"
             return self.of_machine(call(module, "fork_machine"), call(module, "fork_ports", *given), placed)
-        module, machine, parameters = MACHINES[name]
-        return self.of_machine(call(module, machine), parameters(*given), placed)
+        own = NAMES.get(name, name)
+        module = f"{MACHINES[name]}.specs.{own.title().replace('_', '')}Machine"
+        # A machine has as its parameter what the operation is given: nothing, one thing, or a pair.
+        parameters = given if len(given) > 1 else given[0] if given else UNIT
+        return self.of_machine(call(module, f"{own}_machine"), parameters, placed)
 
     def of_machine(self, machine, parameters, placed):
         """The node of a machine with its parameters."""

@@ -5,6 +5,8 @@ for is then computed. Which arguments are asked for is told by a hole. What is f
 decided, nor is a conclusion that takes a known list apart at an unknown place.
 """
 
+import collections
+
 from .compiling import Writer, binder_variables, binds, implication_of
 from .matching import Match
 from .modules import explicit_parameters
@@ -37,19 +39,23 @@ class Undecided(Exception):
     """A claim that is not decided here."""
 
 
-class Rule:
-    """One constructor: what it concludes, its premises, and the names that it binds."""
+# One constructor: the names that it binds, its premises, and what it concludes.
+Rule = collections.namedtuple("Rule", "name variables premises conclusion")
 
-    def __init__(self, definition, name, tokens):
-        self.name = name
-        self.variables = binder_names(tokens, ("(", "{"))
-        term = parsed(tokens, definition.module.path)
-        self.premises = []
+
+def rules_of(definition):
+    """The rules of a `data`; a record is a relation of one rule, whose premises are its fields."""
+    terms = {name: parsed(tokens, definition.module.path) for name, tokens in definition.parts.items()}
+    if definition.kind == "record":
+        return [Rule("fields", set(), [*terms.values()], [])]
+    rules = []
+    for name, term in terms.items():
+        premises = []
         while term[0] == "operator" and term[1] == "→":
-            if not binds(term[2]):
-                self.premises.append(term[2])
+            premises += [] if binds(term[2]) else [term[2]]
             term = term[3]
-        self.conclusion = arguments_of(term)[1]
+        rules.append(Rule(name, binder_names(definition.parts[name], ("(", "{")), premises, arguments_of(term)[1]))
+    return rules
 
 
 def arguments_of(term):
@@ -62,13 +68,13 @@ def arguments_of(term):
 
 
 class Relation:
-    """A `data`: its parameters and rules."""
+    """A `data` or a record: its parameters and rules."""
 
     def __init__(self, program, definition):
         self.definition = definition
         self.parameters = definition.parameters + explicit_parameters(header_of(definition))
         self.names = [("name", name) for name in self.parameters]
-        self.rules = [Rule(definition, name, tokens) for name, tokens in definition.parts.items()]
+        self.rules = rules_of(definition)
         self.writer = Writer(program, definition)
 
 
@@ -304,19 +310,9 @@ class Deriver:
         return self.meet(relation, relation.rules[0], premises, dict(zip(relation.parameters, given)) | fields)
 
     def relation_of_record(self, definition):
-        """A record as a relation of one rule, whose premises are its fields."""
-        if definition.key not in self.relations:
-            relation = Relation.__new__(Relation)
-            relation.definition = definition
-            relation.parameters = definition.parameters + explicit_parameters(header_of(definition))
-            relation.names = [("name", name) for name in relation.parameters]
-            rule = Rule.__new__(Rule)
-            rule.name, rule.variables, rule.conclusion = "fields", set(), []
-            rule.premises = [parsed(tokens, definition.module.path) for tokens in definition.parts.values()]
-            relation.rules, relation.writer = [rule], Writer(self.program, definition)
-            self.relations[definition.key] = relation
+        """A record as a relation, which is reached by this."""
         self.program.reached[self.program.place_of(definition, 0)] = 1
-        return self.relations[definition.key]
+        return self.relation(definition)
 
     def decide(self, claim):
         """Whether a claim holds."""
