@@ -31,18 +31,17 @@ class Program:
     def __init__(self, modules):
         self.modules = modules
         self.numbers = {}
-        self.definitions = []
         self.read_equations = {}
         self.places = {}
         self.reached = bytearray()
         self.constants = {}
         self.space = {
-            "Built": Built, "Claim": Claim, "TYPE": TYPE, "dropped": dropped, "parted": parted, "ended": ended, "shared": shared, "missing": missing, "implicit": implicit,
-            "OPERATORS": OPERATORS, "REACHED": self.reached, **{WORDS[word]: meaning for word, (_, meaning) in FUNCTIONS.items()},
+            "Built": Built, "Claim": Claim, "TYPE": TYPE, "dropped": dropped, "parted": parted, "ended": ended, "shared": shared,
+            "missing": missing, "implicit": implicit, "OPERATORS": OPERATORS, "REACHED": self.reached,
+            **{WORDS[word]: meaning for word, (_, meaning) in FUNCTIONS.items()},
         }
         self.constructors = {}
         self.called = {}
-        self.modules_by_end = {}
 
     @classmethod
     def of_crates(cls, root):
@@ -76,8 +75,7 @@ class Program:
         """The name of a definition's function, and how many arguments it takes."""
         count = self.count_of(definition)
         if definition.key not in self.numbers:
-            self.numbers[definition.key] = len(self.definitions)
-            self.definitions.append(definition)
+            self.numbers[definition.key] = len(self.numbers)
             self.declare(definition, count)
         return self.name_of(definition), count
 

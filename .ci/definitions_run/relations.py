@@ -199,9 +199,9 @@ class Deriver:
         if not self.is_form(relation, rule, term):
             later.append((term, value))
             return True
-        return self.match(relation, rule, term, value, bound)
+        return self.match(relation, term, value, bound)
 
-    def match(self, relation, rule, pattern, value, bound):
+    def match(self, relation, pattern, value, bound):
         """Compares a pattern with a value, and binds its names; a name that is bound has to have the same value."""
         test, parts = self.compiled(relation, pattern)
         if not test(value):
@@ -261,7 +261,7 @@ class Deriver:
         value = self.value(relation, left, bound)
         if self.is_known(right, rule, bound):
             return key_of(self.value(relation, right, bound)) == key_of(value)
-        return self.match(relation, rule, right, value, bound) if self.is_form(relation, rule, right) else None
+        return self.match(relation, right, value, bound) if self.is_form(relation, rule, right) else None
 
     def every(self, relation, rule, term, bound):
         """Whether a claim holds of all values that make an equation true: those of which a known value is made, if it is."""
@@ -288,7 +288,7 @@ class Deriver:
         answer = self.derive(definition, tuple(asked))
         if answer is None:
             return False
-        return all(self.match(relation, rule, term, one, bound) for term, one, was in zip(terms, answer, asked) if was is HOLE)
+        return all(self.match(relation, term, one, bound) for term, one, was in zip(terms, answer, asked) if was is HOLE)
 
     def passed(self, relation, definition):
         """The parameters of a module, which its relations pass on to one another, as terms."""
