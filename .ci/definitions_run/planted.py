@@ -43,7 +43,8 @@ def page_failures(pages):
     page, readme = pages.rewritten(BEGIN), pages.number
     cases = [(page, readme, 0), (page, readme.replace(" files", "9 files"), 1), (page.replace(" lines", "9 lines", 1), readme, 1),
              (page.replace("`wrote`", "`write`"), readme, 1), ("", "", 2)]
-    return [f"planted page of {len(text)} letters and README {other!r}: not told" for text, other, count in cases if len(pages.differ(text, other)) != count]
+    wrong = [(text, other) for text, other, count in cases if len(pages.differ(text, other)) != count]
+    return [f"planted page of {len(text)} letters and README {other!r}: not told" for text, other in wrong]
 
 
 def failures(differs):

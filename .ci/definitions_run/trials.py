@@ -38,7 +38,8 @@ class Trial:
             job = Job(self.definitions, row.job, source)
         except Refused as refused:
             return self.refused_otherwise(refused.args[0], row, wanted)
-        return self.spelled_otherwise(job) or self.evaluated_otherwise(job, row, wanted) or self.run_otherwise(job, row, wanted, config["capacity"])
+        said = self.spelled_otherwise(job) or self.evaluated_otherwise(job, row, wanted)
+        return said or self.run_otherwise(job, row, wanted, config["capacity"])
 
     def status(self, row):
         """The exit status that a row tells."""

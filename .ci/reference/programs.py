@@ -101,8 +101,12 @@ class Maker:
             return "({}, {})".format(*[self.leaf(it, scope)[0] for it in found.parts]), PRIMARY
         if found == sequence(INT) and self.chance(60):
             return f"iota({self.dice.choice([0, 1, 2, 3, 4, 5, 9])})", PRIMARY
-        element = self.leaf(found.parts[0], scope)[0]
-        text = f"{{{element} | false}}" if self.chance(4 + self.risk / 4) else "{" + ", ".join([element, *[self.leaf(found.parts[0], scope)[0] for _ in range(self.dice.randint(0, 2))]]) + "}"
+        elements = [self.leaf(found.parts[0], scope)[0]]
+        if self.chance(4 + self.risk / 4):
+            text = f"{{{elements[0]} | false}}"
+        else:
+            elements += [self.leaf(found.parts[0], scope)[0] for _ in range(self.dice.randint(0, 2))]
+            text = "{" + ", ".join(elements) + "}"
         return (f"tab({text})" if found.kind == "vector" else text), PRIMARY
 
     def any(self, found, fuel, scope):

@@ -112,7 +112,7 @@ class Looks(Tally):
     def at_jobs(self):
         jobs = {job: wanted.rsplit("= ", 1) for words, job, wanted in self.table if words == ["levuttar", "run"]}
         with ThreadPoolExecutor(os.cpu_count()) as pool:
-            for it in (it for looks in pool.map(self.looks_at_job, jobs, jobs.values()) for it in looks):
+            for it in (it for looks in pool.map(lambda *it: [*self.looks_at_job(*it)], jobs, jobs.values()) for it in looks):
                 self.look(*it)
 
     def looks_at_job(self, job, wanted):
@@ -159,7 +159,8 @@ class Looks(Tally):
         before = file.stat()
         said = self.said_by(["fmt", "--write", "job.snesl"], "", cwd=room)
         its = file.stat()
-        yield "a file that is laid out is left alone", (its.st_ino, its.st_mtime_ns) == (before.st_ino, before.st_mtime_ns) and said == ("", "", 0), said
+        is_alone = (its.st_ino, its.st_mtime_ns) == (before.st_ino, before.st_mtime_ns)
+        yield "a file that is laid out is left alone", is_alone and said == ("", "", 0), said
         file.write_bytes(ugly + b" " * 17_000_000)
         self.said_by(["fmt", "--write", "job.snesl"], "", cwd=room)
         yield "of a long input text nothing is lost", file.read_bytes() == laid + b" " * 17_000_000, file.stat()
