@@ -1,7 +1,7 @@
 // An input text of nested sequences, read by itself, and the sources over it.
 //
 // Neither reading it nor its sources take memory for its values: so it takes as many growths of memory for one inner sequence as
-// for a thousand, which `.ci/growths` sees. The text is made in one growth, however long it is.
+// for a thousand, which `.ci/dev growths` sees. The text is made in one growth, however long it is.
 
 ghost use Rattle.std.specs.Prelude.{◌≡◌, IfOk};
 ghost use Rattle.snesl_data.specs.Types.{ty_of, int, seq};

@@ -3,7 +3,7 @@
 //
 // A line is printed for each: what it did, message by message (`feeding.rt`), what it wants at last, and how many of its calls were
 // refused for want of memory. A call that is refused is made again, with the same message, and the node is to be as it was before:
-// so the line is the same but for that number. With ample memory it is 0; `.ci/growths` refuses each growth in turn.
+// so the line is the same but for that number. With ample memory it is 0; `.ci/dev growths` refuses each growth in turn.
 
 mod feeding;
 mod inlets;
