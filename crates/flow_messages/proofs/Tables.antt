@@ -6,7 +6,7 @@ use Rattle.std.proofs.lemmas.List.Elements.{All-append}
 use Rattle.std.proofs.lemmas.Bool.{cases_eq, cases_Bool}
 use mathlib.Core.List.{IsPrefix}
 use Rattle.std.specs.List.{All}
-use Rattle.std.specs.Prelude.{Option, Some, None, Result, Ok, Err, OnOk, IfErr, IfSome, IfNone, IsSome, ◌↔◌}
+use Rattle.std.specs.Prelude.{Option, Some, None, Result, Ok, Err, OnOk, OnErr, IfErr, IfSome, IfNone, IsSome, ◌↔◌}
 use Rattle.flow_messages.specs.declared.message.Msg.{Msg}
 use Rattle.flow_messages.specs.declared.line.Line.{Line}
 use Rattle.flow_messages.specs.Signals.{Signal, signals, signal_of, ended}
@@ -251,6 +251,19 @@ all-snoc P xs x all here = All-append P xs (x ∷ []) all one where
 pub on_ok : {X E : Type 0} {P Q : Type 0} (r : Result X E) → (P → Q) → OnOk r P → OnOk r Q
 on_ok (Ok x) f p = f p
 on_ok (Err e) f p = tt
+
+-- two facts of one answer, together
+pub on_both : {X E : Type 0} (P Q : Type 0) (r : Result X E) → OnOk r P → OnOk r Q → OnOk r (P × Q)
+on_both P Q (Ok x) p q = (p, q)
+on_both P Q (Err e) p q = tt
+
+pub err_both : {X E : Type 0} (P Q : Type 0) (r : Result X E) → OnErr r P → OnErr r Q → OnErr r (P × Q)
+err_both P Q (Ok x) p q = tt
+err_both P Q (Err e) p q = (p, q)
+
+pub err_with : {X E : Type 0} (P : E → Type 0) (Q : Type 0) (r : Result X E) → IfErr r P → OnErr r Q → IfErr r (λ e. P e × Q)
+err_with P Q (Ok x) p q = tt
+err_with P Q (Err e) p q = (p, q)
 
 pub if_err : {X E : Type 0} (P Q : E → Type 0) (r : Result X E) → ((e : E) → P e → Q e) → IfErr r P → IfErr r Q
 if_err P Q (Ok x) f p = tt

@@ -1,5 +1,6 @@
 -- Scalar messages, and which messages an edge of one kind takes.
-use Rattle.std.specs.Prelude.{◌≡◌, Bool, true, false, List, [], ◌∷◌, map, drop}
+use Rattle.std.specs.Prelude.{◌≡◌, ◌<◌, Bool, true, false, List, [], ◌∷◌, map, drop, Option}
+use Rattle.std.specs.List.{All}
 use Rattle.arrayvec.specs.ArrayVec.{ArrayVec, array_vec_len}
 use Rattle.flow_messages.specs.declared.message.Kind.{Kind}
 use Rattle.flow_messages.specs.declared.message.Msg.{Msg}
@@ -7,7 +8,7 @@ use Rattle.flow_messages.specs.declared.message.Msg.TheVariants.{Item as ItemMsg
 use Rattle.flow_messages.specs.declared.message.Item.TheVariants.{Unit as UnitItem, Bool as BoolItem, Int as IntItem}
 use Rattle.flow_messages.specs.Cells.{unit, flag, int, datum}
 use Rattle.flow_messages.specs.Signals.{Signal, carry, stop, signal_of, signals, ended}
-use Rattle.flow_messages.specs.Kinds.{fits}
+use Rattle.flow_messages.specs.Kinds.{fits, FitsEdge}
 use Rattle.flow_messages.specs.declared.flat.Flat.{Flat}
 use Rattle.flow_messages.specs.declared.flat.Flat.TheVariants.{Unit as UnitFlat, Bool as BoolFlat, Int as IntFlat, End as EndFlat}
 
@@ -43,6 +44,14 @@ scalar_first (m ∷ ms) = is_scalar m
 abbrev pub MayBePut : Kind → List Flat → Flat → Type 0
 MayBePut k before x =
     (ended (signals (messages_of before)) ≡ false) × (fits k (signal_of (message_of x)) ≡ true)
+
+-- an edge of this kind takes each message of the block
+abbrev pub BlockFitsEdge : Option Kind → List Flat → Type 0
+BlockFitsEdge k block = All (λ x. FitsEdge k (signal_of (message_of x))) block
+
+-- one message more may be appended to the block
+abbrev pub HasPlace : ArrayVec Flat → Type 0
+HasPlace block = array_vec_len block < 64
 
 -- what was appended to a block
 abbrev pub flats_appended : ArrayVec Flat → ArrayVec Flat → List Flat

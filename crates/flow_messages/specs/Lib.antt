@@ -9,6 +9,7 @@ pub mod Contents
 pub mod Runs
 pub mod Stores
 pub mod Lines
+pub mod LineBlocks
 pub mod Whole
 pub mod Limits
 pub mod Tables

@@ -29,6 +29,10 @@ unfoldable pub ended : List Signal → Bool
 ended [] = false
 ended (m ∷ ms) = is_stop m || ended ms
 
+-- whether the end of the stream is among these messages
+abbrev pub has_end : List Msg → Bool
+has_end ms = ended (signals ms)
+
 -- whether nothing follows a stop
 unfoldable pub orderly : List Signal → Bool
 orderly [] = true

@@ -23,15 +23,14 @@ pub struct Refused {
 /// No call takes memory, and none waits. Ends that hold items of one kind side by side show them as slices, so that many are
 /// read, taken or put in one call; others show none, and then go one message at a time.
 pub trait Ends {
-    ghost use Rattle.std.specs.Prelude.{◌≡◌, ◌<◌, ◌≤◌, ◌↔◌, true, false, [], ◌∷◌, ◌++◌, IsTrue, IsOk, IsSome, IfSome, IfNone, OnOk, IfErr, IsErrAnd, length, take};
+    ghost use Rattle.std.specs.Prelude.{◌≡◌, ◌<◌, ◌≤◌, ◌↔◌, true, false, [], ◌∷◌, ◌++◌, IsTrue, IsOk, IsSome, IfSome, IfNone, OnOk, IfErr, IsErrAnd, length};
     ghost use mathlib.Core.List.{IsPrefix};
-    ghost use Rattle.std.specs.List.{All};
-    ghost use Rattle.arrayvec.specs.ArrayVec.{array_vec_len};
-    ghost use Rattle.flow_messages.specs.Signals.{signal_of, ended, orderly};
-    ghost use Rattle.flow_messages.specs.Flats.{message_of, flat_signals, flats_appended, scalar_first};
+    ghost use Rattle.flow_messages.specs.Signals.{signal_of, orderly};
+    ghost use Rattle.flow_messages.specs.Flats.{flat_signals, flats_appended, scalar_first, BlockFitsEdge, HasPlace};
     ghost use Rattle.flow_messages.specs.Kinds.{FitsEdge, TakesKind};
     ghost use Rattle.flow_messages.specs.declared.message.Kind.TheVariants.{Unit as UnitKind, Bool as BoolKind, Int as IntKind};
-    ghost use Rattle.flow_messages.specs.Ends.{View, held, LookedForRoom, LookedForMessages, Put, Taken, TakenAll, PutAll};
+    ghost use Rattle.flow_messages.specs.Ends.{View, held, LookedForRoom, LookedForMessages, Put, Taken, PutAll};
+    ghost use Rattle.flow_messages.specs.Ends.{HasEnded, HasNotEnded, CanPut, GivesBack, FoundNone, TakenFirst, TakenInto, PutFlats, SentFlats, ScalarIsNext, NoScalarIsNext};
     ghost use Rattle.flow_messages.specs.Blocks.{unit_signals, flag_signals, int_signals};
     ghost use Rattle.flow_messages.specs.declared.ends.Why.TheVariants.{Full, Closed};
 
@@ -115,13 +114,11 @@ pub trait Ends {
         requires fits { FitsEdge ((view self.old).kind edge) (signal_of message) }
         ensures same { same self.old self.new }
         ensures ok { OnOk result (Put (view self.old) edge (signal_of message) (view self.new)) }
-        ensures refused { IfErr result (λ e. (e.message ≡ message) ×
-            LookedForRoom (view self.old) edge (view self.new)) }
-        ensures closed { IsErrAnd result (λ e. e.why ≡ Closed) ↔
-            (ended ((view self.old).sent edge) ≡ true) }
+        ensures refused { IfErr result (GivesBack message (view self.old) edge (view self.new)) }
+        ensures closed { IsErrAnd result (λ e. e.why ≡ Closed) ↔ HasEnded (view self.old) edge }
         ensures full { IsErrAnd result (λ e. e.why ≡ Full) → (view self.new).room edge ≡ 0 }
-        ensures succeeds { ended ((view self.old).sent edge) ≡ false →
-            0 < (view self.old).room edge → IsOk result };
+        ensures succeeds { HasNotEnded (view self.old) edge → 0 < (view self.old).room edge →
+            IsOk result };
 
     /// Takes the oldest message that was not taken, or none where none is certain to be there.
     fn take(&mut self, edge: usize) -> Option<Msg>
@@ -129,8 +126,7 @@ pub trait Ends {
         ensures same { same self.old self.new }
         ensures some { IfSome result (λ m. Taken (view self.old) edge (signal_of m)
             (view self.new)) }
-        ensures none { IfNone result (LookedForMessages (view self.old) edge (view self.new) ×
-            (held (view self.new) edge ≡ 0)) }
+        ensures none { IfNone result (FoundNone (view self.old) edge (view self.new)) }
         ensures succeeds { 0 < held (view self.old) edge → IsSome result };
 
     /// How many units the next takes are certain to give, where these ends count them, or fewer.
@@ -165,8 +161,7 @@ pub trait Ends {
         requires reads { (view self.old).reads edge ≡ true }
         requires certain { count ≤ held (view self.old) edge }
         ensures same { same self.old self.new }
-        ensures taken { TakenAll (view self.old) edge (take count ((view self.old).coming edge))
-            (view self.new) }
+        ensures taken { TakenFirst (view self.old) edge count (view self.new) }
     {
         for _ in 0..count {
             let _ = self.take(edge);
@@ -218,19 +213,18 @@ pub trait Ends {
     /// then nothing was put, and the block is as it was. An `End` may only be the last of the block.
     fn put_block(&mut self, edge: usize, block: &mut Block) -> bool
         requires writes { (view self.old).writes edge ≡ true }
-        requires fit { All (λ x. FitsEdge ((view self.old).kind edge) (signal_of (message_of x)))
-            block.old.items }
+        requires fit { BlockFitsEdge ((view self.old).kind edge) block.old.items }
         requires last { orderly (flat_signals block.old.items) ≡ true }
         ensures same { same self.old self.new }
         ensures put { IsTrue result →
-            PutAll (view self.old) edge (flat_signals block.old.items) (view self.new) }
-        ensures sent { IsTrue result → (view self.new).sent edge ≡
-            (view self.old).sent edge ++ flat_signals block.old.items }
+            PutFlats (view self.old) edge block.old.items (view self.new) }
+        ensures sent { IsTrue result →
+            SentFlats (view self.old) edge block.old.items (view self.new) }
         ensures emptied { IsTrue result → block.new.items ≡ [] }
         ensures refused { result ≡ false → LookedForRoom (view self.old) edge (view self.new) }
         ensures kept { result ≡ false → block.new.items ≡ block.old.items }
-        ensures succeeds { ended ((view self.old).sent edge) ≡ false →
-            length block.old.items ≤ (view self.old).room edge → IsTrue result }
+        ensures succeeds { CanPut (view self.old) edge (length block.old.items) →
+            IsTrue result }
     {
         if !self.room_for(edge, block.len()) {
             return false;
@@ -251,14 +245,13 @@ pub trait Ends {
         requires { (view self.old).reads edge ≡ true }
         ensures same { same self.old self.new }
         ensures before { block.new.items ≡ block.old.items ++ flats_appended block.old block.new }
-        ensures taken { TakenAll (view self.old) edge
-            (flat_signals (flats_appended block.old block.new)) (view self.new) }
+        ensures taken { TakenInto (view self.old) edge block.old block.new (view self.new) }
         ensures count { result ≡ length (flats_appended block.old block.new) }
         ensures most { result ≤ most }
-        ensures all { result < most → array_vec_len block.new < 64 →
-            scalar_first ((view self.new).coming edge) ≡ false }
-        ensures succeeds { scalar_first ((view self.old).coming edge) ≡ true → 0 < most →
-            array_vec_len block.old < 64 → 0 < result }
+        ensures all { result < most → HasPlace block.new →
+            NoScalarIsNext (view self.new) edge }
+        ensures succeeds { ScalarIsNext (view self.old) edge → 0 < most → HasPlace block.old →
+            0 < result }
     {
         for taken in 0..most {
             if block.is_full() {

@@ -1,10 +1,10 @@
 // One edge in one thread.
-ghost use Rattle.std.specs.Prelude.{◌≡◌, ◌+◌, ◌-◌, ◌<◌, ◌≤◌, ◌↔◌, true, false, cond, [], ◌∷◌, ◌++◌, length, take, drop, IsTrue, IsOk, OnOk, IfOk, IfErr, IsErrAnd, IfSome, IfNone};
+ghost use Rattle.std.specs.Prelude.{◌≡◌, ◌+◌, ◌-◌, ◌<◌, ◌≤◌, ◌↔◌, true, false, [], ◌∷◌, ◌++◌, length, drop, IsTrue, IsOk, OnOk, OnErr, IfOk, IfErr, IsErrAnd, IfSome, IfNone};
 ghost use Rattle.std.specs.Io.Iter.{u64_saturate};
 ghost use mathlib.Core.List.{IsPrefix};
-ghost use Rattle.flow_messages.specs.Signals.{signals, ended, orderly};
+ghost use Rattle.flow_messages.specs.Signals.{signals, ended, orderly, has_end};
 ghost use Rattle.flow_messages.specs.Contents.{unit_messages, flag_messages, int_messages};
-ghost use Rattle.flow_messages.specs.Stores.{content_of};
+ghost use Rattle.flow_messages.specs.Stores.{content_of, StoreHasRoom, StoreIsFull};
 ghost use Rattle.flow_messages.specs.Lines.{gone};
 ghost use Rattle.flow_messages.specs.declared.ends.Why.TheVariants.{Full, Closed};
 
@@ -31,11 +31,14 @@ pub struct Line {
 }
 
 impl Line {
+    ghost use Rattle.flow_messages.specs.LineBlocks.{SendsBlock, HoldsBlock};
+
     /// An empty edge, with its room reserved. Its only error is that memory was refused.
     #[tactic(auto, using(crate::proofs::Signals::signal_steps))]
     pub fn new(alloc: Global, capacity: usize) -> Result<Line, AllocError>
-        ensures fresh { IfOk result (λ l. (l.sent.items ≡ []) × (content_of l.store ≡ []) ×
-            (l.store.capacity ≡ capacity)) }
+        ensures sent { IfOk result (λ line. line.sent.items ≡ []) }
+        ensures held { IfOk result (λ line. content_of line.store ≡ []) }
+        ensures capacity { IfOk result (λ line. line.store.capacity ≡ capacity) }
     {
         let store = Store::new(alloc, capacity)?;
         Ok(Line {
@@ -76,17 +79,17 @@ impl Line {
     #[tactic(auto, using(crate::proofs::Signals::signal_steps))]
     pub fn put(&mut self, message: Msg) -> Result<(), Refused>
         ensures capacity { self.new.store.capacity ≡ self.old.store.capacity }
-        ensures ok { OnOk result ((self.new.sent.items ≡ self.old.sent.items ++ message ∷ []) ×
-            (content_of self.new.store ≡ content_of self.old.store ++ message ∷ [])) }
-        ensures refused { IfErr result (λ e. (e.message ≡ message) ×
-            (self.new.sent.items ≡ self.old.sent.items) ×
-            (content_of self.new.store ≡ content_of self.old.store)) }
+        ensures sent { OnOk result (self.new.sent.items ≡ self.old.sent.items ++ message ∷ []) }
+        ensures held { OnOk result (content_of self.new.store ≡
+            content_of self.old.store ++ message ∷ []) }
+        ensures returned { IfErr result (λ e. e.message ≡ message) }
+        ensures unsent { OnErr result (self.new.sent.items ≡ self.old.sent.items) }
+        ensures kept { OnErr result (content_of self.new.store ≡ content_of self.old.store) }
         ensures closed { IsErrAnd result (λ e. e.why ≡ Closed) ↔
-            (ended (signals self.old.sent.items) ≡ true) }
-        ensures full { IsErrAnd result (λ e. e.why ≡ Full) →
-            self.new.store.capacity ≤ length (content_of self.new.store) }
-        ensures succeeds { ended (signals self.old.sent.items) ≡ false →
-            length (content_of self.old.store) < self.old.store.capacity → IsOk result }
+            (has_end self.old.sent.items ≡ true) }
+        ensures full { IsErrAnd result (λ e. e.why ≡ Full) → StoreIsFull self.new.store }
+        ensures succeeds { has_end self.old.sent.items ≡ false → StoreHasRoom self.old.store →
+            IsOk result }
     {
         if self.closed {
             return Err(Refused {
@@ -152,10 +155,8 @@ impl Line {
     pub fn put_units(&mut self, count: usize)
         requires { length (content_of self.old.store) + count ≤ self.old.store.capacity }
         ensures capacity { self.new.store.capacity ≡ self.old.store.capacity }
-        ensures sent { self.new.sent.items ≡ cond (ended (signals self.old.sent.items))
-            self.old.sent.items (self.old.sent.items ++ unit_messages count) }
-        ensures held { content_of self.new.store ≡ cond (ended (signals self.old.sent.items))
-            (content_of self.old.store) (content_of self.old.store ++ unit_messages count) }
+        ensures sent { SendsBlock (unit_messages count) self.old self.new }
+        ensures held { HoldsBlock (unit_messages count) self.old self.new }
     {
         if self.is_closed() {
             return;
@@ -170,10 +171,8 @@ impl Line {
         requires { length (content_of self.old.store) + length flags.now ≤
             self.old.store.capacity }
         ensures capacity { self.new.store.capacity ≡ self.old.store.capacity }
-        ensures sent { self.new.sent.items ≡ cond (ended (signals self.old.sent.items))
-            self.old.sent.items (self.old.sent.items ++ flag_messages flags.now) }
-        ensures held { content_of self.new.store ≡ cond (ended (signals self.old.sent.items))
-            (content_of self.old.store) (content_of self.old.store ++ flag_messages flags.now) }
+        ensures sent { SendsBlock (flag_messages flags.now) self.old self.new }
+        ensures held { HoldsBlock (flag_messages flags.now) self.old self.new }
     {
         if self.is_closed() {
             return;
@@ -188,10 +187,8 @@ impl Line {
         requires { length (content_of self.old.store) + length ints.now ≤
             self.old.store.capacity }
         ensures capacity { self.new.store.capacity ≡ self.old.store.capacity }
-        ensures sent { self.new.sent.items ≡ cond (ended (signals self.old.sent.items))
-            self.old.sent.items (self.old.sent.items ++ int_messages ints.now) }
-        ensures held { content_of self.new.store ≡ cond (ended (signals self.old.sent.items))
-            (content_of self.old.store) (content_of self.old.store ++ int_messages ints.now) }
+        ensures sent { SendsBlock (int_messages ints.now) self.old self.new }
+        ensures held { HoldsBlock (int_messages ints.now) self.old self.new }
     {
         if self.is_closed() {
             return;

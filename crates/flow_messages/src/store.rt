@@ -33,7 +33,7 @@ pub struct Store {
 }
 
 impl Store {
-    ghost use Rattle.flow_messages.specs.Stores.{content_of};
+    ghost use Rattle.flow_messages.specs.Stores.{content_of, SameTogether};
 
     /// An empty store, with its room reserved. Its only error is that memory was refused.
     pub fn new(alloc: Global, capacity: usize) -> Result<Store, AllocError>
@@ -275,8 +275,7 @@ impl Store {
     fn append_units(&mut self, other: &mut Store)
         requires room { length (content_of self.old) + length (content_of other.old) ≤
             self.old.capacity }
-        ensures moved { content_of self.new ++ content_of other.new ≡
-            content_of self.old ++ content_of other.old }
+        ensures moved { SameTogether self.old other.old self.new other.new }
         ensures capacity { self.new.capacity ≡ self.old.capacity }
         ensures other_capacity { other.new.capacity ≡ other.old.capacity }
     {
@@ -289,8 +288,7 @@ impl Store {
     fn append_flags(&mut self, other: &mut Store)
         requires room { length (content_of self.old) + length (content_of other.old) ≤
             self.old.capacity }
-        ensures moved { content_of self.new ++ content_of other.new ≡
-            content_of self.old ++ content_of other.old }
+        ensures moved { SameTogether self.old other.old self.new other.new }
         ensures capacity { self.new.capacity ≡ self.old.capacity }
         ensures other_capacity { other.new.capacity ≡ other.old.capacity }
     {
@@ -304,8 +302,7 @@ impl Store {
     fn append_ints(&mut self, other: &mut Store)
         requires room { length (content_of self.old) + length (content_of other.old) ≤
             self.old.capacity }
-        ensures moved { content_of self.new ++ content_of other.new ≡
-            content_of self.old ++ content_of other.old }
+        ensures moved { SameTogether self.old other.old self.new other.new }
         ensures capacity { self.new.capacity ≡ self.old.capacity }
         ensures other_capacity { other.new.capacity ≡ other.old.capacity }
     {

@@ -1,13 +1,12 @@
 -- What a block of scalar messages makes of a node and of the edges at its ports.
-use Rattle.std.specs.Prelude.{◌≡◌, ◌≢◌, ℕ, ◌<◌, ◌≤◌, true, cond, List, [], ◌++◌, length, Option}
+use Rattle.std.specs.Prelude.{◌≡◌, ◌≢◌, ℕ, ◌<◌, ◌≤◌, true, cond, List, [], ◌++◌, length}
 use Rattle.std.specs.List.{All}
 use mathlib.Core.List.{IsPrefix}
 use Rattle.kahn.specs.Processes.{Event, Does, reads, writes}
 use Rattle.flow_messages.specs.declared.flat.Flat.{Flat}
 use Rattle.flow_messages.specs.declared.message.Kind.{Kind}
-use Rattle.flow_messages.specs.Signals.{Signal, signal_of, ended, orderly}
-use Rattle.flow_messages.specs.Flats.{message_of, flat_signals}
-use Rattle.flow_messages.specs.Kinds.{FitsEdge}
+use Rattle.flow_messages.specs.Signals.{Signal, ended, orderly}
+use Rattle.flow_messages.specs.Flats.{flat_signals, BlockFitsEdge}
 use Rattle.flow_messages.specs.Ends.{View, SameEnds}
 use Rattle.flow_base.specs.Transducers.{Behaviour}
 use Rattle.flow_base.specs.Passing.{MayCome}
@@ -29,10 +28,6 @@ pub record ComeNext (k : Kind) (c ms : List Signal) : Type 0 where
 abbrev pub ComeNextAtAny : List Signal → List Signal → Type 0
 ComeNextAtAny c ms = (k : Kind) → ComeNext k c ms
 
--- an edge of this kind takes each message of the block
-abbrev pub BlockFitsEdge : Option Kind → List Flat → Type 0
-BlockFitsEdge k block = All (λ x. FitsEdge k (signal_of (message_of x))) block
-
 -- each of these edges is certain to have room for so many messages
 abbrev pub HaveRoomFor : List ℕ → ℕ → View → Type 0
 HaveRoomFor edges n v = (q : ℕ) → q < length edges → n ≤ v.room (edge_of edges q)
@@ -44,7 +39,7 @@ OnlySeesRoom edges a v = (inputs : List ℕ) → LeavesAlone inputs edges a v
 -- each edge takes all of the block, and is certain to have room for it
 pub record MayTake (edges : List ℕ) (block : List Flat) (v : View) : Type 0 where
   pub writes : All (λ e. v.writes e ≡ true) edges
-  pub fit : (q : ℕ) → q < length edges → All (λ x. FitsEdge (v.kind (edge_of edges q)) (signal_of (message_of x))) block
+  pub fit : (q : ℕ) → q < length edges → BlockFitsEdge (v.kind (edge_of edges q)) block
   pub last : (q : ℕ) → q < length edges → orderly (flat_signals block) ≡ true
   pub room : (q : ℕ) → q < length edges → length block ≤ v.room (edge_of edges q)
 

@@ -3,10 +3,10 @@ ghost use Rattle.std.specs.Prelude.{◌≡◌, ◌≢◌, ◌<◌, ◌≤◌, tr
 ghost use Rattle.std.specs.List.{All};
 ghost use Rattle.flow_messages.specs.declared.message.Kind.TheVariants.{Vec as VecKind};
 ghost use Rattle.flow_messages.specs.Signals.{orderly};
-ghost use Rattle.flow_messages.specs.Flats.{flat_signals};
+ghost use Rattle.flow_messages.specs.Flats.{flat_signals, BlockFitsEdge};
 ghost use Rattle.flow_messages.specs.Ends.{SameEnds, PutAll};
 ghost use Rattle.flow_base.specs.Visits.{Went, IsPlaced, IsReached};
-ghost use Rattle.flow_networks.specs.Blocks.{AreApart, MayTake, BlockFitsEdge, HaveRoomFor, OnlySeesRoom, PutOnAll, DrawsBlock};
+ghost use Rattle.flow_networks.specs.Blocks.{AreApart, MayTake, HaveRoomFor, OnlySeesRoom, PutOnAll, DrawsBlock};
 ghost use Rattle.flow_networks.specs.Graphs.{states_of};
 ghost use Rattle.flow_networks.specs.Places.{IsSamePlace};
 ghost use Rattle.flow_networks.specs.Shapes.{KeepsShape};

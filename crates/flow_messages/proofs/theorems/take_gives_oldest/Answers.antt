@@ -3,6 +3,6 @@ use Rattle.flow_messages.proofs.theorems.take_gives_oldest.Goals as goal
 
 pub returns : goal.returns
 returns c = record {
-  waits = λ capacity a b e m whole. taken-waits capacity a b e m;
+  waits = taken-waits;
   begins = taken-begins;
 }

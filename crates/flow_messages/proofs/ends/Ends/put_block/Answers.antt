@@ -58,7 +58,7 @@ returns-then-is_err-clause-succeeds g c =
     let no_end = open_before xs i low c.requires.last in
     let some : 0 < (view c.loop-flat.self).room e = omega (arith, low, inv.room) in
     let no : IsOk c.put.result → ⊥ = search rules in
-    λ free room. absurd (not_refused (view c.args.self.now) (view c.loop-flat.self) (view c.put.new.self) e _ c.message.result inv.put no_end some c.put.result no c.put.ensures.succeeds free)
+    λ can. absurd (not_refused (view c.args.self.now) (view c.loop-flat.self) (view c.put.new.self) e _ c.message.result inv.put no_end some c.put.result no c.put.ensures.succeeds can.0)
 
 pub loop-flat-preserved : goal.loop-flat-preserved
 loop-flat-preserved g c =

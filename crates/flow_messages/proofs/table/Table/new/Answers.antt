@@ -23,12 +23,12 @@ nothing_with f before after line is all here e =
 pub loop-preserved : goal.loop-preserved
 loop-preserved c =
     let line = c.in_ok-new.field-0 in
-    let fresh = c.in_ok-new.ensures.fresh in
+    let fresh = c.in_ok-new.ensures in
     let is = c.in_ok-push.ensures.items in
     record {
       count = omega (arith, ap length is, length-append c.loop.lines.items (line ∷ []));
-      sent = nothing_with (λ l. signals l.sent.items) _ _ line is c.loop.invariant.sent (ap signals fresh.0 ∙ signals-nil);
+      sent = nothing_with (λ l. signals l.sent.items) _ _ line is c.loop.invariant.sent (ap signals fresh.sent ∙ signals-nil);
       received = nothing_with (λ l. signals (gone l.sent.items (content_of l.store))) _ _ line is c.loop.invariant.received
-          (ap (λ s. signals (gone s (content_of line.store))) fresh.0 ∙ ap (λ h. signals (gone [] h)) fresh.1 ∙ signals-nil);
-      even = even_with c.args.capacity _ _ line is c.loop.invariant.even fresh.2;
+          (ap (λ s. signals (gone s (content_of line.store))) fresh.sent ∙ ap (λ h. signals (gone [] h)) fresh.held ∙ signals-nil);
+      even = even_with c.args.capacity _ _ line is c.loop.invariant.even fresh.capacity;
     }
