@@ -1,7 +1,9 @@
 pub mod Received
 pub mod Coming
 pub mod Putting
+pub mod Moving
 pub mod Reserved
 pub mod Contents
 pub mod Rounds
+pub mod Staying
 pub mod RoundLaws

@@ -1,5 +1,5 @@
--- What a put of many messages changes in a writer's box.
-use Rattle.std.specs.Prelude.{◌≡◌, ◌+◌, cond, List, ◌++◌, length}
+-- What a put changes in a writer's box.
+use Rattle.std.specs.Prelude.{◌≡◌, ◌+◌, cond, List, [], ◌∷◌, ◌++◌, length}
 use Rattle.flow_messages.specs.declared.message.Msg.{Msg}
 use Rattle.flow_messages.specs.Signals.{signals, ended}
 use Rattle.flow_messages.specs.Stores.{content_of}
@@ -10,3 +10,15 @@ pub record PutsBlock (ms : List Msg) (a b : Outbox) : Type 0 where
   pub sent : b.sent.items ≡ cond (ended (signals a.sent.items)) a.sent.items (a.sent.items ++ ms)
   pub held : content_of b.store ≡ cond (ended (signals a.sent.items)) (content_of a.store) (content_of a.store ++ ms)
   pub room : b.room + cond (ended (signals a.sent.items)) 0 (length ms) ≡ a.room
+
+-- this message was put, and took one place
+pub record PutsMessage (m : Msg) (a b : Outbox) : Type 0 where
+  pub sent : b.sent.items ≡ a.sent.items ++ m ∷ []
+  pub held : content_of b.store ≡ content_of a.store ++ m ∷ []
+  pub room : b.room + 1 ≡ a.room
+
+-- nothing was put, and as many places are left
+pub record PutsNothing (a b : Outbox) : Type 0 where
+  pub sent : b.sent.items ≡ a.sent.items
+  pub held : content_of b.store ≡ content_of a.store
+  pub room : b.room ≡ a.room

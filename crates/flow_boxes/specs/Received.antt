@@ -1,5 +1,5 @@
 -- What was taken from a reader's box: what has arrived and is not held.
-use Rattle.std.specs.Prelude.{List}
+use Rattle.std.specs.Prelude.{◌≡◌, List, ◌++◌}
 use Rattle.flow_messages.specs.declared.message.Msg.{Msg}
 use Rattle.flow_messages.specs.Stores.{content_of}
 use Rattle.flow_messages.specs.Lines.{gone}
@@ -8,3 +8,7 @@ use Rattle.flow_boxes.specs.declared.inbox.Inbox.{Inbox}
 -- the messages that were taken, the oldest first
 abbrev pub received_of : Inbox → List Msg
 received_of i = gone i.arrived.items (content_of i.store)
+
+-- these messages were taken, after all that were taken before
+abbrev pub Receives : List Msg → Inbox → Inbox → Type 0
+Receives ms a b = received_of b ≡ received_of a ++ ms

@@ -23,13 +23,14 @@ pub struct Inbox {
 }
 
 impl Inbox {
-    ghost use Rattle.flow_boxes.specs.Received.{received_of};
+    ghost use Rattle.flow_boxes.specs.Received.{received_of, Receives};
     ghost use Rattle.flow_boxes.specs.Coming.{HasCome};
 
     /// An empty box, with room for the capacity.
     pub fn new(alloc: Global, capacity: usize) -> Result<Inbox, AllocError>
-        ensures fresh { IfOk result (λ i. (received_of i ≡ []) × (content_of i.store ≡ []) ×
-            (i.arrived.items ≡ [])) }
+        ensures received { IfOk result (λ i. received_of i ≡ []) }
+        ensures held { IfOk result (λ i. content_of i.store ≡ []) }
+        ensures arrived { IfOk result (λ i. i.arrived.items ≡ []) }
         ensures reserved { IfOk result (λ i. i.store.capacity ≡ capacity) }
     {
         let store = Store::new(alloc, capacity)?;
@@ -91,11 +92,12 @@ impl Inbox {
     pub fn take(&mut self) -> Option<Msg>
         ensures reserved { self.new.store.capacity ≡ self.old.store.capacity }
         ensures arrived { self.new.arrived.items ≡ self.old.arrived.items }
-        ensures some { IfSome result (λ m. (received_of self.new ≡
-            received_of self.old ++ m ∷ []) ×
-            (content_of self.old.store ≡ m ∷ content_of self.new.store)) }
-        ensures none { IfNone result ((received_of self.new ≡ received_of self.old) ×
-            (content_of self.new.store ≡ []) × (content_of self.old.store ≡ [])) }
+        ensures received { IfSome result (λ m. Receives (m ∷ []) self.old self.new) }
+        ensures some { IfSome result (λ m. content_of self.old.store ≡
+            m ∷ content_of self.new.store) }
+        ensures unreceived { IfNone result (received_of self.new ≡ received_of self.old) }
+        ensures held_none { IfNone result (content_of self.old.store ≡ []) }
+        ensures none { IfNone result (content_of self.new.store ≡ []) }
     {
         let message = self.store.pop()?;
         self.taken = self.taken.saturating_add(1);
@@ -108,8 +110,7 @@ impl Inbox {
         requires { count ≤ length (content_of self.old.store) }
         ensures reserved { self.new.store.capacity ≡ self.old.store.capacity }
         ensures arrived { self.new.arrived.items ≡ self.old.arrived.items }
-        ensures received { received_of self.new ≡
-            received_of self.old ++ take count (content_of self.old.store) }
+        ensures received { Receives (take count (content_of self.old.store)) self.old self.new }
         ensures rest { content_of self.new.store ≡ drop count (content_of self.old.store) }
     {
         self.store.skip(count);

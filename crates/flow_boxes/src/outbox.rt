@@ -1,7 +1,7 @@
 // The writer's box of an edge.
-ghost use Rattle.std.specs.Prelude.{◌≡◌, ◌+◌, ◌<◌, ◌≤◌, ◌↔◌, true, false, [], ◌∷◌, ◌++◌, length, IsOk, OnOk, IfOk, IfErr, IsErrAnd};
+ghost use Rattle.std.specs.Prelude.{◌≡◌, ◌+◌, ◌<◌, ◌≤◌, ◌↔◌, true, false, [], length, IsOk, OnOk, OnErr, IfOk, IfErr, IsErrAnd};
 ghost use Rattle.std.specs.Io.Iter.{u64_saturate};
-ghost use Rattle.flow_messages.specs.Signals.{signals, ended, orderly};
+ghost use Rattle.flow_messages.specs.Signals.{signals, ended, orderly, has_end};
 ghost use Rattle.flow_messages.specs.Stores.{content_of};
 ghost use Rattle.flow_messages.specs.Contents.{unit_messages, flag_messages, int_messages};
 ghost use Rattle.flow_messages.specs.declared.ends.Why.TheVariants.{Full, Closed};
@@ -33,13 +33,15 @@ pub struct Outbox {
 
 impl Outbox {
     ghost use Rattle.flow_boxes.specs.Received.{received_of};
-    ghost use Rattle.flow_boxes.specs.Putting.{PutsBlock};
+    ghost use Rattle.flow_boxes.specs.Putting.{PutsBlock, PutsMessage, PutsNothing};
+    ghost use Rattle.flow_boxes.specs.Moving.{HoldAtMost, GetsAll};
 
     /// An empty box, with room for the capacity.
     #[tactic(auto, using(flow_messages::proofs::Signals::signal_steps))]
     pub fn new(alloc: Global, capacity: usize) -> Result<Outbox, AllocError>
-        ensures fresh { IfOk result (λ o. (o.sent.items ≡ []) × (content_of o.store ≡ []) ×
-            (o.room ≡ capacity)) }
+        ensures sent { IfOk result (λ o. o.sent.items ≡ []) }
+        ensures held { IfOk result (λ o. content_of o.store ≡ []) }
+        ensures room { IfOk result (λ o. o.room ≡ capacity) }
         ensures reserved { IfOk result (λ o. o.store.capacity ≡ capacity) }
     {
         let store = Store::new(alloc, capacity)?;
@@ -58,17 +60,13 @@ impl Outbox {
     #[tactic(auto, using(flow_messages::proofs::Signals::signal_steps))]
     pub fn put(&mut self, message: Msg) -> Result<(), Refused>
         ensures reserved { self.new.store.capacity ≡ self.old.store.capacity }
-        ensures ok { OnOk result ((self.new.sent.items ≡ self.old.sent.items ++ message ∷ []) ×
-            (content_of self.new.store ≡ content_of self.old.store ++ message ∷ []) ×
-            (self.new.room + 1 ≡ self.old.room)) }
-        ensures refused { IfErr result (λ e. (e.message ≡ message) ×
-            (self.new.sent.items ≡ self.old.sent.items) ×
-            (content_of self.new.store ≡ content_of self.old.store) ×
-            (self.new.room ≡ self.old.room)) }
+        ensures ok { OnOk result (PutsMessage message self.old self.new) }
+        ensures returned { IfErr result (λ e. e.message ≡ message) }
+        ensures refused { OnErr result (PutsNothing self.old self.new) }
         ensures closed { IsErrAnd result (λ e. e.why ≡ Closed) ↔
-            (ended (signals self.old.sent.items) ≡ true) }
+            (has_end self.old.sent.items ≡ true) }
         ensures full { IsErrAnd result (λ e. e.why ≡ Full) → self.new.room ≡ 0 }
-        ensures succeeds { ended (signals self.old.sent.items) ≡ false → 0 < self.old.room →
+        ensures succeeds { has_end self.old.sent.items ≡ false → 0 < self.old.room →
             IsOk result }
     {
         if self.closed {
@@ -158,14 +156,12 @@ impl Outbox {
     pub fn carry_into(&mut self, inbox: &mut Inbox, capacity: usize)
         requires outbox { self.old.store.capacity ≡ capacity }
         requires inbox { inbox.old.store.capacity ≡ capacity }
-        requires bound { length (content_of inbox.old.store) +
-            length (content_of self.old.store) ≤ capacity }
+        requires bound { HoldAtMost capacity self.old inbox.old }
         ensures outbox_reserved { self.new.store.capacity ≡ capacity }
         ensures inbox_reserved { inbox.new.store.capacity ≡ capacity }
         ensures sent { self.new.sent.items ≡ self.old.sent.items }
         ensures received { received_of inbox.new ≡ received_of inbox.old }
-        ensures moved { content_of inbox.new.store ≡
-            content_of inbox.old.store ++ content_of self.old.store }
+        ensures moved { GetsAll self.old inbox.old inbox.new }
         ensures emptied { content_of self.new.store ≡ [] }
         ensures room { self.new.room + length (content_of inbox.new.store) ≡ capacity }
     {

@@ -5,6 +5,6 @@ pub returns : goal.returns
 returns c = record {
   writer = writer-linked;
   reader = reader-linked;
-  writer_elsewhere = writer-elsewhere;
+  writer_elsewhere = λ r w w' e k. writer-elsewhere w w' r e k;
   reader_elsewhere = reader-elsewhere;
 }

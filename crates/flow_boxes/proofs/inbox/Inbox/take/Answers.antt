@@ -16,8 +16,8 @@ invariant_of-self-2 c =
       counts = count_rest all now i.fifo one rest i.taken 1 _ is i.counts refl c.saturating_add-self.ensures;
     }
 
-pub returns-clause-some : goal.returns-clause-some
-returns-clause-some c =
+pub returns-clause-received : goal.returns-clause-received
+returns-clause-received c =
     let i = c.args.self.now in
     let is = c.in_ok-message.ensures.some in
-    (gone_rest i.arrived.items (content_of i.store) i.fifo (c.in_ok-message.message ∷ []) (content_of c.pop.new.self) is, is)
+    gone_rest i.arrived.items (content_of i.store) i.fifo (c.in_ok-message.message ∷ []) (content_of c.pop.new.self) is
