@@ -44,3 +44,7 @@ module _ {State : Type 0} (net : Network State) where
 -- each node is a lawful process
 abbrev pub AllLawful : {State Message : Type 0} → Process State Message → Network State → Type 0
 AllLawful P net = (k : ℕ) → k < net.nodes → IsLawfulProcess P (net.opening k) (net.inputs k) (net.outputs k)
+
+-- X holds of each network that is wired and whose nodes are lawful
+abbrev pub OfLawfulNetworks : {State Message : Type 0} → Process State Message → (Network State → Type 0) → Type 0
+OfLawfulNetworks {State} P X = (net : Network State) → IsWired net → AllLawful P net → X net

@@ -2,20 +2,18 @@
 //! for parallel programming", 1974, with bounded edges, by which a run may stall.
 
 ghost use Rattle.kahn.specs.Processes.{Process};
-ghost use Rattle.kahn.specs.Networks.{Network, IsWired, AllLawful};
+ghost use Rattle.kahn.specs.Networks.{Network, IsWired, OfLawfulNetworks};
 ghost use Rattle.kahn.specs.Faults.{OneIsNamed};
 ghost use Rattle.kahn.specs.RestTheorems.{EndsOrStalls, OneOutcome, ListedFaultIsOutcome, RunsComeOutAlike, AllReceived, NeverStalls};
 
 /// At rest with no fault, all nodes have ended, or a least edge is full while its writer waits.
 pub fn ends_or_stalls<State, Message>()
-    ensures { (P : Process State Message) (net : Network State) → IsWired net → AllLawful P net →
-        EndsOrStalls P net }
+    ensures { (P : Process State Message) → OfLawfulNetworks P (EndsOrStalls P) }
 {}
 
 /// A sound configuration at rest has exactly one outcome.
 pub fn one_outcome<State, Message>()
-    ensures { (P : Process State Message) (net : Network State) → IsWired net → AllLawful P net →
-        OneOutcome P net }
+    ensures { (P : Process State Message) → OfLawfulNetworks P (OneOutcome P) }
 {}
 
 /// The fault that is named of a list of all faults to which nodes have come is the outcome.
@@ -36,12 +34,10 @@ pub fn runs_come_out_alike<State, Message>()
 
 /// Where all nodes ended, all that was sent was received.
 pub fn all_received<State, Message>()
-    ensures { (P : Process State Message) (net : Network State) → IsWired net → AllLawful P net →
-        AllReceived P net }
+    ensures { (P : Process State Message) → OfLawfulNetworks P (AllReceived P) }
 {}
 
 /// Where the whole traffic fits the edges, no run stalls.
 pub fn never_stalls<State, Message>()
-    ensures { (P : Process State Message) (net : Network State) → IsWired net → AllLawful P net →
-        NeverStalls P net }
+    ensures { (P : Process State Message) → OfLawfulNetworks P (NeverStalls P) }
 {}

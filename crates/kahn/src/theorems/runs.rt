@@ -2,7 +2,7 @@
 //! of a simple language for parallel programming", 1974, with edges that may be bounded.
 
 ghost use Rattle.kahn.specs.Processes.{Process};
-ghost use Rattle.kahn.specs.Networks.{Network, IsWired, AllLawful};
+ghost use Rattle.kahn.specs.Networks.{Network, IsWired, OfLawfulNetworks};
 ghost use Rattle.kahn.specs.RunTheorems.{RunsAreSound, StepsKeepSound, RunsFit, EndIsLast, StepsMove, RunsEndAlike, AllRunsGoOn};
 
 /// Whatever the schedule, each configuration of a run is sound.
@@ -23,8 +23,7 @@ pub fn runs_fit<State, Message>()
 
 /// Nothing follows the end on an edge.
 pub fn end_is_last<State, Message>()
-    ensures { (P : Process State Message) (net : Network State) → IsWired net → AllLawful P net →
-        EndIsLast P net }
+    ensures { (P : Process State Message) → OfLawfulNetworks P (EndIsLast P) }
 {}
 
 /// Each step moves one message.

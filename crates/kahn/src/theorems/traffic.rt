@@ -2,21 +2,19 @@
 //! language for parallel programming", 1974).
 
 ghost use Rattle.kahn.specs.Processes.{Process, Settles};
-ghost use Rattle.kahn.specs.Networks.{Network, IsWired, AllLawful};
+ghost use Rattle.kahn.specs.Networks.{Network, OfLawfulNetworks};
 ghost use Rattle.kahn.specs.Traffic.{WholeTraffic};
 ghost use Rattle.kahn.specs.TrafficTheorems.{OneTraffic, AllTraffic, CarriesFromNodes, EpochsEnd};
 
 /// Each sound configuration has beginnings of the one traffic, and no fault: what the edges carry is
 /// determined by the nodes alone (Kahn 1974).
 pub fn one_traffic<State, Message>()
-    ensures { (P : Process State Message) (net : Network State) → IsWired net → AllLawful P net →
-        OneTraffic P net }
+    ensures { (P : Process State Message) → OfLawfulNetworks P (OneTraffic P) }
 {}
 
 /// Where all nodes ended, the edges carried the one traffic.
 pub fn same_traffic<State, Message>()
-    ensures { (P : Process State Message) (net : Network State) → IsWired net → AllLawful P net →
-        AllTraffic P net }
+    ensures { (P : Process State Message) → OfLawfulNetworks P (AllTraffic P) }
 {}
 
 /// Where each node has a complete run over the same lists, these are what the edges carry.
@@ -26,8 +24,8 @@ pub fn carries_from_nodes<State, Message>()
 
 /// The whole traffic is finite, and no sound configuration exceeds it.
 pub fn whole_traffic<State, Message>()
-    ensures { (P : Process State Message) (net : Network State) → IsWired net → AllLawful P net →
-        Settles P → WholeTraffic P net }
+    ensures { (P : Process State Message) →
+        OfLawfulNetworks P (λ net. Settles P → WholeTraffic P net) }
 {}
 
 /// Where each configuration has moved more than the one before, no more of them follow the first than twice
