@@ -31,7 +31,7 @@ pub struct Line {
 }
 
 impl Line {
-    ghost use Rattle.flow_messages.specs.LineBlocks.{SendsBlock, HoldsBlock};
+    ghost use Rattle.flow_messages.specs.LineBlocks.{SendsBlock, LeavesOnly};
 
     /// An empty edge, with its room reserved. Its only error is that memory was refused.
     #[tactic(auto, using(crate::proofs::Signals::signal_steps))]
@@ -134,9 +134,7 @@ impl Line {
     #[inline(always)]
     pub fn skip(&mut self, count: usize)
         requires { count ≤ length (content_of self.old.store) }
-        ensures capacity { self.new.store.capacity ≡ self.old.store.capacity }
-        ensures sent { self.new.sent.items ≡ self.old.sent.items }
-        ensures rest { content_of self.new.store ≡ drop count (content_of self.old.store) }
+        ensures { LeavesOnly (drop count (content_of self.old.store)) self.old self.new }
     {
         self.store.skip(count);
         self.taken = self.taken.saturating_add(count as u64);
@@ -154,9 +152,7 @@ impl Line {
     #[inline(always)]
     pub fn put_units(&mut self, count: usize)
         requires { length (content_of self.old.store) + count ≤ self.old.store.capacity }
-        ensures capacity { self.new.store.capacity ≡ self.old.store.capacity }
-        ensures sent { SendsBlock (unit_messages count) self.old self.new }
-        ensures held { HoldsBlock (unit_messages count) self.old self.new }
+        ensures { SendsBlock (unit_messages count) self.old self.new }
     {
         if self.is_closed() {
             return;
@@ -170,9 +166,7 @@ impl Line {
     pub fn put_flags(&mut self, flags: &[bool])
         requires { length (content_of self.old.store) + length flags.now ≤
             self.old.store.capacity }
-        ensures capacity { self.new.store.capacity ≡ self.old.store.capacity }
-        ensures sent { SendsBlock (flag_messages flags.now) self.old self.new }
-        ensures held { HoldsBlock (flag_messages flags.now) self.old self.new }
+        ensures { SendsBlock (flag_messages flags.now) self.old self.new }
     {
         if self.is_closed() {
             return;
@@ -186,9 +180,7 @@ impl Line {
     pub fn put_ints(&mut self, ints: &[i64])
         requires { length (content_of self.old.store) + length ints.now ≤
             self.old.store.capacity }
-        ensures capacity { self.new.store.capacity ≡ self.old.store.capacity }
-        ensures sent { SendsBlock (int_messages ints.now) self.old self.new }
-        ensures held { HoldsBlock (int_messages ints.now) self.old self.new }
+        ensures { SendsBlock (int_messages ints.now) self.old self.new }
     {
         if self.is_closed() {
             return;

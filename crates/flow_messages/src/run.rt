@@ -20,7 +20,7 @@ pub struct Run<T> {
 }
 
 impl<T: Copy + Drop> Run<T> {
-    ghost use Rattle.flow_messages.specs.Runs.{run_items};
+    ghost use Rattle.flow_messages.specs.Runs.{run_items, RunBecomes};
 
     /// An empty run, with its room reserved. It is refused where there is no memory for twice as many items.
     pub fn new(alloc: Global, most: usize) -> Result<Run<T>, AllocError>
@@ -63,8 +63,7 @@ impl<T: Copy + Drop> Run<T> {
     #[inline(always)]
     pub fn put(&mut self, item: T)
         requires room { length (run_items self.old) < self.old.most }
-        ensures items { run_items self.new ≡ run_items self.old ++ item ∷ [] }
-        ensures most { self.new.most ≡ self.old.most }
+        ensures { RunBecomes (run_items self.old ++ item ∷ []) self.old self.new }
     {
         if self.items.len() >= self.most + self.most {
             self.move_down();
@@ -76,8 +75,7 @@ impl<T: Copy + Drop> Run<T> {
     #[inline(always)]
     pub fn put_all(&mut self, items: &[T])
         requires room { length (run_items self.old) + length items.now ≤ self.old.most }
-        ensures items { run_items self.new ≡ run_items self.old ++ items.now }
-        ensures most { self.new.most ≡ self.old.most }
+        ensures { RunBecomes (run_items self.old ++ items.now) self.old self.new }
     {
         if self.items.len() + items.len() > self.most + self.most {
             self.move_down();
@@ -93,8 +91,7 @@ impl<T: Copy + Drop> Run<T> {
     #[inline(always)]
     pub fn skip(&mut self, count: usize)
         requires there { count ≤ length (run_items self.old) }
-        ensures items { run_items self.new ≡ drop count (run_items self.old) }
-        ensures most { self.new.most ≡ self.old.most }
+        ensures { RunBecomes (drop count (run_items self.old)) self.old self.new }
     {
         if count == self.len() {
             self.items.clear();
