@@ -17,6 +17,13 @@ StoreHasRoom s = length (content_of s) < s.capacity
 abbrev pub StoreIsFull : Store → Type 0
 StoreIsFull s = s.capacity ≤ length (content_of s)
 
--- two stores hold together, the one's messages before the other's, what they held before
-abbrev pub SameTogether : (before before' after after' : Store) → Type 0
-SameTogether before before' after after' = content_of after ++ content_of after' ≡ content_of before ++ content_of before'
+-- the store holds these messages now, and may hold as many as before
+pub record StoreBecomes (ms : List Msg) (a b : Store) : Type 0 where
+  pub content : content_of b ≡ ms
+  pub capacity : b.capacity ≡ a.capacity
+
+-- two stores hold together, the one's messages before the other's, what they held before, and each may hold as many as before
+pub record SameTogether (a a' b b' : Store) : Type 0 where
+  pub moved : content_of b ++ content_of b' ≡ content_of a ++ content_of a'
+  pub capacity : b.capacity ≡ a.capacity
+  pub other_capacity : b'.capacity ≡ a'.capacity

@@ -33,7 +33,7 @@ pub struct Store {
 }
 
 impl Store {
-    ghost use Rattle.flow_messages.specs.Stores.{content_of, SameTogether};
+    ghost use Rattle.flow_messages.specs.Stores.{content_of, StoreBecomes, SameTogether};
 
     /// An empty store, with its room reserved. Its only error is that memory was refused.
     pub fn new(alloc: Global, capacity: usize) -> Result<Store, AllocError>
@@ -119,8 +119,7 @@ impl Store {
     #[inline(always)]
     pub fn push(&mut self, message: Msg)
         requires room { length (content_of self.old) < self.old.capacity }
-        ensures content { content_of self.new ≡ content_of self.old ++ message ∷ [] }
-        ensures capacity { self.new.capacity ≡ self.old.capacity }
+        ensures { StoreBecomes (content_of self.old ++ message ∷ []) self.old self.new }
     {
         if self.queue.is_empty() {
             match &message {
@@ -177,8 +176,7 @@ impl Store {
     #[inline(always)]
     pub fn skip(&mut self, count: usize)
         requires there { count ≤ length (content_of self.old) }
-        ensures content { content_of self.new ≡ drop count (content_of self.old) }
-        ensures capacity { self.new.capacity ≡ self.old.capacity }
+        ensures { StoreBecomes (drop count (content_of self.old)) self.old self.new }
     {
         // Mostly all are of one kind.
         if count <= self.units {
@@ -210,8 +208,7 @@ impl Store {
     #[inline(always)]
     pub fn put_units(&mut self, count: usize)
         requires room { length (content_of self.old) + count ≤ self.old.capacity }
-        ensures content { content_of self.new ≡ content_of self.old ++ unit_messages count }
-        ensures capacity { self.new.capacity ≡ self.old.capacity }
+        ensures { StoreBecomes (content_of self.old ++ unit_messages count) self.old self.new }
     {
         if self.units == self.held {
             self.units += count;
@@ -226,8 +223,7 @@ impl Store {
     #[inline(always)]
     pub fn put_flags(&mut self, flags: &[bool])
         requires room { length (content_of self.old) + length flags.now ≤ self.old.capacity }
-        ensures content { content_of self.new ≡ content_of self.old ++ flag_messages flags.now }
-        ensures capacity { self.new.capacity ≡ self.old.capacity }
+        ensures { StoreBecomes (content_of self.old ++ flag_messages flags.now) self.old self.new }
     {
         if self.queue.is_empty() && self.ints.is_empty() {
             self.flags.put_all(flags);
@@ -242,8 +238,7 @@ impl Store {
     #[inline(always)]
     pub fn put_ints(&mut self, ints: &[i64])
         requires room { length (content_of self.old) + length ints.now ≤ self.old.capacity }
-        ensures content { content_of self.new ≡ content_of self.old ++ int_messages ints.now }
-        ensures capacity { self.new.capacity ≡ self.old.capacity }
+        ensures { StoreBecomes (content_of self.old ++ int_messages ints.now) self.old self.new }
     {
         if self.queue.is_empty() {
             self.ints.put_all(ints);
@@ -275,9 +270,7 @@ impl Store {
     fn append_units(&mut self, other: &mut Store)
         requires room { length (content_of self.old) + length (content_of other.old) ≤
             self.old.capacity }
-        ensures moved { SameTogether self.old other.old self.new other.new }
-        ensures capacity { self.new.capacity ≡ self.old.capacity }
-        ensures other_capacity { other.new.capacity ≡ other.old.capacity }
+        ensures { SameTogether self.old other.old self.new other.new }
     {
         let count = other.units();
         self.put_units(count);
@@ -288,9 +281,7 @@ impl Store {
     fn append_flags(&mut self, other: &mut Store)
         requires room { length (content_of self.old) + length (content_of other.old) ≤
             self.old.capacity }
-        ensures moved { SameTogether self.old other.old self.new other.new }
-        ensures capacity { self.new.capacity ≡ self.old.capacity }
-        ensures other_capacity { other.new.capacity ≡ other.old.capacity }
+        ensures { SameTogether self.old other.old self.new other.new }
     {
         let flags = other.flags();
         let count = flags.len();
@@ -302,9 +293,7 @@ impl Store {
     fn append_ints(&mut self, other: &mut Store)
         requires room { length (content_of self.old) + length (content_of other.old) ≤
             self.old.capacity }
-        ensures moved { SameTogether self.old other.old self.new other.new }
-        ensures capacity { self.new.capacity ≡ self.old.capacity }
-        ensures other_capacity { other.new.capacity ≡ other.old.capacity }
+        ensures { SameTogether self.old other.old self.new other.new }
     {
         let ints = other.ints();
         let count = ints.len();

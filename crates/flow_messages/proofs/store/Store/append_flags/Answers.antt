@@ -6,9 +6,12 @@ use Rattle.flow_messages.specs.Stores.{content_of}
 use Rattle.flow_messages.proofs.Contents.{moved_on}
 use Rattle.flow_messages.proofs.store.Store.append_flags.Goals as goal
 
-pub returns-clause-moved : goal.returns-clause-moved
-returns-clause-moved c =
-    let block = c.flags-flags.result.now in
-    rw (c.put_flags.ensures.content, c.skip.ensures.content)
-    (moved_on (content_of c.args.self.now) (flag_messages block) (content_of c.args.other.now) _ c.flags-flags.ensures
-    (length-map block (λ x. ItemMsg (BoolItem x))))
+pub returns : goal.returns
+returns c = record {
+  moved = (let block = c.flags-flags.result.now in
+      rw (c.put_flags.ensures.content, c.skip.ensures.content)
+      (moved_on (content_of c.args.self.now) (flag_messages block) (content_of c.args.other.now) _ c.flags-flags.ensures
+      (length-map block (λ x. ItemMsg (BoolItem x)))));
+  capacity = c.put_flags.ensures.capacity;
+  other_capacity = c.skip.ensures.capacity;
+}

@@ -1,4 +1,4 @@
-use Rattle.std.proofs.Common.{◌+◌, ap, length, ◌∙◌, arith, length-append}
+use Rattle.std.proofs.Common.{◌+◌, ap, length, ◌∙◌, arith, length-append, refl}
 use Rattle.std.proofs.lemmas.List.{length-replicate}
 use Rattle.flow_messages.specs.Runs.{run_items}
 use Rattle.flow_messages.specs.Contents.{content, unit_messages}
@@ -13,14 +13,16 @@ invariant_of-self-clause-counts c =
     let queue = s.queue.items in
     omega (arith, length-content s.units flags ints queue, length-content (s.units + c.args.count) flags ints queue)
 
-pub returns-then-self-clause-content : goal.returns-then-self-clause-content
-returns-then-self-clause-content c =
-    let s = c.args.self.now in
-    let flags = run_items s.flags in
-    let ints = run_items s.ints in
-    let queue = s.queue.items in
-    let sum = length-content s.units flags ints queue in
-    put_units s.units c.args.count flags ints queue (omega arith) (omega arith) (omega arith)
+pub returns-then-self : goal.returns-then-self
+returns-then-self c = record {
+  content = (let s = c.args.self.now in
+      let flags = run_items s.flags in
+      let ints = run_items s.ints in
+      let queue = s.queue.items in
+      let sum = length-content s.units flags ints queue in
+      put_units s.units c.args.count flags ints queue (omega arith) (omega arith) (omega arith));
+  capacity = refl;
+}
 
 pub queue_units-requires : goal.queue_units-requires
 queue_units-requires c =
@@ -43,10 +45,12 @@ invariant_of-self-2-clause-counts c =
       simp (length-append, length-replicate) at (ap length c.queue_units.ensures.items),
     )
 
-pub returns-clause-content : goal.returns-clause-content
-returns-clause-content c =
-    let s = c.args.self.now in
-    let flags = run_items s.flags in
-    let ints = run_items s.ints in
-    let queue = s.queue.items in
-    ap (content s.units flags ints) c.queue_units.ensures.items ∙ put_queue s.units flags ints queue (unit_messages c.args.count)
+pub returns : goal.returns
+returns c = record {
+  content = (let s = c.args.self.now in
+      let flags = run_items s.flags in
+      let ints = run_items s.ints in
+      let queue = s.queue.items in
+      ap (content s.units flags ints) c.queue_units.ensures.items ∙ put_queue s.units flags ints queue (unit_messages c.args.count));
+  capacity = refl;
+}
