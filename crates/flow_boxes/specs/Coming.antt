@@ -1,4 +1,4 @@
--- What many messages that come change in a reader's box.
+-- What messages that come change in a reader's box.
 use Rattle.std.specs.Prelude.{◌≡◌, List, ◌++◌}
 use Rattle.flow_messages.specs.declared.message.Msg.{Msg}
 use Rattle.flow_messages.specs.Stores.{content_of}

@@ -1,5 +1,5 @@
 // The reader's box of an edge.
-ghost use Rattle.std.specs.Prelude.{◌≡◌, ◌+◌, ◌<◌, ◌≤◌, [], ◌∷◌, ◌++◌, length, take, drop, IfOk, IfSome, IfNone};
+ghost use Rattle.std.specs.Prelude.{◌≡◌, ◌+◌, ◌<◌, ◌≤◌, [], ◌∷◌, ◌++◌, length, IfOk, IfSome, IfNone};
 ghost use Rattle.std.specs.Io.Iter.{u64_saturate};
 ghost use Rattle.flow_messages.specs.Stores.{content_of};
 ghost use Rattle.flow_messages.specs.Lines.{gone};
@@ -23,7 +23,7 @@ pub struct Inbox {
 }
 
 impl Inbox {
-    ghost use Rattle.flow_boxes.specs.Received.{received_of, Receives};
+    ghost use Rattle.flow_boxes.specs.Received.{received_of, Receives, HasTaken};
     ghost use Rattle.flow_boxes.specs.Coming.{HasCome};
 
     /// An empty box, with room for the capacity.
@@ -45,10 +45,7 @@ impl Inbox {
     #[inline(always)]
     pub fn push(&mut self, message: Msg)
         requires { length (content_of self.old.store) < self.old.store.capacity }
-        ensures reserved { self.new.store.capacity ≡ self.old.store.capacity }
-        ensures arrived { self.new.arrived.items ≡ self.old.arrived.items ++ message ∷ [] }
-        ensures received { received_of self.new ≡ received_of self.old }
-        ensures held { content_of self.new.store ≡ content_of self.old.store ++ message ∷ [] }
+        ensures { HasCome (message ∷ []) self.old self.new }
     {
         let arrived = self.arrived.with(&message);
         self.store.push(message);
@@ -108,10 +105,7 @@ impl Inbox {
     #[inline(always)]
     pub fn skip(&mut self, count: usize)
         requires { count ≤ length (content_of self.old.store) }
-        ensures reserved { self.new.store.capacity ≡ self.old.store.capacity }
-        ensures arrived { self.new.arrived.items ≡ self.old.arrived.items }
-        ensures received { Receives (take count (content_of self.old.store)) self.old self.new }
-        ensures rest { content_of self.new.store ≡ drop count (content_of self.old.store) }
+        ensures { HasTaken count self.old self.new }
     {
         self.store.skip(count);
         self.taken = self.taken.saturating_add(count as u64);

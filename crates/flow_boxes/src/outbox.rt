@@ -105,7 +105,6 @@ impl Outbox {
     #[inline(always)]
     pub fn put_units(&mut self, count: usize)
         requires { count ≤ self.old.room }
-        ensures reserved { self.new.store.capacity ≡ self.old.store.capacity }
         ensures put { PutsBlock (unit_messages count) self.old self.new }
     {
         if self.is_closed() {
@@ -122,7 +121,6 @@ impl Outbox {
     #[inline(always)]
     pub fn put_flags(&mut self, flags: &[bool])
         requires { length flags.now ≤ self.old.room }
-        ensures reserved { self.new.store.capacity ≡ self.old.store.capacity }
         ensures put { PutsBlock (flag_messages flags.now) self.old self.new }
     {
         if self.is_closed() {
@@ -139,7 +137,6 @@ impl Outbox {
     #[inline(always)]
     pub fn put_ints(&mut self, ints: &[i64])
         requires { length ints.now ≤ self.old.room }
-        ensures reserved { self.new.store.capacity ≡ self.old.store.capacity }
         ensures put { PutsBlock (int_messages ints.now) self.old self.new }
     {
         if self.is_closed() {

@@ -1,9 +1,8 @@
 -- What came, in parts.
-use Rattle.std.proofs.Common.{◌≡◌, ◌+◌, List, [], ◌∷◌, ◌++◌, length, refl, sym, ap, ◌∙◌, arith, append_assoc, append-nil, length-append}
+use Rattle.std.proofs.Common.{◌≡◌, ◌+◌, List, [], ◌++◌, length, refl, sym, ap, ◌∙◌, arith, append_assoc, append-nil, length-append}
 use Rattle.flow_messages.specs.declared.message.Msg.{Msg}
 use Rattle.flow_messages.specs.Stores.{content_of}
 use Rattle.flow_boxes.specs.declared.inbox.Inbox.{Inbox}
-use Rattle.flow_boxes.specs.Received.{received_of}
 use Rattle.flow_boxes.specs.Coming.{HasCome}
 
 pub come_none : (a : Inbox) → HasCome [] a a
@@ -32,8 +31,3 @@ come_length ms a b p = ap length p.held ∙ length-append (content_of a.store) m
 -- where none is held none came
 pub none_came : (ms : List Msg) (a b : Inbox) → HasCome ms a b → content_of b.store ≡ [] → length ms ≡ 0
 none_came ms a b p none = let many = come_length ms a b p in let no = ap length none in omega (arith, many, no)
-
--- one message came
-pub come_one : (m : Msg) (a b : Inbox) → b.store.capacity ≡ a.store.capacity → b.arrived.items ≡ a.arrived.items ++ m ∷ [] → received_of b ≡ received_of a
-    → content_of b.store ≡ content_of a.store ++ m ∷ [] → HasCome (m ∷ []) a b
-come_one m a b capacity arrived received held = record { arrived = arrived; held = held; received = received; capacity = capacity }

@@ -5,7 +5,7 @@ use Rattle.rtrb.specs.Fifo.{Allowed}
 use Rattle.flow_boxes.specs.Coming.{HasCome}
 use Rattle.flow_words.specs.Words.{each_said}
 use Rattle.flow_words.proofs.Lists.{popped}
-use Rattle.flow_words.proofs.Coming.{come_none, come_as, come_one, come_more, come_length}
+use Rattle.flow_words.proofs.Coming.{come_none, come_as, come_more, come_length}
 use Rattle.flow_words.proofs.Holding.{same_consumer, no_length}
 use Rattle.flow_words.proofs.Taking.{allowed_snoc}
 use Rattle.flow_words.proofs.receiving.drain_singles.Goals as goal
@@ -58,7 +58,7 @@ loop-preserved g c =
       taken = pop.received.0 ∙ ap (λ l. l ++ x ∷ []) inv.taken ∙ append_assoc r (take i k) (x ∷ []) ∙ ap (λ l. r ++ l) (sym next);
       known = sym (ap (λ n. drop n k) (add-one i) ∙ two.1);
       allowed = subst (Allowed allows r) (sym next) (allowed_snoc allows r (take i k) x inv.allowed (subst (λ l. allows l x) inv.taken pop.allowed));
-      come = come_as _ _ _ _ more (come_more _ _ _ _ _ inv.come (come_one c.message.result c.loop.inbox c.push.new.self put.reserved put.arrived put.received put.held));
+      come = come_as _ _ _ _ more (come_more _ _ _ _ _ inv.come put);
     }
 
 pub returns-clause-taken : goal.returns-clause-taken

@@ -3,7 +3,7 @@ use Rattle.std.specs.Prelude.{IfSome, IfNone}
 use Rattle.std.specs.Int.{w64}
 use Rattle.flow_words.specs.Words.{ints_said, group_after}
 use Rattle.flow_words.proofs.Digits.{kept, word_kept}
-use Rattle.flow_words.proofs.Coming.{come_none, come_as, come_one}
+use Rattle.flow_words.proofs.Coming.{come_none, come_as}
 use Rattle.flow_words.proofs.receiving.hold_word.Goals as goal
 
 pub push-requires : goal.push-requires
@@ -33,7 +33,7 @@ returns-clause-come c =
     let put = c.push.ensures in
     let said = ap (λ x. ints_said g (x ∷ [])) (sym (word_kept w c.ranges.word)) ∙ subst (λ o. IfSome o (λ m. ints_said g (kept w64 w ∷ []) ≡ m ∷ [])) c.in-Some.is c.step-next.ensures.some in
     come_as (c.in-Some.message ∷ []) (ints_said g (w ∷ [])) c.args.inbox.now c.push.new.self (sym said)
-    (come_one c.in-Some.message c.args.inbox.now c.push.new.self put.reserved put.arrived put.received put.held)
+    put
 
 pub returns-clause-group : goal.returns-clause-group
 returns-clause-group c =

@@ -3,7 +3,7 @@ use Rattle.std.proofs.lemmas.List.{length-map, length-take, take_all}
 use Rattle.flow_boxes.specs.Coming.{HasCome}
 use Rattle.flow_words.specs.Words.{each_said}
 use Rattle.flow_words.proofs.Lists.{said_next}
-use Rattle.flow_words.proofs.Coming.{come_none, come_as, come_one, come_more, come_length}
+use Rattle.flow_words.proofs.Coming.{come_none, come_as, come_more, come_length}
 use Rattle.flow_words.proofs.single.hold_each.Goals as goal
 
 pub loop-word-init : goal.loop-word-init
@@ -24,7 +24,7 @@ loop-word-preserved g c =
     let said = g.W.Single.said in
     let put = c.push.ensures in
     let more = ap (λ m. each_said said (take i xs) ++ m ∷ []) (c.message.ensures ∙ ap said c.word-item.is) ∙ sym (said_next said xs i _ c.loop-word-test.true) in
-    come_as _ _ _ _ more (come_more _ _ _ _ _ c.loop-word.invariant (come_one c.message.result c.loop-word.inbox c.push.new.self put.reserved put.arrived put.received put.held))
+    come_as _ _ _ _ more (come_more _ _ _ _ _ c.loop-word.invariant put)
 
 pub returns : goal.returns
 returns g c = subst (λ xs. HasCome (each_said g.W.Single.said xs) c.args.inbox.now c.loop-word.inbox) (take_all c.loop-word.word-index _ c.loop-word-test.false) c.loop-word.invariant

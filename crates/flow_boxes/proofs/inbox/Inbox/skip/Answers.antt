@@ -1,4 +1,4 @@
-use Rattle.std.proofs.Common.{take, ◌++◌, sym, ap, ◌∙◌}
+use Rattle.std.proofs.Common.{refl, take, ◌++◌, sym, ap, ◌∙◌}
 use Rattle.std.proofs.lemmas.List.{take-append-drop, length-take-le}
 use Rattle.flow_messages.specs.Stores.{content_of}
 use Rattle.flow_messages.proofs.Lines.{gone_rest, fifo_rest, count_rest}
@@ -17,10 +17,15 @@ invariant_of-self c =
       counts = count_rest all now i.fifo (take n now) rest i.taken n _ is i.counts (length-take-le n now c.requires) c.saturating_add-self.ensures;
     }
 
-pub returns-clause-received : goal.returns-clause-received
-returns-clause-received c =
+pub returns : goal.returns
+returns c =
     let i = c.args.self.now in
     let now = content_of i.store in
     let n = c.args.count in
     let is = sym (take-append-drop n now) ∙ ap (λ k. take n now ++ k) (sym c.skip.ensures.content) in
-    gone_rest i.arrived.items now i.fifo (take n now) (content_of c.skip.new.self) is
+    record {
+      reserved = c.skip.ensures.capacity;
+      arrived = refl;
+      received = gone_rest i.arrived.items now i.fifo (take n now) (content_of c.skip.new.self) is;
+      rest = c.skip.ensures.content;
+    }
