@@ -111,7 +111,7 @@ followed_more before ms ns no_end = by_end (cases_Bool (ended (signals before)))
 
 -- what a put of one message leaves, where room was certain
 pub followed_one : (before after : List Msg) (m : Msg) (room left : ℕ) (r : Result (Unit {0}) Refused) → 0 < room → OnOk r ((after ≡ before ++ m ∷ []) × (room ≤ left + 1))
-    → IfErr r (λ e. (e.message ≡ m) × (after ≡ before) × (room ≤ left)) → IsErrAnd r (λ e. e.why ≡ Closed) ↔ (ended (signals before) ≡ true) → (ended (signals before) ≡ false
+    → IfErr r (λ e. (e.message ≡ m) × ((after ≡ before) × (room ≤ left))) → IsErrAnd r (λ e. e.why ≡ Closed) ↔ (ended (signals before) ≡ true) → (ended (signals before) ≡ false
     → 0 < room → IsOk r) → (after ≡ followed_unless_ended before (m ∷ [])) × (room ≤ left + 1)
 followed_one before after m room left (Ok x) some ok refused closed succeeds = by_end (cases_Bool (ended (signals before))) where
   by_end : (ended (signals before) ≡ true) ⊎ (ended (signals before) ≡ false) → (after ≡ followed_unless_ended before (m ∷ [])) × (room ≤ left + 1)
@@ -119,7 +119,7 @@ followed_one before after m room left (Ok x) some ok refused closed succeeds = b
   by_end (inr free) = (ok.0 ∙ sym (followed_free before (m ∷ []) free), ok.1)
 followed_one before after m room left (Err e) some ok refused closed succeeds = by_end (cases_Bool (ended (signals before))) where
   by_end : (ended (signals before) ≡ true) ⊎ (ended (signals before) ≡ false) → (after ≡ followed_unless_ended before (m ∷ [])) × (room ≤ left + 1)
-  by_end (inl shut) = (refused.1 ∙ sym (followed_shut before (m ∷ []) shut), omega (arith, refused.2))
+  by_end (inl shut) = (refused.1.0 ∙ sym (followed_shut before (m ∷ []) shut), omega (arith, refused.1.1))
   by_end (inr free) = absurd (let no = succeeds free some in cc)
 
 -- the first of what is left is the next

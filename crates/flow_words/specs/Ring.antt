@@ -1,15 +1,18 @@
 -- The ring after an end of an edge of words.
-use Rattle.std.specs.Prelude.{◌≡◌, ℕ, ◌/◌, true, List, ◌++◌}
+use Rattle.std.specs.Prelude.{◌≡◌, ℕ, ◌+◌, ◌/◌, ◌<◌, ◌≤◌, true, List, [], ◌++◌, length}
 use Rattle.std.specs.declared.alloc.Global.{Global}
 use mathlib.Core.List.{IsPrefix}
 use Rattle.rtrb.specs.Ring as ring
 use Rattle.rtrb.specs.Shared.{Names}
 use Rattle.rtrb.specs.declared.end.End.{End}
+use Rattle.rtrb.specs.declared.producer.Producer.{Producer}
+use Rattle.rtrb.specs.declared.consumer.Consumer.{Consumer}
 use denote.RawPtr.{Ptr}
 use Rattle.flow_messages.specs.declared.message.Kind.{Kind}
 use Rattle.flow_messages.specs.declared.message.Kind.TheVariants.{Unit as UnitKind, Bool as BoolKind, Int as IntKind}
 use Rattle.flow_messages.specs.declared.message.Msg.{Msg}
 use Rattle.flow_messages.specs.Signals.{signals, orderly}
+use Rattle.flow_messages.specs.Stores.{content_of}
 use Rattle.flow_boxes.specs.declared.inbox.Inbox.{Inbox}
 use Rattle.flow_boxes.specs.Coming.{HasCome}
 use Rattle.flow_words.specs.Words.{unit_word, flag_word, each_said, ints_said, ints_sent, group_after}
@@ -113,3 +116,40 @@ pub record TakesOver (ms : List Msg) (a b : ReaderWords) (i j : Inbox) : Type 0 
   pub taken : received b ≡ received a ++ ms
   pub known : IsPrefix (known_items a) (ms ++ known_items b)
   pub orderly : orderly (signals (received a)) ≡ true → orderly (signals (received b)) ≡ true
+
+-- some messages came so
+abbrev pub TakesSome : ReaderWords → ReaderWords → Inbox → Inbox → Type 0
+TakesSome a b i j = (ms : List Msg) × TakesOver ms a b i j
+
+-- all messages that were seen came so
+abbrev pub TakesKnown : ReaderWords → ReaderWords → Inbox → Inbox → Type 0
+TakesKnown a b i j = TakesOver (known_items a) a b i j
+
+-- nothing was put on the ring, which has places for so many messages
+abbrev pub IsEmptyWriter : WriterWords → ℕ → Type 0
+IsEmptyWriter w capacity = (sent w ≡ []) × (known_free w ≡ capacity) × (producer_capacity w ≡ capacity)
+
+-- an inbox has room for so many messages more
+abbrev pub HasRoomFor : Inbox → ℕ → Type 0
+HasRoomFor i n = length (content_of i.store) + n ≤ i.store.capacity
+
+module _ {T P : Type 0} where
+  -- every slot of the ring is known to be free
+  abbrev pub KnowsAllFree : Producer T Global P → Type 0
+  KnowsAllFree p = ring.producer_capacity p ≤ ring.known_free p
+
+  -- the same end of the same ring, of which at most so many slots that were known to be free are so no more
+  abbrev pub UsesAtMost : ℕ → Producer T Global P → Producer T Global P → Type 0
+  UsesAtMost n a b = ring.SameProducer a b × (ring.known_free a ≤ ring.known_free b + n)
+
+  -- nothing was pushed, and fewer slots than so many are known to be free
+  abbrev pub TooFull : ℕ → Producer T Global P → Producer T Global P → Type 0
+  TooFull n a b = (ring.sent b ≡ ring.sent a) × (ring.known_free a ≤ ring.known_free b) × (ring.known_free b < n)
+
+  -- the words that were pushed say these messages more
+  abbrev pub SaysMore : (T → Msg) → List Msg → Producer T Global P → Producer T Global P → Type 0
+  SaysMore word ms a b = each_said word (ring.sent b) ≡ each_said word (ring.sent a) ++ ms
+
+  -- these words were popped: the first of what was seen
+  abbrev pub Pops : List T → Consumer T Global P → Consumer T Global P → Type 0
+  Pops ws a b = ring.SameConsumer a b × (ring.received b ≡ ring.received a ++ ws) × IsPrefix (ring.known_items a) (ws ++ ring.known_items b)

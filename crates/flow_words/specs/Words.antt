@@ -5,6 +5,7 @@ use Rattle.std.specs.List.{All}
 use Rattle.flow_messages.specs.declared.message.Msg.{Msg}
 use Rattle.flow_messages.specs.declared.message.Msg.TheVariants.{Item as ItemMsg, End as EndMsg}
 use Rattle.flow_messages.specs.declared.message.Item.TheVariants.{Unit as UnitItem, Bool as BoolItem, Int as IntItem}
+use Rattle.flow_messages.specs.Contents.{flag_messages}
 use Rattle.flow_words.specs.declared.words.UnitWord.{UnitWord}
 use Rattle.flow_words.specs.declared.words.UnitWord.TheVariants.{Unit as AUnit, End as UnitsEnd}
 use Rattle.flow_words.specs.declared.words.FlagWord.{FlagWord}
@@ -26,6 +27,10 @@ flag_word FlagsEnd = EndMsg
 -- what words say of which each says a message, the oldest first
 abbrev pub each_said : {W : Type 0} → (W → Msg) → List W → List Msg
 each_said word ws = map word ws
+
+-- these words say these truth values
+abbrev pub SayFlags : List FlagWord → List Bool → Type 0
+SayFlags ws flags = each_said flag_word ws ≡ flag_messages flags
 
 -- whether a word of an edge of integers stands for none, but begins a group: it is the least one of 64 bits
 abbrev pub is_escape : ℤ → Bool

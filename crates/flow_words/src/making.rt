@@ -6,7 +6,8 @@ ghost use Rattle.flow_messages.specs.declared.message.Kind.TheVariants.{Vec as V
 ghost use Rattle.flow_words.specs.declared.words.Group.TheVariants.{None as NoGroup};
 ghost use Rattle.rtrb.specs.Ring as port;
 ghost use Rattle.flow_words.specs.Ring as ring;
-ghost use Rattle.flow_words.specs.Edge.{sent, received, certain_room, certain_held, edge_capacity, kind_of, reader_kind, IsEdge, SameWriter, SameReader};
+ghost use Rattle.flow_words.specs.Ring.{known_free, known_items, producer_capacity};
+ghost use Rattle.flow_words.specs.Edge.{sent, received, certain_room, certain_held, edge_capacity, kind_of, reader_kind, IsEdge, IsNewWriter, SameWriter, SameReader, StaysCertain};
 
 use crate::ring::{
     BLOCK, ClosingFlags, ClosingInts, ClosingUnits, ReaderWords, WordReader, WordWriter,
@@ -26,10 +27,10 @@ fn new_ring(
     requires scalar { kind ≢ VecKind }
     requires limit { capacity ≤ greatest_capacity }
     ensures pair { IfOk result (λ r. ring.IsPair r.0 r.1) }
-    ensures writer { IfOk result (λ r. (ring.sent r.0 ≡ []) × (ring.known_free r.0 ≡ capacity) ×
-        (ring.producer_capacity r.0 ≡ capacity) × (ring.half_put r.0 ≡ NoGroup)) }
-    ensures reader { IfOk result (λ r. (ring.received r.1 ≡ []) × (ring.known_items r.1 ≡ []) ×
-        (ring.half_taken r.1 ≡ NoGroup)) }
+    ensures writer { IfOk result (λ r. ring.IsEmptyWriter r.0 capacity) }
+    ensures whole { IfOk result (λ r. ring.half_put r.0 ≡ NoGroup) }
+    ensures reader { IfOk result (λ r. (ring.received r.1 ≡ []) × (ring.known_items r.1 ≡ [])) }
+    ensures half { IfOk result (λ r. ring.half_taken r.1 ≡ NoGroup) }
     ensures kind { IfOk result (λ r. ring.writer_kind r.0 ≡ kind) }
 {
     match kind {
@@ -63,8 +64,7 @@ pub fn word_edge(
     requires some { 0 < capacity }
     requires limit { capacity ≤ greatest_capacity }
     ensures pair { IfOk result (λ r. IsEdge r.0 r.1) }
-    ensures writer { IfOk result (λ r. (sent r.0 ≡ []) × (certain_room r.0 ≡ capacity) ×
-        (edge_capacity r.0 ≡ capacity)) }
+    ensures writer { IfOk result (λ r. IsNewWriter r.0 capacity) }
     ensures reader { IfOk result (λ r. (received r.1 ≡ []) × (certain_held r.1 ≡ [])) }
     ensures kind { IfOk result (λ r. (kind_of r.0 ≡ kind) × (reader_kind r.1 ≡ kind)) }
 {
@@ -90,8 +90,7 @@ pub fn meet(writer: &mut WordWriter, reader: &mut WordReader)
     ensures writer { SameWriter writer.old writer.new × (sent writer.new ≡ sent writer.old) }
     ensures reader { SameReader reader.old reader.new ×
         (received reader.new ≡ received reader.old) }
-    ensures looked { (certain_room writer.old ≤ certain_room writer.new) ×
-        IsPrefix (certain_held reader.old) (certain_held reader.new) }
+    ensures looked { StaysCertain writer.old reader.old writer.new reader.new }
     ensures pair { IsEdge writer.new reader.new }
     ensures fifo { received reader.new ++ certain_held reader.new ≡ sent writer.new }
     ensures room { certain_held reader.new ≡ [] →
@@ -108,15 +107,14 @@ impl WriterWords {
         ensures writer { ring.SameProducer self.old self.new ×
             (ring.sent self.new ≡ ring.sent self.old) }
         ensures whole { ring.half_put self.new ≡ NoGroup }
-        ensures reader { ring.SameConsumer reader.old reader.new ×
-            (ring.received reader.new ≡ ring.received reader.old) }
+        ensures reader { ring.SameConsumer reader.old reader.new }
+        ensures received { ring.received reader.new ≡ ring.received reader.old }
         ensures half { ring.half_taken reader.new ≡ ring.half_taken reader.old }
         ensures free { ring.known_free self.old ≤ ring.known_free self.new }
         ensures known { IsPrefix (ring.known_items reader.old) (ring.known_items reader.new) }
         ensures fifo { ring.received reader.new ++ ring.known_items reader.new ≡
             ring.sent self.new }
-        ensures room { ring.known_items reader.new ≡ [] →
-            ring.producer_capacity self.new ≤ ring.known_free self.new }
+        ensures room { known_items reader.new ≡ [] → producer_capacity self.new ≤ known_free self.new }
     {
         match (self, reader) {
             (WriterWords::Units(writer), ReaderWords::Units(reader)) => see(writer, reader),
@@ -134,8 +132,7 @@ fn see<T, P: Protocol<T>>(writer: &mut Producer<T, Global, P>, reader: &mut Cons
     ensures reader { port.ConsumerLooked reader.old reader.new }
     ensures fifo { port.received reader.new ++ port.known_items reader.new ≡
         port.sent writer.new }
-    ensures room { length (port.known_items reader.new) ≡ 0 →
-        port.producer_capacity writer.new ≤ port.known_free writer.new }
+    ensures room { length (port.known_items reader.new) ≡ 0 → ring.KnowsAllFree writer.new }
 {
     let room = writer.slots_beside(reader);
     let count = reader.slots_beside(writer);

@@ -1,8 +1,9 @@
 // The end that takes messages.
-ghost use Rattle.std.specs.Prelude.{◌≡◌, ◌+◌, ◌<◌, ◌≤◌, false, List, [], length};
+ghost use Rattle.std.specs.Prelude.{◌≡◌, ◌<◌, false, List, [], length};
 ghost use Rattle.std.specs.Io.Iter.{u64_saturate};
 ghost use Rattle.flow_messages.specs.declared.message.Msg.{Msg};
 ghost use Rattle.flow_messages.specs.Stores.{content_of};
+ghost use Rattle.flow_words.specs.Ring.{HasRoomFor};
 ghost use Rattle.flow_words.specs.Edge.{received, certain_held, TakesOver};
 
 use crate::ring::WordReader;
@@ -29,8 +30,7 @@ impl WordReader {
 
     /// Takes over all messages that are certain into an inbox, after all that it holds. They may be no more than it has room for.
     pub fn take_certain(&mut self, inbox: &mut Inbox)
-        requires room { length (content_of inbox.old.store) + length (certain_held self.old) ≤
-            inbox.old.store.capacity }
+        requires room { HasRoomFor inbox.old (length (certain_held self.old)) }
         ensures came { TakesOver (certain_held self.old) self.old self.new inbox.old inbox.new }
         ensures none { certain_held self.new ≡ [] }
     {

@@ -1,14 +1,12 @@
 // The ring of a reader, whatever it carries.
-ghost use Rattle.std.specs.Prelude.{◌≡◌, ◌+◌, ◌<◌, ◌≤◌, false, List, [], ◌∷◌, ◌++◌, length, take};
-ghost use mathlib.Core.List.{IsPrefix};
+ghost use Rattle.std.specs.Prelude.{◌≡◌, ◌<◌, ◌≤◌, false, [], ◌∷◌, ◌++◌, length, take};
 ghost use Rattle.rtrb.specs.Ring as port;
 ghost use Rattle.rtrb.specs.Fifo.{Allowed};
-ghost use Rattle.flow_messages.specs.declared.message.Msg.{Msg as Message};
 ghost use Rattle.flow_messages.specs.Stores.{content_of};
 ghost use Rattle.flow_boxes.specs.Coming.{HasCome};
 ghost use Rattle.flow_words.specs.declared.ring.ReaderWords.TheVariants.{Ints as IntsFrom};
 ghost use Rattle.flow_words.specs.Words.{each_said, ints_said, group_after};
-ghost use Rattle.flow_words.specs.Ring.{known_items, half_taken, TakesOver};
+ghost use Rattle.flow_words.specs.Ring.{known_items, half_taken, HasRoomFor, Pops, TakesKnown, TakesSome};
 
 use crate::ring::{ClosingInts, ReaderWords};
 use crate::single::{PLACES, Single, hold};
@@ -24,10 +22,7 @@ fn pop_some<T: Copy, P: Protocol<T>>(
     words: &mut [T],
     most: usize,
 ) -> usize
-    ensures ring { port.SameConsumer ring.old ring.new }
-    ensures taken { port.received ring.new ≡ port.received ring.old ++ take result words.new }
-    ensures known { IsPrefix (port.known_items ring.old)
-        (take result words.new ++ port.known_items ring.new) }
+    ensures taken { Pops (take result words.new) ring.old ring.new }
     ensures allowed { Allowed P.allows (port.received ring.old) (take result words.new) }
     ensures places { length words.new ≡ length words.old }
     ensures count { (result ≤ most) × (result ≤ length words.new) }
@@ -48,10 +43,7 @@ fn take_singles<W: Single, P: Protocol<W>>(
 ) -> (usize, bool)
     requires few { (0 < length words.old) × (length words.old ≤ 256) }
     requires room { 0 < inbox.old.store.capacity }
-    ensures ring { port.SameConsumer ring.old ring.new }
-    ensures taken { port.received ring.new ≡ port.received ring.old ++ take result.0 words.new }
-    ensures known { IsPrefix (port.known_items ring.old)
-        (take result.0 words.new ++ port.known_items ring.new) }
+    ensures taken { Pops (take result.0 words.new) ring.old ring.new }
     ensures allowed { Allowed P.allows (port.received ring.old) (take result.0 words.new) }
     ensures come { HasCome (each_said W.said (take result.0 words.new)) inbox.old inbox.new }
     ensures found { content_of inbox.new.store ≡ [] → length (port.known_items ring.new) ≡ 0 }
@@ -69,8 +61,7 @@ fn take_singles<W: Single, P: Protocol<W>>(
 // Holds what one word more says. How much of a group has come after it.
 #[inline(always)]
 fn hold_word(word: i64, group: Group, inbox: &mut Inbox) -> Group
-    requires { length (content_of inbox.old.store) +
-        length (ints_said group (word ∷ [])) ≤ inbox.old.store.capacity }
+    requires { HasRoomFor inbox.old (length (ints_said group (word ∷ []))) }
     ensures come { HasCome (ints_said group (word ∷ [])) inbox.old inbox.new }
     ensures group { result ≡ group_after group (word ∷ []) }
 {
@@ -84,8 +75,7 @@ fn hold_word(word: i64, group: Group, inbox: &mut Inbox) -> Group
 
 // Holds what these words say, one after another. How much of a group has come after them.
 fn hold_each(words: &[i64], group: Group, inbox: &mut Inbox) -> Group
-    requires { length (content_of inbox.old.store) + length words.now ≤
-        inbox.old.store.capacity }
+    requires { HasRoomFor inbox.old (length words.now) }
     ensures come { HasCome (ints_said group words.now) inbox.old inbox.new }
     ensures group { result ≡ group_after group words.now }
 {
@@ -99,8 +89,7 @@ fn hold_each(words: &[i64], group: Group, inbox: &mut Inbox) -> Group
 // Holds what these words say. How much of a group has come after them.
 #[inline(always)]
 fn hold_words(words: &[i64], group: Group, inbox: &mut Inbox) -> Group
-    requires { length (content_of inbox.old.store) + length words.now ≤
-        inbox.old.store.capacity }
+    requires { HasRoomFor inbox.old (length words.now) }
     ensures come { HasCome (ints_said group words.now) inbox.old inbox.new }
     ensures group { result ≡ group_after group words.now }
 {
@@ -123,8 +112,7 @@ fn take_whole(
     requires room { 0 < inbox.old.store.capacity }
     requires none { content_of inbox.old.store ≡ [] }
     ensures half { result ≡ half_taken (IntsFrom ring.new) }
-    ensures came { (ms : List Message) × TakesOver ms (IntsFrom ring.old) (IntsFrom ring.new)
-        inbox.old inbox.new }
+    ensures came { TakesSome (IntsFrom ring.old) (IntsFrom ring.new) inbox.old inbox.new }
     ensures found { content_of inbox.new.store ≡ [] → known_items (IntsFrom ring.new) ≡ [] }
 {
     let mut now = group;
@@ -153,8 +141,7 @@ fn take_ints(
     requires some { 0 < length words.old }
     requires room { 0 < inbox.old.store.capacity }
     ensures half { result.0 ≡ half_taken (IntsFrom ring.new) }
-    ensures came { (ms : List Message) × TakesOver ms (IntsFrom ring.old) (IntsFrom ring.new)
-        inbox.old inbox.new }
+    ensures came { TakesSome (IntsFrom ring.old) (IntsFrom ring.new) inbox.old inbox.new }
     ensures found { content_of inbox.new.store ≡ [] → known_items (IntsFrom ring.new) ≡ [] }
     ensures all { result.1 ≡ false → known_items (IntsFrom ring.new) ≡ [] }
 {
@@ -172,8 +159,7 @@ fn take_ints(
 
 // Takes all words that were seen, each of which says a message, and holds what they say.
 fn drain_singles<W: Single, P: Protocol<W>>(ring: &mut Consumer<W, Global, P>, inbox: &mut Inbox)
-    requires { length (content_of inbox.old.store) + length (port.known_items ring.old) ≤
-        inbox.old.store.capacity }
+    requires { HasRoomFor inbox.old (length (port.known_items ring.old)) }
     ensures ring { port.SameConsumer ring.old ring.new }
     ensures taken { port.received ring.new ≡
         port.received ring.old ++ port.known_items ring.old }
@@ -193,11 +179,9 @@ fn drain_ints(
     inbox: &mut Inbox,
 ) -> Group
     requires half { group ≡ half_taken (IntsFrom ring.old) }
-    requires room { length (content_of inbox.old.store) +
-        length (known_items (IntsFrom ring.old)) ≤ inbox.old.store.capacity }
+    requires room { HasRoomFor inbox.old (length (known_items (IntsFrom ring.old))) }
     ensures half { result ≡ half_taken (IntsFrom ring.new) }
-    ensures came { TakesOver (known_items (IntsFrom ring.old)) (IntsFrom ring.old)
-        (IntsFrom ring.new) inbox.old inbox.new }
+    ensures came { TakesKnown (IntsFrom ring.old) (IntsFrom ring.new) inbox.old inbox.new }
     ensures none { known_items (IntsFrom ring.new) ≡ [] }
 {
     let mut now = group;
@@ -221,7 +205,7 @@ impl ReaderWords {
         requires some { 0 < length block.old }
         requires room { 0 < inbox.old.store.capacity }
         ensures half { result.0 ≡ half_taken self.new }
-        ensures came { (ms : List Message) × TakesOver ms self.old self.new inbox.old inbox.new }
+        ensures came { TakesSome self.old self.new inbox.old inbox.new }
         ensures found { content_of inbox.new.store ≡ [] → known_items self.new ≡ [] }
         ensures all { result.1 ≡ false → known_items self.new ≡ [] }
     {
@@ -250,10 +234,9 @@ impl ReaderWords {
     // Takes all words that were seen, and holds what they say. How much of a group has come.
     pub(crate) fn drain(&mut self, group: Group, inbox: &mut Inbox) -> Group
         requires half { group ≡ half_taken self.old }
-        requires room { length (content_of inbox.old.store) + length (known_items self.old) ≤
-            inbox.old.store.capacity }
+        requires room { HasRoomFor inbox.old (length (known_items self.old)) }
         ensures half { result ≡ half_taken self.new }
-        ensures came { TakesOver (known_items self.old) self.old self.new inbox.old inbox.new }
+        ensures came { TakesKnown self.old self.new inbox.old inbox.new }
         ensures none { known_items self.new ≡ [] }
     {
         match self {

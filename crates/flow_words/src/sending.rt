@@ -7,8 +7,9 @@ ghost use Rattle.flow_messages.specs.Contents.{unit_messages, flag_messages, int
 ghost use Rattle.flow_messages.specs.Kinds.{fits};
 ghost use Rattle.flow_messages.specs.Signals.{signals, signal_of, ended};
 ghost use Rattle.flow_words.specs.declared.words.Group.TheVariants.{None as NoGroup};
-ghost use Rattle.flow_words.specs.Words.{unit_word, flag_word, each_said, ints_sent, group_after, ArePlain};
-ghost use Rattle.flow_words.specs.Ring.{sent, known_free, half_put, writer_kind, SameProducer};
+ghost use Rattle.flow_words.specs.declared.ring.WriterWords.TheVariants.{Units as UnitsTo, Flags as FlagsTo, Ints as IntsTo};
+ghost use Rattle.flow_words.specs.Words.{group_after, ArePlain};
+ghost use Rattle.flow_words.specs.Ring.{sent, known_free, half_put, writer_kind, SameProducer, SaysMore, TooFull, UsesAtMost};
 
 use crate::ring::{ClosingFlags, ClosingInts, ClosingUnits, WriterWords};
 use crate::single::{PLACES, Single, lay_out};
@@ -24,13 +25,9 @@ const UNITS: [UnitWord; PLACES] = [UnitWord::Unit; PLACES];
 #[inline(always)]
 fn push_all<T: Copy, P: Protocol<T>>(ring: &mut Producer<T, Global, P>, words: &[T]) -> bool
     requires { EachAllowed P.allows (port.sent ring.old) words.now }
-    ensures ring { port.SameProducer ring.old ring.new }
-    ensures done { IsTrue result →
-        (port.sent ring.new ≡ port.sent ring.old ++ words.now) ×
-        (port.known_free ring.old ≤ port.known_free ring.new + length words.now) }
-    ensures full { result ≡ false → (port.sent ring.new ≡ port.sent ring.old) ×
-        (port.known_free ring.old ≤ port.known_free ring.new) ×
-        (port.known_free ring.new < length words.now) }
+    ensures room { UsesAtMost (length words.now) ring.old ring.new }
+    ensures done { IsTrue result → port.sent ring.new ≡ port.sent ring.old ++ words.now }
+    ensures full { result ≡ false → TooFull (length words.now) ring.old ring.new }
     ensures succeeds { length words.now ≤ port.known_free ring.old → IsTrue result }
 {
     ring.push_entire_slice(words).is_ok()
@@ -41,13 +38,11 @@ fn push_all<T: Copy, P: Protocol<T>>(ring: &mut Producer<T, Global, P>, words: &
 fn push_single<W: Single, P: Protocol<W>>(ring: &mut Producer<W, Global, P>, message: &Msg) -> bool
     requires fits { fits W.kind (signal_of message.now) ≡ true }
     requires allowed { (w : W) → P.allows (port.sent ring.old) w }
-    ensures ring { port.SameProducer ring.old ring.new }
-    ensures done { IsTrue result → (each_said W.said (port.sent ring.new) ≡
-        each_said W.said (port.sent ring.old) ++ message.now ∷ []) ×
-        (port.known_free ring.old ≤ port.known_free ring.new + 1) }
-    ensures full { result ≡ false → (port.sent ring.new ≡ port.sent ring.old) ×
-        (port.known_free ring.old ≤ port.known_free ring.new) ×
-        (port.known_free ring.new ≡ 0) }
+    ensures room { UsesAtMost 1 ring.old ring.new }
+    ensures done { IsTrue result → SaysMore W.said (message.now ∷ []) ring.old ring.new }
+    ensures none { result ≡ false → port.sent ring.new ≡ port.sent ring.old }
+    ensures kept { result ≡ false → port.known_free ring.old ≤ port.known_free ring.new }
+    ensures full { result ≡ false → port.known_free ring.new ≡ 0 }
     ensures succeeds { 0 < port.known_free ring.old → IsTrue result }
 {
     match ring.push(W::of(message)) {
@@ -60,16 +55,12 @@ fn push_single<W: Single, P: Protocol<W>>(ring: &mut Producer<W, Global, P>, mes
 #[inline(always)]
 fn push_spelled(ring: &mut Producer<i64, Global, ClosingInts>, message: &Msg) -> bool
     requires fits { fits IntKind (signal_of message.now) ≡ true }
-    requires open { ended (signals (ints_sent (port.sent ring.old))) ≡ false }
+    requires open { ended (signals (sent (IntsTo ring.old))) ≡ false }
     requires whole { group_after NoGroup (port.sent ring.old) ≡ NoGroup }
-    ensures ring { port.SameProducer ring.old ring.new }
+    ensures room { UsesAtMost 4 ring.old ring.new }
     ensures whole { group_after NoGroup (port.sent ring.new) ≡ NoGroup }
-    ensures done { IsTrue result → (ints_sent (port.sent ring.new) ≡
-        ints_sent (port.sent ring.old) ++ message.now ∷ []) ×
-        (port.known_free ring.old ≤ port.known_free ring.new + 4) }
-    ensures full { result ≡ false → (port.sent ring.new ≡ port.sent ring.old) ×
-        (port.known_free ring.old ≤ port.known_free ring.new) ×
-        (port.known_free ring.new < 4) }
+    ensures done { IsTrue result → sent (IntsTo ring.new) ≡ sent (IntsTo ring.old) ++ message.now ∷ [] }
+    ensures full { result ≡ false → TooFull 4 ring.old ring.new }
     ensures succeeds { 4 ≤ port.known_free ring.old → IsTrue result }
 {
     let (words, count) = spell(message);
@@ -80,12 +71,10 @@ fn push_spelled(ring: &mut Producer<i64, Global, ClosingInts>, message: &Msg) ->
 #[inline(always)]
 fn push_few_units(ring: &mut Producer<UnitWord, Global, ClosingUnits>, count: usize)
     requires few { count ≤ 256 }
-    requires open { ended (signals (each_said unit_word (port.sent ring.old))) ≡ false }
+    requires open { ended (signals (sent (UnitsTo ring.old))) ≡ false }
     requires certain { count ≤ port.known_free ring.old }
-    ensures ring { port.SameProducer ring.old ring.new }
-    ensures put { each_said unit_word (port.sent ring.new) ≡
-        each_said unit_word (port.sent ring.old) ++ unit_messages count }
-    ensures room { port.known_free ring.old ≤ port.known_free ring.new + count }
+    ensures put { sent (UnitsTo ring.new) ≡ sent (UnitsTo ring.old) ++ unit_messages count }
+    ensures room { UsesAtMost count ring.old ring.new }
 {
     if !push_all(ring, &UNITS[..count]) {
         unreachable!()
@@ -94,12 +83,10 @@ fn push_few_units(ring: &mut Producer<UnitWord, Global, ClosingUnits>, count: us
 
 // Puts so many units, where there is room.
 fn push_units(ring: &mut Producer<UnitWord, Global, ClosingUnits>, count: usize)
-    requires open { ended (signals (each_said unit_word (port.sent ring.old))) ≡ false }
+    requires open { ended (signals (sent (UnitsTo ring.old))) ≡ false }
     requires certain { count ≤ port.known_free ring.old }
-    ensures ring { port.SameProducer ring.old ring.new }
-    ensures put { each_said unit_word (port.sent ring.new) ≡
-        each_said unit_word (port.sent ring.old) ++ unit_messages count }
-    ensures room { port.known_free ring.old ≤ port.known_free ring.new + count }
+    ensures put { sent (UnitsTo ring.new) ≡ sent (UnitsTo ring.old) ++ unit_messages count }
+    ensures room { UsesAtMost count ring.old ring.new }
 {
     let mut put = 0;
     while put < count {
@@ -113,12 +100,10 @@ fn push_units(ring: &mut Producer<UnitWord, Global, ClosingUnits>, count: usize)
 #[inline(always)]
 fn push_few_flags(ring: &mut Producer<FlagWord, Global, ClosingFlags>, flags: &[bool])
     requires few { length flags.now ≤ 256 }
-    requires open { ended (signals (each_said flag_word (port.sent ring.old))) ≡ false }
+    requires open { ended (signals (sent (FlagsTo ring.old))) ≡ false }
     requires certain { length flags.now ≤ port.known_free ring.old }
-    ensures ring { port.SameProducer ring.old ring.new }
-    ensures put { each_said flag_word (port.sent ring.new) ≡
-        each_said flag_word (port.sent ring.old) ++ flag_messages flags.now }
-    ensures room { port.known_free ring.old ≤ port.known_free ring.new + length flags.now }
+    ensures put { sent (FlagsTo ring.new) ≡ sent (FlagsTo ring.old) ++ flag_messages flags.now }
+    ensures room { UsesAtMost (length flags.now) ring.old ring.new }
 {
     let mut block = [FlagWord::End; PLACES];
     lay_out(flags, &mut block);
@@ -129,12 +114,10 @@ fn push_few_flags(ring: &mut Producer<FlagWord, Global, ClosingFlags>, flags: &[
 
 // Puts these truth values, where there is room.
 fn push_flags(ring: &mut Producer<FlagWord, Global, ClosingFlags>, flags: &[bool])
-    requires open { ended (signals (each_said flag_word (port.sent ring.old))) ≡ false }
+    requires open { ended (signals (sent (FlagsTo ring.old))) ≡ false }
     requires certain { length flags.now ≤ port.known_free ring.old }
-    ensures ring { port.SameProducer ring.old ring.new }
-    ensures put { each_said flag_word (port.sent ring.new) ≡
-        each_said flag_word (port.sent ring.old) ++ flag_messages flags.now }
-    ensures room { port.known_free ring.old ≤ port.known_free ring.new + length flags.now }
+    ensures put { sent (FlagsTo ring.new) ≡ sent (FlagsTo ring.old) ++ flag_messages flags.now }
+    ensures room { UsesAtMost (length flags.now) ring.old ring.new }
 {
     let mut put = 0;
     while put < flags.len() {
@@ -148,14 +131,12 @@ fn push_flags(ring: &mut Producer<FlagWord, Global, ClosingFlags>, flags: &[bool
 #[inline(always)]
 fn push_plain(ring: &mut Producer<i64, Global, ClosingInts>, ints: &[i64])
     requires plain { ArePlain ints.now }
-    requires open { ended (signals (ints_sent (port.sent ring.old))) ≡ false }
+    requires open { ended (signals (sent (IntsTo ring.old))) ≡ false }
     requires whole { group_after NoGroup (port.sent ring.old) ≡ NoGroup }
     requires certain { length ints.now ≤ port.known_free ring.old }
-    ensures ring { port.SameProducer ring.old ring.new }
     ensures whole { group_after NoGroup (port.sent ring.new) ≡ NoGroup }
-    ensures put { ints_sent (port.sent ring.new) ≡
-        ints_sent (port.sent ring.old) ++ int_messages ints.now }
-    ensures room { port.known_free ring.old ≤ port.known_free ring.new + length ints.now }
+    ensures put { sent (IntsTo ring.new) ≡ sent (IntsTo ring.old) ++ int_messages ints.now }
+    ensures room { UsesAtMost (length ints.now) ring.old ring.new }
 {
     if !push_all(ring, ints) {
         unreachable!()
@@ -189,10 +170,11 @@ impl WriterWords {
         requires whole { half_put self.old ≡ NoGroup }
         ensures ring { SameProducer self.old self.new }
         ensures whole { half_put self.new ≡ NoGroup }
-        ensures done { IsTrue result → (sent self.new ≡ sent self.old ++ message.now ∷ []) ×
-            (known_free self.old ≤ known_free self.new + 1) }
-        ensures full { result ≡ false → (sent self.new ≡ sent self.old) ×
-            (known_free self.old ≤ known_free self.new) × (known_free self.new ≡ 0) }
+        ensures done { IsTrue result → sent self.new ≡ sent self.old ++ message.now ∷ [] }
+        ensures room { IsTrue result → known_free self.old ≤ known_free self.new + 1 }
+        ensures none { result ≡ false → sent self.new ≡ sent self.old }
+        ensures kept { result ≡ false → known_free self.old ≤ known_free self.new }
+        ensures full { result ≡ false → known_free self.new ≡ 0 }
         ensures succeeds { 0 < known_free self.old → IsTrue result }
     {
         match self {

@@ -1,11 +1,11 @@
 // Words that say a message each.
-ghost use Rattle.std.specs.Prelude.{◌≡◌, ◌≢◌, ◌+◌, ◌≤◌, false, length, take, IsTrue};
+ghost use Rattle.std.specs.Prelude.{◌≡◌, ◌≢◌, ◌≤◌, false, length, take, IsTrue};
 ghost use Rattle.flow_messages.specs.declared.message.Msg.TheVariants.{Item as ItemMsg, End as EndMsg};
 ghost use Rattle.flow_messages.specs.declared.message.Item.TheVariants.{Unit as UnitItem, Bool as BoolItem};
-ghost use Rattle.flow_messages.specs.Stores.{content_of};
-ghost use Rattle.flow_messages.specs.Contents.{unit_messages, flag_messages};
+ghost use Rattle.flow_messages.specs.Contents.{unit_messages};
 ghost use Rattle.flow_boxes.specs.Coming.{HasCome};
-ghost use Rattle.flow_words.specs.Words.{unit_word, flag_word, each_said};
+ghost use Rattle.flow_words.specs.Words.{unit_word, flag_word, each_said, SayFlags};
+ghost use Rattle.flow_words.specs.Ring.{HasRoomFor};
 
 use crate::words::{FlagWord, UnitWord};
 use flow_boxes::Inbox;
@@ -16,14 +16,14 @@ pub(crate) const PLACES: usize = 256;
 
 // A word that says a message.
 pub(crate) trait Single: Copy {
-    ghost use Rattle.std.specs.Prelude.{◌≡◌, ◌+◌, ◌≤◌, true, false, length, IsTrue};
+    ghost use Rattle.std.specs.Prelude.{◌≡◌, ◌≤◌, true, false, length, IsTrue};
     ghost use Rattle.flow_messages.specs.declared.message.Kind.{Kind};
     ghost use Rattle.flow_messages.specs.declared.message.Msg.{Msg};
     ghost use Rattle.flow_messages.specs.Kinds.{fits};
     ghost use Rattle.flow_messages.specs.Signals.{signal_of};
-    ghost use Rattle.flow_messages.specs.Stores.{content_of};
     ghost use Rattle.flow_boxes.specs.Coming.{HasCome};
     ghost use Rattle.flow_words.specs.Words.{each_said};
+    ghost use Rattle.flow_words.specs.Ring.{HasRoomFor};
 
     // The message that it says.
     ghost said: { Self → Msg };
@@ -42,8 +42,7 @@ pub(crate) trait Single: Copy {
     // Holds these messages at once, where all are items. Whether they are.
     fn hold_items(words: &[Self], inbox: &mut Inbox) -> bool
         requires few { length words.now ≤ 256 }
-        requires room { length (content_of inbox.old.store) + length words.now ≤
-            inbox.old.store.capacity }
+        requires room { HasRoomFor inbox.old (length words.now) }
         ensures held { IsTrue result → HasCome (each_said said words.now) inbox.old inbox.new }
         ensures kept { result ≡ false → inbox.new ≡ inbox.old };
 }
@@ -181,8 +180,7 @@ fn are_units(words: &[UnitWord]) -> bool
 fn read_flags(words: &[FlagWord], flags: &mut [bool]) -> bool
     requires places { length words.now ≤ length flags.old }
     ensures places { length flags.new ≡ length flags.old }
-    ensures read { IsTrue result → each_said flag_word words.now ≡
-        flag_messages (take (length words.now) flags.new) }
+    ensures read { IsTrue result → SayFlags words.now (take (length words.now) flags.new) }
 {
     // The loop goes on after an end, so that it can look at several at once.
     let mut ended = false;
@@ -199,8 +197,7 @@ fn read_flags(words: &[FlagWord], flags: &mut [bool]) -> bool
 pub(crate) fn lay_out(flags: &[bool], words: &mut [FlagWord])
     requires places { length flags.now ≤ length words.old }
     ensures places { length words.new ≡ length words.old }
-    ensures laid { each_said flag_word (take (length flags.now) words.new) ≡
-        flag_messages flags.now }
+    ensures laid { SayFlags (take (length flags.now) words.new) flags.now }
 {
     for place in 0..flags.len() {
         words[place] = FlagWord::saying(flags[place]);
@@ -211,8 +208,7 @@ pub(crate) fn lay_out(flags: &[bool], words: &mut [FlagWord])
 #[inline(always)]
 pub(crate) fn hold<W: Single>(words: &[W], inbox: &mut Inbox)
     requires few { length words.now ≤ 256 }
-    requires room { length (content_of inbox.old.store) + length words.now ≤
-        inbox.old.store.capacity }
+    requires room { HasRoomFor inbox.old (length words.now) }
     ensures { HasCome (each_said W.said words.now) inbox.old inbox.new }
 {
     if W::hold_items(words, inbox) {
@@ -223,8 +219,7 @@ pub(crate) fn hold<W: Single>(words: &[W], inbox: &mut Inbox)
 
 // Holds these messages one after another.
 fn hold_each<W: Single>(words: &[W], inbox: &mut Inbox)
-    requires { length (content_of inbox.old.store) + length words.now ≤
-        inbox.old.store.capacity }
+    requires { HasRoomFor inbox.old (length words.now) }
     ensures { HasCome (each_said W.said words.now) inbox.old inbox.new }
 {
     for word in words {

@@ -1,12 +1,12 @@
 // The end that puts messages.
-ghost use Rattle.std.specs.Prelude.{◌≡◌, ◌+◌, ◌<◌, ◌≤◌, ◌↔◌, true, false, [], ◌∷◌, ◌++◌, Some, length, IsTrue, IsOk, OnOk, IfErr, IsErrAnd};
+ghost use Rattle.std.specs.Prelude.{◌≡◌, ◌+◌, ◌<◌, ◌≤◌, ◌↔◌, true, Some, length, IsTrue, IsOk, OnOk, IfErr, IsErrAnd};
 ghost use Rattle.std.specs.Io.Iter.{u64_saturate};
 ghost use Rattle.flow_messages.specs.declared.ends.Why.TheVariants.{Full, Closed};
 ghost use Rattle.flow_messages.specs.declared.message.Kind.TheVariants.{Unit as UnitKind, Bool as BoolKind, Int as IntKind};
 ghost use Rattle.flow_messages.specs.Contents.{unit_messages, flag_messages, int_messages};
 ghost use Rattle.flow_messages.specs.Kinds.{FitsEdge, TakesKind};
 ghost use Rattle.flow_messages.specs.Signals.{signals, signal_of, ended};
-ghost use Rattle.flow_words.specs.Edge.{sent, certain_room, kind_of, SameWriter, followed_unless_ended};
+ghost use Rattle.flow_words.specs.Edge.{sent, certain_room, kind_of, IsNotClosed, PutsOne, SameWriter, WriterLooked, followed_unless_ended};
 
 use crate::ring::{WordWriter, WriterWords};
 use crate::words::are_plain;
@@ -22,15 +22,12 @@ impl WordWriter {
     pub fn put(&mut self, message: Msg) -> Result<(), Refused>
         requires fits { FitsEdge (Some (kind_of self.old)) (signal_of message) }
         ensures same { SameWriter self.old self.new }
-        ensures ok { OnOk result ((sent self.new ≡ sent self.old ++ message ∷ []) ×
-            (certain_room self.old ≤ certain_room self.new + 1)) }
-        ensures refused { IfErr result (λ e. (e.message ≡ message) ×
-            (sent self.new ≡ sent self.old) × (certain_room self.old ≤ certain_room self.new)) }
+        ensures ok { OnOk result (PutsOne self.old message self.new) }
+        ensures refused { IfErr result (λ e. (e.message ≡ message) × WriterLooked self.old self.new) }
         ensures closed { IsErrAnd result (λ e. e.why ≡ Closed) ↔
             (ended (signals (sent self.old)) ≡ true) }
         ensures full { IsErrAnd result (λ e. e.why ≡ Full) → certain_room self.new ≡ 0 }
-        ensures succeeds { ended (signals (sent self.old)) ≡ false → 0 < certain_room self.old →
-            IsOk result }
+        ensures succeeds { IsNotClosed self.old → 0 < certain_room self.old → IsOk result }
     {
         if self.closed {
             return Err(Refused {
@@ -149,8 +146,7 @@ impl WordWriter {
     #[inline(always)]
     pub fn room(&mut self) -> bool
         ensures same { SameWriter self.old self.new }
-        ensures looked { (sent self.new ≡ sent self.old) ×
-            (certain_room self.old ≤ certain_room self.new) }
+        ensures looked { WriterLooked self.old self.new }
         ensures value { IsTrue result ↔ (0 < certain_room self.new) }
     {
         self.ring.has_room(1)
@@ -160,8 +156,7 @@ impl WordWriter {
     #[inline(always)]
     pub fn space(&mut self) -> usize
         ensures same { SameWriter self.old self.new }
-        ensures looked { (sent self.new ≡ sent self.old) ×
-            (certain_room self.old ≤ certain_room self.new) }
+        ensures looked { WriterLooked self.old self.new }
         ensures value { result ≡ certain_room self.new }
     {
         self.ring.room()
@@ -171,8 +166,7 @@ impl WordWriter {
     #[inline(always)]
     pub fn room_for(&mut self, count: usize) -> bool
         ensures same { SameWriter self.old self.new }
-        ensures looked { (sent self.new ≡ sent self.old) ×
-            (certain_room self.old ≤ certain_room self.new) }
+        ensures looked { WriterLooked self.old self.new }
         ensures value { IsTrue result ↔ (count ≤ certain_room self.new) }
     {
         self.ring.has_room(count)

@@ -14,13 +14,13 @@ hold_words-now-requires c = omega (arith, c.pop_some-count.ensures.count, length
 
 pub returns-then-count-asked-clause-half : goal.returns-then-count-asked-clause-half
 returns-then-count-asked-clause-half c = c.hold_words-now.ensures.group
-    ∙ half_grown (port.received c.args.ring.now) (port.received c.pop_some-count.new.ring) _ c.args.group c.pop_some-count.ensures.taken c.requires.half
+    ∙ half_grown (port.received c.args.ring.now) (port.received c.pop_some-count.new.ring) _ c.args.group c.pop_some-count.ensures.taken.1 c.requires.half
 
 pub returns-then-count-asked-clause-came : goal.returns-then-count-asked-clause-came
 returns-then-count-asked-clause-came c =
     let pop = c.pop_some-count.ensures in (
       _,
-      ints_took c.args.ring.now c.pop_some-count.new.ring _ c.args.group c.args.inbox.now c.hold_words-now.new.inbox c.requires.half pop.ring pop.taken pop.known pop.allowed
+      ints_took c.args.ring.now c.pop_some-count.new.ring _ c.args.group c.args.inbox.now c.hold_words-now.new.inbox c.requires.half pop.taken.0 pop.taken.1 pop.taken.2 pop.allowed
           c.hold_words-now.ensures.come,
     )
 
@@ -34,13 +34,13 @@ returns-then-count-asked-clause-all c = λ _. none_known (group_after NoGroup (p
 
 pub returns-then-len-gt0-clause-half : goal.returns-then-len-gt0-clause-half
 returns-then-len-gt0-clause-half c = c.hold_words-now.ensures.group
-    ∙ half_grown (port.received c.args.ring.now) (port.received c.pop_some-count.new.ring) _ c.args.group c.pop_some-count.ensures.taken c.requires.half
+    ∙ half_grown (port.received c.args.ring.now) (port.received c.pop_some-count.new.ring) _ c.args.group c.pop_some-count.ensures.taken.1 c.requires.half
 
 pub returns-then-len-gt0-clause-came : goal.returns-then-len-gt0-clause-came
 returns-then-len-gt0-clause-came c =
     let pop = c.pop_some-count.ensures in (
       _,
-      ints_took c.args.ring.now c.pop_some-count.new.ring _ c.args.group c.args.inbox.now c.hold_words-now.new.inbox c.requires.half pop.ring pop.taken pop.known pop.allowed
+      ints_took c.args.ring.now c.pop_some-count.new.ring _ c.args.group c.args.inbox.now c.hold_words-now.new.inbox c.requires.half pop.taken.0 pop.taken.1 pop.taken.2 pop.allowed
           c.hold_words-now.ensures.come,
     )
 
@@ -49,7 +49,7 @@ returns-then-len-gt0-clause-found c = λ none. absurd (omega (arith, ap length n
 
 pub take_whole-requires-clause-half : goal.take_whole-requires-clause-half
 take_whole-requires-clause-half c = c.hold_words-now.ensures.group
-    ∙ half_grown (port.received c.args.ring.now) (port.received c.pop_some-count.new.ring) _ c.args.group c.pop_some-count.ensures.taken c.requires.half
+    ∙ half_grown (port.received c.args.ring.now) (port.received c.pop_some-count.new.ring) _ c.args.group c.pop_some-count.ensures.taken.1 c.requires.half
 
 pub take_whole-requires-clause-room : goal.take_whole-requires-clause-room
 take_whole-requires-clause-room c = omega (arith, c.requires.room, c.hold_words-now.ensures.come.capacity)
@@ -60,7 +60,7 @@ take_whole-requires-clause-none c = no_length (content_of c.hold_words-now.new.i
 pub returns-clause-came : goal.returns-clause-came
 returns-clause-came c =
     let pop = c.pop_some-count.ensures in
-    let first = ints_took c.args.ring.now c.pop_some-count.new.ring _ c.args.group c.args.inbox.now c.hold_words-now.new.inbox c.requires.half pop.ring pop.taken pop.known
+    let first = ints_took c.args.ring.now c.pop_some-count.new.ring _ c.args.group c.args.inbox.now c.hold_words-now.new.inbox c.requires.half pop.taken.0 pop.taken.1 pop.taken.2
     pop.allowed c.hold_words-now.ensures.come in (
       _,
       takes_more _ _ (IntsFrom c.args.ring.now) (IntsFrom c.pop_some-count.new.ring)

@@ -16,4 +16,4 @@ push_all-requires c = singles_follow flag_word (port.sent c.args.ring.now) _ c.r
 pub returns-clause-put : goal.returns-clause-put
 returns-clause-put c =
     let done = c.if-not-push_all.ensures.done (search rules) in
-    said_grown flag_word (port.sent c.args.ring.now) _ _ done.0 ∙ ap (λ l. each_said flag_word (port.sent c.args.ring.now) ++ l) c.lay_out.ensures.laid
+    said_grown flag_word (port.sent c.args.ring.now) _ _ done ∙ ap (λ l. each_said flag_word (port.sent c.args.ring.now) ++ l) c.lay_out.ensures.laid

@@ -17,4 +17,4 @@ push_all-requires c =
 pub returns-clause-put : goal.returns-clause-put
 returns-clause-put c =
     let done = c.if-not-push_all.ensures.done (search rules) in
-    said_grown unit_word (port.sent c.args.ring.now) _ _ done.0 ∙ ap (λ l. each_said unit_word (port.sent c.args.ring.now) ++ l) (units_said c.args.count 256 c.requires.few)
+    said_grown unit_word (port.sent c.args.ring.now) _ _ done ∙ ap (λ l. each_said unit_word (port.sent c.args.ring.now) ++ l) (units_said c.args.count 256 c.requires.few)

@@ -28,7 +28,7 @@ loop-put-preserved c =
     let block = flag_messages (slice_range flags i (i + n)) in
     record {
       within = omega (arith, inv.within, c.min-some.ensures);
-      ring = same_producer c.args.ring.now c.loop-put.ring c.push_few_flags.new.ring inv.ring now.ring;
+      ring = same_producer c.args.ring.now c.loop-put.ring c.push_few_flags.new.ring inv.ring now.room.0;
       put = now.put ∙ ap (λ l. l ++ block) inv.put ∙ append_assoc before (flag_messages (take i flags)) block ∙ ap (λ l. before ++ l) (flags_further flags i n);
-      room = omega (arith, inv.room, now.room, c.min-some.ensures, c.loop-put-test.true);
+      room = omega (arith, inv.room, now.room.1, c.min-some.ensures, c.loop-put-test.true);
     }

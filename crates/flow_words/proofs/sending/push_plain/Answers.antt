@@ -9,9 +9,9 @@ push_all-requires c = plain_follows (port.sent c.args.ring.now) c.args.ints.now 
 pub returns-clause-whole : goal.returns-clause-whole
 returns-clause-whole c =
     let done = c.if-not-push_all.ensures.done (search rules) in
-    (put_plain (port.sent c.args.ring.now) c.args.ints.now _ done.0 c.requires.whole c.requires.plain).1
+    (put_plain (port.sent c.args.ring.now) c.args.ints.now _ done c.requires.whole c.requires.plain).1
 
 pub returns-clause-put : goal.returns-clause-put
 returns-clause-put c =
     let done = c.if-not-push_all.ensures.done (search rules) in
-    (put_plain (port.sent c.args.ring.now) c.args.ints.now _ done.0 c.requires.whole c.requires.plain).0
+    (put_plain (port.sent c.args.ring.now) c.args.ints.now _ done c.requires.whole c.requires.plain).0

@@ -8,20 +8,17 @@ pub push_all-requires : goal.push_all-requires
 push_all-requires c = spelled_follows (port.sent c.args.ring.now) _ c.args.message.now c.requires.whole c.requires.open c.spell-count.ensures.spells
 
 pub returns-clause-whole : goal.returns-clause-whole
-returns-clause-whole c = spelled_whole c.push_all.result (port.sent c.args.ring.now) _ (port.sent c.push_all.new.ring) c.args.message.now (λ t. (c.push_all.ensures.done t).0)
+returns-clause-whole c = spelled_whole c.push_all.result (port.sent c.args.ring.now) _ (port.sent c.push_all.new.ring) c.args.message.now c.push_all.ensures.done
     (λ f. (c.push_all.ensures.full f).0) c.requires.whole c.spell-count.ensures.spells
 
 pub returns-clause-done : goal.returns-clause-done
 returns-clause-done c = λ t.
-    let done = c.push_all.ensures.done t in (
-      (put_spelled (port.sent c.args.ring.now) _ (port.sent c.push_all.new.ring) c.args.message.now done.0 c.requires.whole c.spell-count.ensures.spells).0,
-      omega (
-        arith,
-        done.1,
-        length-take c.spell-count.result.1 c.spell-count.result.0,
-        c.spell-count.ensures.few,
-      ),
-    )
+    (put_spelled (port.sent c.args.ring.now) _ (port.sent c.push_all.new.ring) c.args.message.now (c.push_all.ensures.done t) c.requires.whole c.spell-count.ensures.spells).0
+
+pub returns-clause-room : goal.returns-clause-room
+returns-clause-room c =
+    let room = c.push_all.ensures.room in
+    (room.0, omega (arith, room.1, length-take c.spell-count.result.1 c.spell-count.result.0, c.spell-count.ensures.few))
 
 pub returns-clause-full : goal.returns-clause-full
 returns-clause-full c = λ f.

@@ -25,7 +25,7 @@ loop-put-preserved c =
     let before = each_said unit_word (port.sent c.args.ring.now) in
     record {
       within = omega (arith, inv.within, c.min-some.ensures);
-      ring = same_producer c.args.ring.now c.loop-put.ring c.push_few_units.new.ring inv.ring now.ring;
+      ring = same_producer c.args.ring.now c.loop-put.ring c.push_few_units.new.ring inv.ring now.room.0;
       put = now.put ∙ ap (λ l. l ++ unit_messages n) inv.put ∙ append_assoc before (unit_messages i) (unit_messages n) ∙ ap (λ l. before ++ l) (replicate-append-replicate i n (ItemMsg UnitItem));
-      room = omega (arith, inv.room, now.room, c.min-some.ensures, c.loop-put-test.true);
+      room = omega (arith, inv.room, now.room.1, c.min-some.ensures, c.loop-put-test.true);
     }

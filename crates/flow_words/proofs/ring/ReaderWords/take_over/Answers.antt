@@ -15,7 +15,7 @@ returns-else-is_empty-clause-came c =
     rw c.in-Units.is (
       _,
       units_took_later c.in-Units.ring c.is_empty.new.self c.take_singles-all.new.ring ws c.args.inbox.now c.take_singles-all.new.inbox
-          c.if-is_empty.ensures.looked took.ring took.taken took.known took.allowed took.come,
+          c.if-is_empty.ensures.looked took.taken.0 took.taken.1 took.taken.2 took.allowed took.come,
     )
 
 pub returns-else-is_empty-clause-found : goal.returns-else-is_empty-clause-found
@@ -35,7 +35,7 @@ returns-else-is_empty-2-clause-came c =
     rw c.in-Flags.is (
       _,
       flags_took_later c.in-Flags.ring c.is_empty-in-Flags.new.self c.take_singles-all-in-Flags.new.ring ws c.args.inbox.now c.take_singles-all-in-Flags.new.inbox
-          c.if-is_empty-2.ensures.looked took.ring took.taken took.known took.allowed took.come,
+          c.if-is_empty-2.ensures.looked took.taken.0 took.taken.1 took.taken.2 took.allowed took.come,
     )
 
 pub returns-else-is_empty-2-clause-found : goal.returns-else-is_empty-2-clause-found

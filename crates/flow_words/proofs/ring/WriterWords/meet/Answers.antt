@@ -20,14 +20,18 @@ returns-clause-whole c = elim c.match-self.branch [
 
 pub returns-clause-reader : goal.returns-clause-reader
 returns-clause-reader c = elim c.match-self.branch [
-  | in-Units-Units w ↦ (let l = w.see.ensures.reader in rw w.reader-is (rw w.in-Units-Units.is-1 (
-    which_same UnitKind w.in-Units-Units.reader.end w.see.new.reader.end l.0.0,
-    ap (each_said unit_word) l.1,
-  )))
-  | in-Flags-Flags w ↦ (let l = w.see-in-Flags-Flags.ensures.reader in rw w.reader-is (rw w.in-Flags-Flags.is-1
-      (which_same BoolKind w.in-Flags-Flags.reader.end w.see-in-Flags-Flags.new.reader.end l.0.0, ap (each_said flag_word) l.1)))
-  | in-Ints-Ints w ↦ (let l = w.see-in-Ints-Ints.ensures.reader in rw w.reader-is (rw w.in-Ints-Ints.is-1
-      (which_same IntKind w.in-Ints-Ints.reader.end w.see-in-Ints-Ints.new.reader.end l.0.0, ap ints_sent l.1)))
+  | in-Units-Units w ↦ rw w.reader-is (rw w.in-Units-Units.is-1 (which_same UnitKind w.in-Units-Units.reader.end w.see.new.reader.end w.see.ensures.reader.0.0))
+  | in-Flags-Flags w ↦ (let l = w.see-in-Flags-Flags.ensures.reader in
+      rw w.reader-is (rw w.in-Flags-Flags.is-1 (which_same BoolKind w.in-Flags-Flags.reader.end w.see-in-Flags-Flags.new.reader.end l.0.0)))
+  | in-Ints-Ints w ↦ (let l = w.see-in-Ints-Ints.ensures.reader in
+      rw w.reader-is (rw w.in-Ints-Ints.is-1 (which_same IntKind w.in-Ints-Ints.reader.end w.see-in-Ints-Ints.new.reader.end l.0.0)))
+]
+
+pub returns-clause-received : goal.returns-clause-received
+returns-clause-received c = elim c.match-self.branch [
+  | in-Units-Units w ↦ rw w.reader-is (rw w.in-Units-Units.is-1 (ap (each_said unit_word) w.see.ensures.reader.1))
+  | in-Flags-Flags w ↦ rw w.reader-is (rw w.in-Flags-Flags.is-1 (ap (each_said flag_word) w.see-in-Flags-Flags.ensures.reader.1))
+  | in-Ints-Ints w ↦ rw w.reader-is (rw w.in-Ints-Ints.is-1 (ap ints_sent w.see-in-Ints-Ints.ensures.reader.1))
 ]
 
 pub returns-clause-known : goal.returns-clause-known

@@ -4,10 +4,19 @@ use Rattle.flow_words.proofs.Quarters.{quarter_less, quarter_grows, quarter_none
 use Rattle.flow_words.proofs.ring.WriterWords.push.Goals as goal
 
 pub returns-in-Ints-clause-done : goal.returns-in-Ints-clause-done
-returns-in-Ints-clause-done c = rw c.in-Ints.is (λ t. let done = c.push_spelled.ensures.done t in (done.0, quarter_less _ _ done.1))
+returns-in-Ints-clause-done c = rw c.in-Ints.is c.push_spelled.ensures.done
+
+pub returns-in-Ints-clause-room : goal.returns-in-Ints-clause-room
+returns-in-Ints-clause-room c = rw c.in-Ints.is (λ _. quarter_less _ _ c.push_spelled.ensures.room.1)
+
+pub returns-in-Ints-clause-none : goal.returns-in-Ints-clause-none
+returns-in-Ints-clause-none c = rw c.in-Ints.is (λ f. ap ints_sent (c.push_spelled.ensures.full f).0)
+
+pub returns-in-Ints-clause-kept : goal.returns-in-Ints-clause-kept
+returns-in-Ints-clause-kept c = rw c.in-Ints.is (λ f. quarter_grows _ _ (c.push_spelled.ensures.full f).1)
 
 pub returns-in-Ints-clause-full : goal.returns-in-Ints-clause-full
-returns-in-Ints-clause-full c = rw c.in-Ints.is (λ f. let full = c.push_spelled.ensures.full f in (ap ints_sent full.0, quarter_grows _ _ full.1, quarter_none _ full.2))
+returns-in-Ints-clause-full c = λ f. quarter_none _ (c.push_spelled.ensures.full f).2
 
 pub returns-in-Ints-clause-succeeds : goal.returns-in-Ints-clause-succeeds
 returns-in-Ints-clause-succeeds c = rw c.in-Ints.is (λ h. c.push_spelled.ensures.succeeds (quarter_some _ h))

@@ -7,4 +7,4 @@ pub push_plain-requires-clause-certain : goal.push_plain-requires-clause-certain
 push_plain-requires-clause-certain c = quarter_within _ _ (subst (λ w. length c.args.ints.now ≤ known_free w) c.in-Ints.is c.requires.certain)
 
 pub returns-clause-room : goal.returns-clause-room
-returns-clause-room c = rw c.in-Ints.is (quarter_fewer _ _ _ c.push_plain.ensures.room)
+returns-clause-room c = rw c.in-Ints.is (quarter_fewer _ _ _ c.push_plain.ensures.room.1)
