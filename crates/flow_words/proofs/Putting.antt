@@ -1,5 +1,5 @@
 -- Which words may be put after others.
-use Rattle.std.proofs.Common.{◌≡◌, Bool, true, false, ℤ, List, [], ◌∷◌, ◌++◌, take, refl, ap, ◌∙◌}
+use Rattle.std.proofs.Common.{◌≡◌, ◌/◌, Bool, true, false, ℤ, List, [], ◌∷◌, ◌++◌, take, refl, ap, ◌∙◌}
 use Rattle.std.proofs.lemmas.List.{map-append}
 use Rattle.std.proofs.lemmas.List.Elements.{All-take}
 use Rattle.std.specs.declared.alloc.Global.{Global}
@@ -11,11 +11,16 @@ use Rattle.flow_messages.specs.declared.message.Item.TheVariants.{Int as IntItem
 use Rattle.flow_messages.specs.Contents.{int_messages}
 use Rattle.flow_messages.specs.Signals.{signals, ended}
 use Rattle.flow_messages.proofs.Signals.{ended-more, ended-nil, block-ended}
+use Rattle.flow_messages.specs.declared.message.Kind.TheVariants.{Int as IntKind}
+use Rattle.flow_words.specs.declared.ring.ClosingInts.{ClosingInts}
+use Rattle.flow_words.specs.declared.ring.WriterWords.TheVariants.{Ints as IntsTo}
 use Rattle.flow_words.specs.declared.words.Group.{Group}
 use Rattle.flow_words.specs.declared.words.Group.TheVariants.{None as NoGroup}
 use Rattle.flow_words.specs.Words.{is_escape, each_said, ints_said, ints_sent, group_after, Spells, ArePlain}
 use Rattle.flow_words.proofs.Said.{said-append, after-append, plain_said, plain_after}
+use Rattle.flow_words.specs.Ring.{SameProducer, places_of_a_message}
 use Rattle.flow_words.proofs.Lists.{ended_take}
+use Rattle.flow_words.proofs.Taking.{which_same}
 
 -- words without an end may follow words without an end
 pub singles_follow : {W : Type 0} (word : W → Msg) (before ws : List W) → ended (signals (each_said word before)) ≡ false → ended (signals (each_said word ws)) ≡ false
@@ -63,6 +68,10 @@ put_spelled before ws all m is whole spells = (
 -- the same ring, over two calls
 pub same_producer : {T P : Type 0} (a b c : Producer T Global P) → port.SameProducer a b → port.SameProducer b c → port.SameProducer a c
 same_producer a b c p q = ((q.0.0 ∙ p.0.0, q.0.1 ∙ p.0.1, q.0.2 ∙ p.0.2, q.0.3 ∙ p.0.3), q.1 ∙ p.1)
+
+-- the same ring of integers, as one of words
+pub same_ints : (a b : Producer ℤ Global ClosingInts) → port.SameProducer a b → SameProducer (IntsTo a) (IntsTo b)
+same_ints a b s = (which_same IntKind a.end b.end s.0, ap (λ n. n / places_of_a_message) s.1)
 
 -- the words of a message were put, or none
 pub spelled_whole : (r : Bool) (before ws all : List ℤ) (m : Msg) → (r ≡ true → all ≡ before ++ ws) → (r ≡ false → all ≡ before) → group_after NoGroup before ≡ NoGroup

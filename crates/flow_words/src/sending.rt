@@ -9,7 +9,7 @@ ghost use Rattle.flow_messages.specs.Signals.{signals, signal_of, ended};
 ghost use Rattle.flow_words.specs.declared.words.Group.TheVariants.{None as NoGroup};
 ghost use Rattle.flow_words.specs.declared.ring.WriterWords.TheVariants.{Units as UnitsTo, Flags as FlagsTo, Ints as IntsTo};
 ghost use Rattle.flow_words.specs.Words.{group_after, ArePlain};
-ghost use Rattle.flow_words.specs.Ring.{sent, known_free, half_put, writer_kind, SameProducer, SaysMore, TooFull, UsesAtMost};
+ghost use Rattle.flow_words.specs.Ring.{sent, known_free, half_put, writer_kind, FillsAtMost, IsOpenFor, ProducerLooked, SaysMore, TooFull, UsesAtMost};
 
 use crate::ring::{ClosingFlags, ClosingInts, ClosingUnits, WriterWords};
 use crate::single::{PLACES, Single, lay_out};
@@ -168,10 +168,9 @@ impl WriterWords {
         requires open { ended (signals (sent self.old)) ≡ false }
         requires fits { fits (writer_kind self.old) (signal_of message.now) ≡ true }
         requires whole { half_put self.old ≡ NoGroup }
-        ensures ring { SameProducer self.old self.new }
+        ensures room { FillsAtMost 1 self.old self.new }
         ensures whole { half_put self.new ≡ NoGroup }
         ensures done { IsTrue result → sent self.new ≡ sent self.old ++ message.now ∷ [] }
-        ensures room { IsTrue result → known_free self.old ≤ known_free self.new + 1 }
         ensures none { result ≡ false → sent self.new ≡ sent self.old }
         ensures kept { result ≡ false → known_free self.old ≤ known_free self.new }
         ensures full { result ≡ false → known_free self.new ≡ 0 }
@@ -187,13 +186,11 @@ impl WriterWords {
     // Puts so many units, where there is room.
     #[inline(always)]
     pub(crate) fn push_units(&mut self, count: usize)
-        requires kind { writer_kind self.old ≡ UnitKind }
-        requires open { ended (signals (sent self.old)) ≡ false }
+        requires open { IsOpenFor UnitKind self.old }
         requires certain { count ≤ known_free self.old }
-        ensures ring { SameProducer self.old self.new }
         ensures whole { half_put self.new ≡ half_put self.old }
         ensures put { sent self.new ≡ sent self.old ++ unit_messages count }
-        ensures room { known_free self.old ≤ known_free self.new + count }
+        ensures room { FillsAtMost count self.old self.new }
     {
         match self {
             WriterWords::Units(ring) => push_units(ring, count),
@@ -204,13 +201,11 @@ impl WriterWords {
     // Puts these truth values, where there is room.
     #[inline(always)]
     pub(crate) fn push_flags(&mut self, flags: &[bool])
-        requires kind { writer_kind self.old ≡ BoolKind }
-        requires open { ended (signals (sent self.old)) ≡ false }
+        requires open { IsOpenFor BoolKind self.old }
         requires certain { length flags.now ≤ known_free self.old }
-        ensures ring { SameProducer self.old self.new }
         ensures whole { half_put self.new ≡ half_put self.old }
         ensures put { sent self.new ≡ sent self.old ++ flag_messages flags.now }
-        ensures room { known_free self.old ≤ known_free self.new + length flags.now }
+        ensures room { FillsAtMost (length flags.now) self.old self.new }
     {
         match self {
             WriterWords::Flags(ring) => push_flags(ring, flags),
@@ -221,15 +216,13 @@ impl WriterWords {
     // Puts these integers, where there is room.
     #[inline(always)]
     pub(crate) fn push_plain(&mut self, ints: &[i64])
-        requires kind { writer_kind self.old ≡ IntKind }
         requires plain { ArePlain ints.now }
-        requires open { ended (signals (sent self.old)) ≡ false }
+        requires open { IsOpenFor IntKind self.old }
         requires whole { half_put self.old ≡ NoGroup }
         requires certain { length ints.now ≤ known_free self.old }
-        ensures ring { SameProducer self.old self.new }
         ensures whole { half_put self.new ≡ NoGroup }
         ensures put { sent self.new ≡ sent self.old ++ int_messages ints.now }
-        ensures room { known_free self.old ≤ known_free self.new + length ints.now }
+        ensures room { FillsAtMost (length ints.now) self.old self.new }
     {
         match self {
             WriterWords::Ints(ring) => push_plain(ring, ints),
@@ -240,10 +233,7 @@ impl WriterWords {
     // Whether there is room for so many messages.
     #[inline(always)]
     pub(crate) fn has_room(&mut self, count: usize) -> bool
-        ensures ring { SameProducer self.old self.new }
-        ensures whole { half_put self.new ≡ half_put self.old }
-        ensures looked { (sent self.new ≡ sent self.old) ×
-            (known_free self.old ≤ known_free self.new) }
+        ensures looked { ProducerLooked self.old self.new }
         ensures value { IsTrue result ↔ (count ≤ known_free self.new) }
     {
         match self {
@@ -256,10 +246,7 @@ impl WriterWords {
     // For how many messages there is room.
     #[inline(always)]
     pub(crate) fn room(&mut self) -> usize
-        ensures ring { SameProducer self.old self.new }
-        ensures whole { half_put self.new ≡ half_put self.old }
-        ensures looked { (sent self.new ≡ sent self.old) ×
-            (known_free self.old ≤ known_free self.new) }
+        ensures looked { ProducerLooked self.old self.new }
         ensures value { result ≡ known_free self.new }
     {
         match self {

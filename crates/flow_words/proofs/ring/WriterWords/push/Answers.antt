@@ -1,5 +1,6 @@
 use Rattle.std.proofs.Common.{ap}
 use Rattle.flow_words.specs.Words.{ints_sent}
+use Rattle.flow_words.proofs.Putting.{same_ints}
 use Rattle.flow_words.proofs.Quarters.{quarter_less, quarter_grows, quarter_none, quarter_some}
 use Rattle.flow_words.proofs.ring.WriterWords.push.Goals as goal
 
@@ -7,7 +8,7 @@ pub returns-in-Ints-clause-done : goal.returns-in-Ints-clause-done
 returns-in-Ints-clause-done c = rw c.in-Ints.is c.push_spelled.ensures.done
 
 pub returns-in-Ints-clause-room : goal.returns-in-Ints-clause-room
-returns-in-Ints-clause-room c = rw c.in-Ints.is (λ _. quarter_less _ _ c.push_spelled.ensures.room.1)
+returns-in-Ints-clause-room c = rw c.in-Ints.is (same_ints c.in-Ints.ring c.push_spelled.new.ring c.push_spelled.ensures.room.0, quarter_less _ _ c.push_spelled.ensures.room.1)
 
 pub returns-in-Ints-clause-none : goal.returns-in-Ints-clause-none
 returns-in-Ints-clause-none c = rw c.in-Ints.is (λ f. ap ints_sent (c.push_spelled.ensures.full f).0)
