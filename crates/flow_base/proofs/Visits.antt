@@ -1,6 +1,7 @@
 -- One step more of a visit, and its end.
 use Rattle.std.proofs.Common.{◌≡◌, ◌≢◌, ℕ, zero, suc, ◌+◌, ◌<◌, ◌≤◌, Bool, true, false, cond, eqb, ◌||◌, List, [], ◌∷◌, ◌++◌, length, refl, sym, ◌∙◌}
 use Rattle.std.proofs.Common.{ap, subst, arith, append-nil, append_assoc, length-append, ne_eqb, Result, Ok, Err, OnOk, OnErr, IfErr, IsOk, IsErrAnd}
+use Rattle.std.specs.Prelude.{IfOk, IsErr}
 use Rattle.std.proofs.Common.{IsTrue, ◌↔◌, inl, inr}
 use Rattle.std.proofs.lemmas.List.Elements.{All-get_or, All-weaker}
 use Rattle.std.proofs.lemmas.Bool.{cases_Bool, or_parts}
@@ -47,6 +48,10 @@ no_room false (suc n) iff is = absurd (let no = iff.1 (omega arith) in cc)
 pub on_err : {X E P : Type 0} (r : Result X E) → P → OnErr r P
 on_err (Ok x) p = tt
 on_err (Err x) p = p
+
+pub no_ok : {X E : Type 0} (P : X → Type 0) (r : Result X E) → IsErr r → IfOk r P
+no_ok P (Ok x) is = absurd (cc)
+no_ok P (Err e) is = tt
 
 -- of two histories one has a step
 pub either_some : {X : Type 0} (any more : Bool) (h g : List X) → (any ≡ true → h ≡ [] → ⊥) → (more ≡ true → g ≡ [] → ⊥) → (any || more) ≡ true → h ++ g ≡ [] → ⊥

@@ -1,16 +1,21 @@
 -- Where a node stands, and what its calls leave.
-use Rattle.std.specs.Prelude.{◌≡◌, ℕ, cond, nat_lt, List, [], ◌∷◌, ◌++◌}
-use Rattle.flow_messages.specs.Ends.{View}
+use Rattle.std.specs.Prelude.{◌≡◌, ℕ, Bool, Result, IfOk, OnErr, cond, nat_lt, List, [], ◌∷◌, ◌++◌, length}
+use Rattle.std.specs.declared.alloc.AllocError.{AllocError}
+use Rattle.flow_messages.specs.Ends.{View, SameEnds}
+use Rattle.flow_messages.specs.declared.ends.Ends.{Ghosts as EndsGhosts}
 use Rattle.flow_messages.specs.Flats.{flat_signals}
 use Rattle.flow_messages.specs.Signals.{Signal, signal_of, stop}
 use Rattle.flow_messages.specs.declared.flat.Flat.{Flat}
 use Rattle.flow_messages.specs.declared.flat.Flat.TheVariants.{End as EndFlat}
 use Rattle.flow_messages.specs.declared.message.Msg.{Msg}
+use Rattle.flow_base.specs.Along.{PutOnEach, written_signals}
 use Rattle.flow_base.specs.Nodes.{NodeState, behaviour_of, node_state}
 use Rattle.flow_base.specs.Passing.{MayCome, PassedOn}
-use Rattle.flow_base.specs.Visits.{IsPlaced}
+use Rattle.flow_base.specs.Visits.{BrokeOff, IsPlaced, Visited}
 use Rattle.flow_base.specs.declared.node.Node.{Node}
 use Rattle.flow_base.specs.declared.node.Phase.TheVariants.{Ending}
+use Rattle.flow_base.specs.declared.slices.Moved.{Moved}
+use Rattle.flow_base.specs.declared.slices.Written.{Written}
 use Rattle.flow_base.specs.declared.worker.Worker.{Ghosts}
 
 module _ {W : Type 0} (w : Ghosts W) where
@@ -21,6 +26,18 @@ module _ {W : Type 0} (w : Ghosts W) where
   -- these are the edges at the ports of the node, and their ends are there
   abbrev pub NodeIsPlaced : List ℕ → List ℕ → Node W → View → Type 0
   NodeIsPlaced inputs outputs n v = IsPlaced (behaviour_of w.machine) inputs outputs (standing n) v
+
+  -- what the worker wrote was put on the edge of each output
+  abbrev pub PutsWritten : {E : Type 0} → W → (E → View) → List ℕ → Written → Moved → E → E → Type 0
+  PutsWritten worker view outputs block moved a v =
+      PutOnEach outputs (length outputs) (λ q. written_signals block moved (w.machine.kind_out (w.state worker).0 q)) (view a) (view v)
+
+  -- what a visit of the node answers and leaves, over the same ends: some steps, or none, or steps until memory was refused
+  pub record Visits {E : Type 0} (e : EndsGhosts E) (inputs outputs : List ℕ) (n : Node W) (a : E) (t : Node W) (v : E) (result : Result Bool AllocError) : Type 0 where
+    pub same : e.same a v
+    pub ends : SameEnds (e.view a) (e.view v)
+    pub visited : IfOk result (λ any. Visited inputs outputs (behaviour_of w.machine) (standing n) (e.view a) (standing t) (e.view v) any)
+    pub broke : OnErr result (BrokeOff inputs outputs (behaviour_of w.machine) (standing n) (e.view a) (standing t) (e.view v))
 
   -- the node is where it was
   abbrev pub StandsStill : Node W → Node W → Type 0

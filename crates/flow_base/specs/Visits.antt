@@ -9,7 +9,7 @@ use Rattle.kahn.specs.Processes.{Event, Reads, Writes, Does}
 use Rattle.flow_messages.specs.declared.message.Kind.{Kind}
 use Rattle.flow_messages.specs.Kinds.{TakesKind}
 use Rattle.flow_messages.specs.Signals.{Signal, ended}
-use Rattle.flow_messages.specs.Ends.{View, held, SameEnds, SameTraffic}
+use Rattle.flow_messages.specs.Ends.{View, held, SameEnds, SameTraffic, Taken}
 use Rattle.flow_base.specs.Transducers.{Behaviour}
 
 -- what the events read from edge e, where input port p has the edge `edge p`
@@ -47,6 +47,10 @@ pub record Wrote (v : View) (f : ℕ) (m : Signal) (w : View) : Type 0 where
   pub received : (e : ℕ) → w.received e ≡ v.received e
   pub coming : (e : ℕ) → IsPrefix (v.coming e) (w.coming e)
   pub room : (e : ℕ) → e ≢ f → w.room e ≡ v.room e
+
+-- whatever message was certain to be the next of edge e was taken
+abbrev pub TakesNext : View → ℕ → View → Type 0
+TakesNext a e v = (m : Signal) → IsPrefix (m ∷ []) (a.coming e) → Taken a e m v
 
 module _ (inputs outputs : List ℕ) where
   -- The events took and put just their messages.

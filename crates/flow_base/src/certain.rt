@@ -1,12 +1,11 @@
 // Calls of ends that are certain to succeed.
 
-ghost use Rattle.std.specs.Prelude.{◌≡◌, ℕ, ◌+◌, ◌<◌, ◌≤◌, true, List, [], ◌∷◌};
+ghost use Rattle.std.specs.Prelude.{◌≡◌, ℕ, ◌+◌, ◌<◌, ◌≤◌, true, List};
 ghost use Rattle.std.specs.List.{All};
-ghost use mathlib.Core.List.{IsPrefix};
-ghost use Rattle.flow_messages.specs.Signals.{Signal, signal_of};
-ghost use Rattle.flow_messages.specs.Ends.{SameEnds, Taken};
+ghost use Rattle.flow_messages.specs.Signals.{signal_of};
+ghost use Rattle.flow_messages.specs.Ends.{SameEnds};
 ghost use Rattle.flow_messages.specs.Kinds.{FitsEdge};
-ghost use Rattle.flow_base.specs.Visits.{LeavesAlone, Wrote};
+ghost use Rattle.flow_base.specs.Visits.{LeavesAlone, TakesNext, Wrote};
 
 use flow_messages::{Ends, Msg};
 
@@ -15,8 +14,7 @@ use flow_messages::{Ends, Msg};
 pub fn take_front<E: Ends>(ends: &mut E, edge: usize)
     requires { (E.view ends.old).reads edge ≡ true }
     ensures same { E.same ends.old ends.new }
-    ensures taken { (m : Signal) → IsPrefix (m ∷ []) ((E.view ends.old).coming edge) →
-        Taken (E.view ends.old) edge m (E.view ends.new) }
+    ensures taken { TakesNext (E.view ends.old) edge (E.view ends.new) }
 {
     let _ = ends.take(edge);
 }

@@ -12,7 +12,7 @@ ghost use Rattle.flow_base.specs.Following.{node_passes};
 ghost use Rattle.flow_base.specs.Along.{AreApart};
 ghost use Rattle.flow_base.specs.Visits.{WentOn, Visited, BrokeOff};
 ghost use Rattle.flow_base.specs.Walks.{Walk};
-ghost use Rattle.flow_base.specs.Standing.{EndsAll, MayComeTo, NodeIsPlaced, NodeReads, PassesAll, PassesOn, PassesToEnd, StandsStill, end_written, standing};
+ghost use Rattle.flow_base.specs.Standing.{EndsAll, MayComeTo, NodeIsPlaced, NodeReads, PassesAll, PassesOn, PassesToEnd, StandsStill, Visits, end_written, standing};
 ghost use Rattle.flow_base.specs.declared.node.Phase.TheVariants.{Working, Ending};
 
 use crate::certain::{look_for_messages, put_in_space};
@@ -146,14 +146,7 @@ impl<W: Worker> Node<W> {
         ends: &mut E,
     ) -> Result<bool, AllocError>
         requires placed { NodeIsPlaced W.Worker inputs.now outputs.now self.old (E.view ends.old) }
-        ensures same { E.same ends.old ends.new }
-        ensures ends { SameEnds (E.view ends.old) (E.view ends.new) }
-        ensures visited { IfOk result (λ any. Visited inputs.now outputs.now
-            ⟦<Node<W> as Transducer>⟧.behaviour (⟦<Node<W> as Transducer>⟧.state self.old)
-            (E.view ends.old) (⟦<Node<W> as Transducer>⟧.state self.new) (E.view ends.new) any) }
-        ensures broke { OnErr result (BrokeOff inputs.now outputs.now
-            ⟦<Node<W> as Transducer>⟧.behaviour (⟦<Node<W> as Transducer>⟧.state self.old)
-            (E.view ends.old) (⟦<Node<W> as Transducer>⟧.state self.new) (E.view ends.new)) }
+        ensures { Visits W.Worker E.Ends inputs.now outputs.now self.old ends.old self.new ends.new result }
     {
         match self.want() {
             Want::Read(port) => {
@@ -427,14 +420,7 @@ impl<W: Worker> Node<W> {
     ) -> Result<bool, AllocError>
         requires some { 0 < left }
         requires placed { NodeIsPlaced W.Worker inputs.now outputs.now self.old (E.view ends.old) }
-        ensures same { E.same ends.old ends.new }
-        ensures ends { SameEnds (E.view ends.old) (E.view ends.new) }
-        ensures visited { IfOk result (λ any. Visited inputs.now outputs.now
-            ⟦<Node<W> as Transducer>⟧.behaviour (⟦<Node<W> as Transducer>⟧.state self.old)
-            (E.view ends.old) (⟦<Node<W> as Transducer>⟧.state self.new) (E.view ends.new) any) }
-        ensures broke { OnErr result (BrokeOff inputs.now outputs.now
-            ⟦<Node<W> as Transducer>⟧.behaviour (⟦<Node<W> as Transducer>⟧.state self.old)
-            (E.view ends.old) (⟦<Node<W> as Transducer>⟧.state self.new) (E.view ends.new)) }
+        ensures { Visits W.Worker E.Ends inputs.now outputs.now self.old ends.old self.new ends.new result }
     {
         let mut moved = false;
         for _ in 0..left {
@@ -457,14 +443,7 @@ impl<W: Worker> Node<W> {
     ) -> Result<bool, AllocError>
         requires some { 0 < chunk }
         requires placed { NodeIsPlaced W.Worker inputs.now outputs.now self.old (E.view ends.old) }
-        ensures same { E.same ends.old ends.new }
-        ensures ends { SameEnds (E.view ends.old) (E.view ends.new) }
-        ensures visited { IfOk result (λ any. Visited inputs.now outputs.now
-            ⟦<Node<W> as Transducer>⟧.behaviour (⟦<Node<W> as Transducer>⟧.state self.old)
-            (E.view ends.old) (⟦<Node<W> as Transducer>⟧.state self.new) (E.view ends.new) any) }
-        ensures broke { OnErr result (BrokeOff inputs.now outputs.now
-            ⟦<Node<W> as Transducer>⟧.behaviour (⟦<Node<W> as Transducer>⟧.state self.old)
-            (E.view ends.old) (⟦<Node<W> as Transducer>⟧.state self.new) (E.view ends.new)) }
+        ensures { Visits W.Worker E.Ends inputs.now outputs.now self.old ends.old self.new ends.new result }
     {
         if !matches!(self.phase, Phase::Working) {
             return self.close(inputs, outputs, ends, chunk);
@@ -490,14 +469,7 @@ impl<W: Worker> Node<W> {
     ) -> Result<bool, AllocError>
         requires some { 0 < chunk }
         requires placed { NodeIsPlaced W.Worker inputs.now outputs.now self.old (E.view ends.old) }
-        ensures same { E.same ends.old ends.new }
-        ensures ends { SameEnds (E.view ends.old) (E.view ends.new) }
-        ensures visited { IfOk result (λ any. Visited inputs.now outputs.now
-            ⟦<Node<W> as Transducer>⟧.behaviour (⟦<Node<W> as Transducer>⟧.state self.old)
-            (E.view ends.old) (⟦<Node<W> as Transducer>⟧.state self.new) (E.view ends.new) any) }
-        ensures broke { OnErr result (BrokeOff inputs.now outputs.now
-            ⟦<Node<W> as Transducer>⟧.behaviour (⟦<Node<W> as Transducer>⟧.state self.old)
-            (E.view ends.old) (⟦<Node<W> as Transducer>⟧.state self.new) (E.view ends.new)) }
+        ensures { Visits W.Worker E.Ends inputs.now outputs.now self.old ends.old self.new ends.new result }
     {
         if !matches!(self.phase, Phase::Working) {
             return self.close(inputs, outputs, ends, chunk);

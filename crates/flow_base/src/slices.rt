@@ -6,8 +6,9 @@ ghost use mathlib.Core.List.{IsPrefix};
 ghost use Rattle.flow_messages.specs.Blocks.{unit_signals, flag_signals, int_signals};
 ghost use Rattle.flow_messages.specs.Ends.{SameEnds, held};
 ghost use Rattle.flow_messages.specs.Kinds.{TakesKind};
-ghost use Rattle.flow_base.specs.Along.{AreApart, HasRoom, PutOnEach, shown_signals, written_signals};
+ghost use Rattle.flow_base.specs.Along.{AreApart, HasRoom, shown_signals, written_signals};
 ghost use Rattle.flow_base.specs.Visits.{edge_of, LeavesAlone};
+ghost use Rattle.flow_base.specs.Standing.{PutsWritten};
 ghost use Rattle.flow_base.specs.OnPorts.{FitsAt, IsLower, PutFrom, SkippedAt, TakeKindsOf, coming_at, room_at};
 
 use crate::worker::Worker;
@@ -197,9 +198,7 @@ pub(crate) fn put_on_each<W: Worker, E: Ends>(
         FitsAt (E.view ends.old) outputs.now q moved }
     requires places { HasRoom moved 256 }
     ensures same { E.same ends.old ends.new }
-    ensures put { PutOnEach outputs.now (length outputs.now)
-        (λ q. written_signals block.now moved (W.machine.kind_out (W.state worker.now).0 q))
-        (E.view ends.old) (E.view ends.new) }
+    ensures put { PutsWritten W.Worker worker.now E.view outputs.now block.now moved ends.old ends.new }
 {
     for port in 0..outputs.len() {
         put_on(ends, outputs[port], worker.kind_out(port), block, moved);

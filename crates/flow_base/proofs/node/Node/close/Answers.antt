@@ -5,7 +5,7 @@ use Rattle.flow_base.specs.Members.{node_of}
 use Rattle.flow_base.specs.Visits.{Visited}
 use Rattle.flow_base.specs.NodeLaws.{behaviour_laws}
 use Rattle.flow_base.proofs.Carried.{same_ends_then}
-use Rattle.flow_base.proofs.Visits.{Made, made_none, made_visit, visited_on, broke_on, on_err}
+use Rattle.flow_base.proofs.Visits.{Made, made_none, made_visit, visited_on, broke_on, no_ok, on_err}
 use Rattle.flow_base.proofs.node.Node.close.Goals as goal
 
 pub loop-init : goal.loop-init
@@ -17,10 +17,16 @@ loop-init g c =
       first = λ h. refl;
     }
 
-pub returns-in_err-step-clause-broke : goal.returns-in_err-step-clause-broke
-returns-in_err-step-clause-broke g c =
+pub returns-in_err-step : goal.returns-in_err-step
+returns-in_err-step g c =
+    let view = g.E.Ends.view in
     let node = node_of g.W.Worker.state g.W.Worker.machine in
-    on_err c.from_residual.result (broke_on (behaviour_laws _ g.met.W.Worker.laws) c.requires.placed c.loop.invariant.made c.in_err-step.ensures.broke)
+    record {
+      same = g.met.E.Ends.same_trans c.args.ends.now c.loop.ends c.step.new.ends c.loop.invariant.same c.step.ensures.same;
+      ends = same_ends_then (view c.args.ends.now) (view c.loop.ends) (view c.step.new.ends) c.loop.invariant.made.ends c.step.ensures.ends;
+      visited = no_ok _ c.from_residual.result c.from_residual.ensures.0;
+      broke = on_err c.from_residual.result (broke_on (behaviour_laws _ g.met.W.Worker.laws) c.requires.placed c.loop.invariant.made c.in_err-step.ensures.broke);
+    }
 
 pub loop-preserved : goal.loop-preserved
 loop-preserved g c =
@@ -34,22 +40,15 @@ loop-preserved g c =
       first = λ h. cc;
     }
 
-pub returns-then-not-branch-clause-visited : goal.returns-then-not-branch-clause-visited
-returns-then-not-branch-clause-visited g c =
+pub returns-then-not-branch : goal.returns-then-not-branch
+returns-then-not-branch g c =
     let node = node_of g.W.Worker.state g.W.Worker.machine in
     let view = g.E.Ends.view in
-    subst (Visited c.args.inputs.now c.args.outputs.now node.behaviour (node.state c.args.self.now) (view c.args.ends.now) (node.state c.step.new.self) (view c.step.new.ends))
-    (ap (λ any. c.loop.moved || any) c.if-not-branch.true ∙ or-false c.loop.moved)
-    (visited_on (behaviour_laws _ g.met.W.Worker.laws) c.requires.placed c.loop.invariant.made c.step.ensures.ends c.in_ok-step.ensures.visited)
-
-pub returns-in_err-step-clause-same : goal.returns-in_err-step-clause-same
-returns-in_err-step-clause-same g c = g.met.E.Ends.same_trans c.args.ends.now c.loop.ends c.step.new.ends c.loop.invariant.same c.step.ensures.same
-
-pub returns-in_err-step-clause-ends : goal.returns-in_err-step-clause-ends
-returns-in_err-step-clause-ends g c = let view = g.E.Ends.view in same_ends_then (view c.args.ends.now) (view c.loop.ends) (view c.step.new.ends) c.loop.invariant.made.ends c.step.ensures.ends
-
-pub returns-then-not-branch-clause-same : goal.returns-then-not-branch-clause-same
-returns-then-not-branch-clause-same g c = g.met.E.Ends.same_trans c.args.ends.now c.loop.ends c.step.new.ends c.loop.invariant.same c.step.ensures.same
-
-pub returns-then-not-branch-clause-ends : goal.returns-then-not-branch-clause-ends
-returns-then-not-branch-clause-ends g c = let view = g.E.Ends.view in same_ends_then (view c.args.ends.now) (view c.loop.ends) (view c.step.new.ends) c.loop.invariant.made.ends c.step.ensures.ends
+    record {
+      same = g.met.E.Ends.same_trans c.args.ends.now c.loop.ends c.step.new.ends c.loop.invariant.same c.step.ensures.same;
+      ends = same_ends_then (view c.args.ends.now) (view c.loop.ends) (view c.step.new.ends) c.loop.invariant.made.ends c.step.ensures.ends;
+      visited = subst (Visited c.args.inputs.now c.args.outputs.now node.behaviour (node.state c.args.self.now) (view c.args.ends.now) (node.state c.step.new.self) (view c.step.new.ends))
+          (ap (λ any. c.loop.moved || any) c.if-not-branch.true ∙ or-false c.loop.moved)
+          (visited_on (behaviour_laws _ g.met.W.Worker.laws) c.requires.placed c.loop.invariant.made c.step.ensures.ends c.in_ok-step.ensures.visited);
+      broke = tt;
+    }

@@ -5,7 +5,7 @@ use Rattle.flow_base.specs.Members.{node_of}
 use Rattle.flow_base.specs.Visits.{Visited}
 use Rattle.flow_base.specs.NodeLaws.{behaviour_laws}
 use Rattle.flow_base.proofs.Carried.{same_ends_then}
-use Rattle.flow_base.proofs.Visits.{made_first, placed_on, visited_on, broke_on, moved, on_err}
+use Rattle.flow_base.proofs.Visits.{made_first, placed_on, visited_on, broke_on, moved, no_ok, on_err}
 use Rattle.flow_base.proofs.node.Node.visit_by_steps.Goals.{in-Working, in_default, in-Working-matches, in_default-matches}
 use Rattle.flow_base.proofs.node.Node.visit_by_steps.Goals as goal
 
@@ -15,16 +15,22 @@ close-requires-2-clause-placed g c =
     let placed = c.requires.placed in
     placed_on (behaviour_laws _ g.met.W.Worker.laws) placed (made_first (behaviour_laws _ g.met.W.Worker.laws) placed c.work.ensures.ends c.in_ok-made.ensures.visited)
 
-pub returns-in_err-close-clause-broke : goal.returns-in_err-close-clause-broke
-returns-in_err-close-clause-broke g c =
+pub returns-in_err-close : goal.returns-in_err-close
+returns-in_err-close g c =
+    let view = g.E.Ends.view in
     let node = node_of g.W.Worker.state g.W.Worker.machine in
     let placed = c.requires.placed in
     let worked = made_first (behaviour_laws _ g.met.W.Worker.laws) placed c.work.ensures.ends c.in_ok-made.ensures.visited in
-    on_err c.from_residual-in_err-close.result (broke_on (behaviour_laws _ g.met.W.Worker.laws) placed worked c.in_err-close.ensures.broke)
+    record {
+      same = g.met.E.Ends.same_trans c.args.ends.now c.work.new.ends c.close-2.new.ends c.work.ensures.same c.close-2.ensures.same;
+      ends = same_ends_then (view c.args.ends.now) (view c.work.new.ends) (view c.close-2.new.ends) c.work.ensures.ends c.close-2.ensures.ends;
+      visited = no_ok _ c.from_residual-in_err-close.result c.from_residual-in_err-close.ensures.0;
+      broke = on_err c.from_residual-in_err-close.result (broke_on (behaviour_laws _ g.met.W.Worker.laws) placed worked c.in_err-close.ensures.broke);
+    }
 
 -- it works no longer, and so it made a step
-pub returns-clause-visited : goal.returns-clause-visited
-returns-clause-visited g c =
+pub returns : goal.returns
+returns g c =
     let node = node_of g.W.Worker.state g.W.Worker.machine in
     let view = g.E.Ends.view in
     let placed = c.requires.placed in
@@ -36,18 +42,19 @@ returns-clause-visited g c =
     λ on. elim c.match-matches-2.branch
     [ in-Working-matches w ↦ absurd (cc (w.matches-is, c.if-matches.false)) | in_default-matches w ↦ w.in_default-matches.not-Working on ] in
     let some : nat_lt 0 c.in_ok-made.made ≡ true = moved (behaviour_laws _ g.met.W.Worker.laws) placed worked (λ same. stopped (sym (ap (λ n. n.phase) same) ∙ works)) in
-    subst (Visited c.args.inputs.now c.args.outputs.now node.behaviour s (view c.args.ends.now) (node.state c.close-2.new.self) (view c.close-2.new.ends))
-    (or_left (nat_lt 0 c.in_ok-made.made) c.in_ok-close.field-0 some)
-    (visited_on (behaviour_laws _ g.met.W.Worker.laws) placed worked c.close-2.ensures.ends c.in_ok-close.ensures.visited)
+    record {
+      same = g.met.E.Ends.same_trans c.args.ends.now c.work.new.ends c.close-2.new.ends c.work.ensures.same c.close-2.ensures.same;
+      ends = same_ends_then (view c.args.ends.now) (view c.work.new.ends) (view c.close-2.new.ends) c.work.ensures.ends c.close-2.ensures.ends;
+      visited = subst (Visited c.args.inputs.now c.args.outputs.now node.behaviour s (view c.args.ends.now) (node.state c.close-2.new.self) (view c.close-2.new.ends))
+          (or_left (nat_lt 0 c.in_ok-made.made) c.in_ok-close.field-0 some)
+          (visited_on (behaviour_laws _ g.met.W.Worker.laws) placed worked c.close-2.ensures.ends c.in_ok-close.ensures.visited);
+      broke = tt;
+    }
 
-pub returns-in_err-close-clause-same : goal.returns-in_err-close-clause-same
-returns-in_err-close-clause-same g c = g.met.E.Ends.same_trans c.args.ends.now c.work.new.ends c.close-2.new.ends c.work.ensures.same c.close-2.ensures.same
-
-pub returns-in_err-close-clause-ends : goal.returns-in_err-close-clause-ends
-returns-in_err-close-clause-ends g c = let view = g.E.Ends.view in same_ends_then (view c.args.ends.now) (view c.work.new.ends) (view c.close-2.new.ends) c.work.ensures.ends c.close-2.ensures.ends
-
-pub returns-clause-same : goal.returns-clause-same
-returns-clause-same g c = g.met.E.Ends.same_trans c.args.ends.now c.work.new.ends c.close-2.new.ends c.work.ensures.same c.close-2.ensures.same
-
-pub returns-clause-ends : goal.returns-clause-ends
-returns-clause-ends g c = let view = g.E.Ends.view in same_ends_then (view c.args.ends.now) (view c.work.new.ends) (view c.close-2.new.ends) c.work.ensures.ends c.close-2.ensures.ends
+pub returns-in_err-made : goal.returns-in_err-made
+returns-in_err-made g c = record {
+  same = c.work.ensures.same;
+  ends = c.work.ensures.ends;
+  visited = no_ok _ c.from_residual.result c.from_residual.ensures.0;
+  broke = on_err c.from_residual.result c.in_err-made.ensures.broke;
+}
