@@ -7,7 +7,7 @@ ghost use Rattle.flow_nodes.specs.StreamNodes.{node_behaviour};
 ghost use Rattle.flow_cut.specs.Loads.{IsDealing};
 ghost use Rattle.flow_dealing.specs.Weights.{IsWeighed};
 
-use crate::prices::Driven;
+use crate::prices::over_rings;
 use crate::trial::run_trial;
 use crate::tried::{SHORT, sum};
 use crate::weights::weights;
@@ -52,7 +52,7 @@ pub fn deal_by_trial(
 {
     let mut graph = graph;
     let counts = run_trial(alloc, &mut graph, capacity, SHORT)?;
-    let (work, links) = weights(alloc, Driven::OverRings, &graph, &counts)?;
+    let (work, links) = weights(alloc, over_rings(graph.edges()), &graph, &counts)?;
     let share = deal_by_cut(alloc, &work, &links, threads)?;
     let turns = by_turns(alloc, work.len(), threads)?;
     Ok(Dealing {

@@ -1,8 +1,9 @@
 // What messages cost, in picoseconds. In one thread: the least times of squares, wide, nest and deep at chunk 1,024 (docs/bench.svg),
 // spread over their messages, which tells each of them within a factor of one and a half; an element of `tab` and an index as
-// docs/TIMES.md has them. Over rings a message of a graph of some ten nodes takes one nanosecond at each end, and one of thousands,
-// whose rings lie in no cache, five. Between is the price; between threads a message takes more.
-ghost use Rattle.std.specs.Prelude.{◌<◌};
+// docs/TIMES.md has them. Over rings: the times of these programs, of row and of heavy in one thread and in four, where the nodes
+// are dealt by a cut.
+ghost use Rattle.std.specs.Prelude.{◌≡◌, ◌<◌, ◌≤◌};
+ghost use Rattle.flow_dealing.specs.declared.prices.Driven.TheVariants.{OverFewRings, OverManyRings};
 
 use flow_messages::Kind;
 use flow_nodes::StreamNode;
@@ -12,8 +13,25 @@ use flow_nodes::StreamNode;
 pub enum Driven {
     /// In one thread, without rings.
     Alone,
-    /// In several threads, where each edge is a ring.
-    OverRings,
+    /// In several threads, where each edge is a ring, and all rings lie in caches.
+    OverFewRings,
+    /// The same, with so many rings that they do not.
+    OverManyRings,
+}
+
+// So many rings lie in caches.
+const MOST_IN_CACHES: usize = 1_024;
+
+/// How nodes are driven in several threads, with so many edges between them.
+pub fn over_rings(edges: usize) -> Driven
+    ensures few { edges ≤ 1024 → result ≡ OverFewRings }
+    ensures many { 1024 < edges → result ≡ OverManyRings }
+{
+    if edges <= MOST_IN_CACHES {
+        Driven::OverFewRings
+    } else {
+        Driven::OverManyRings
+    }
 }
 
 /// What a message of this kind costs the node that reads or writes it.
@@ -33,8 +51,9 @@ fn passage(driven: Driven, kind: Kind) -> u64
         (Driven::Alone, Kind::Bool) => 140,
         (Driven::Alone, Kind::Int) => 280,
         (Driven::Alone, Kind::Vec) => 1_500,
-        (Driven::OverRings, Kind::Unit | Kind::Bool | Kind::Int) => 3_000,
-        (Driven::OverRings, Kind::Vec) => 5_000,
+        (Driven::OverFewRings, Kind::Unit | Kind::Bool | Kind::Int) => 550,
+        (Driven::OverManyRings, Kind::Unit | Kind::Bool | Kind::Int) => 1_500,
+        (Driven::OverFewRings | Driven::OverManyRings, Kind::Vec) => 5_000,
     }
 }
 

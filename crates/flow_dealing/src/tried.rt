@@ -9,7 +9,7 @@ ghost use Rattle.flow_nodes.specs.StreamNodes.{node_behaviour};
 ghost use Rattle.flow_cut.specs.Loads.{AreBetween};
 ghost use Rattle.flow_dealing.specs.Weights.{IsTrialOf};
 
-use crate::prices::Driven;
+use crate::prices::{Driven, over_rings};
 use crate::trial::run_trial;
 use crate::weights::weights;
 use flow_cut::Link;
@@ -54,7 +54,7 @@ pub fn try_out(
     let mut graph = graph;
     let counts = run_trial(alloc, &mut graph, capacity, messages)?;
     let (alone, _) = weights(alloc, Driven::Alone, &graph, &counts)?;
-    let (rings, links) = weights(alloc, Driven::OverRings, &graph, &counts)?;
+    let (rings, links) = weights(alloc, over_rings(graph.edges()), &graph, &counts)?;
     Ok(Tried {
         messages: sum(&counts),
         alone,

@@ -5,6 +5,7 @@ pub mod Followed
 pub mod Beside
 pub mod Owing
 pub mod Drained
+pub mod Told
 pub mod Settled
 pub mod RingLines
 pub mod InPlace

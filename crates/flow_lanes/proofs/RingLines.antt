@@ -213,6 +213,43 @@ module _ (ws : List (Option LaneWriter)) (rs : List (Option LaneReader)) (e : �
         more = (said.0, ap (λ xs. xs ++ said.0) had_coming ∙ said.1 ∙ sym now_coming);
       }
 
+  -- where all that counts of the reader is as it was, the view is too
+  pub reader-kept : received v ≡ received r → certain_held v ≡ certain_held r → till ≡ from
+  reader-kept taken held =
+      let by_received : (ℕ → List Signal) → View =
+      λ s. record {
+        sent = from.sent;
+        received = s;
+        coming = till.coming;
+        room = from.room;
+        kind = from.kind;
+        writes = from.writes;
+        reads = till.reads;
+      } in
+      let by_coming : (ℕ → List Signal) → View =
+      λ s. record {
+        sent = from.sent;
+        received = from.received;
+        coming = s;
+        room = from.room;
+        kind = from.kind;
+        writes = from.writes;
+        reads = till.reads;
+      } in
+      let by_reads : (ℕ → Bool) → View =
+      λ t. record {
+        sent = from.sent;
+        received = from.received;
+        coming = from.coming;
+        room = from.room;
+        kind = from.kind;
+        writes = from.writes;
+        reads = t;
+      } in
+      ap by_received (fun_ext (at_line-kept received_of rs e [] old (Some v) h is (ap signals taken ∙ sym (ap received_of was))))
+      ∙ ap by_coming (fun_ext (at_line-kept coming_of rs e [] old (Some v) h is (ap signals held ∙ sym (ap coming_of was))))
+      ∙ ap by_reads (fun_ext reader_ends.reads)
+
 -- where an end is there, the number is below the count
 pub at_line-there : {L : Type 0} (f : L → Bool) (ls : List L) (e : ℕ) → at_line f ls e false ≡ true → e < length ls
 at_line-there f [] e is = cc

@@ -1,7 +1,9 @@
 -- What a contract sees of the two ends of a lane.
-use Rattle.std.specs.Prelude.{◌≡◌, ℕ, ◌≤◌, List, [], Option, Some, ⊤}
+use Rattle.std.specs.Prelude.{◌≡◌, ℕ, ◌+◌, ◌≤◌, false, List, [], ◌∷◌, ◌++◌, Option, Some, ⊤}
+use mathlib.Core.List.{IsPrefix}
 use Rattle.flow_messages.specs.declared.message.Kind.{Kind}
 use Rattle.flow_messages.specs.declared.message.Msg.{Msg}
+use Rattle.flow_messages.specs.Signals.{signals, ended}
 use Rattle.flow_messages.specs.Stores.{content_of}
 use Rattle.flow_rings.specs.Edge as ring
 use Rattle.flow_words.specs.Edge as words
@@ -11,7 +13,7 @@ use Rattle.flow_lanes.specs.declared.ends.LaneReader.{LaneReader}
 use Rattle.flow_lanes.specs.declared.ends.LaneReader.TheVariants.{Messages as MessagesFrom, Scalars as ScalarsFrom}
 use Rattle.flow_lanes.specs.Many.{many_messages}
 use Rattle.flow_lanes.specs.Counted.{put_by, sure_room}
-use Rattle.flow_lanes.specs.Taken.{taken_from, held_in}
+use Rattle.flow_lanes.specs.Taken.{taken_from, held_in, HasTold}
 
 -- every message put so far, the oldest first
 abbrev pub sent : LaneWriter → List Msg
@@ -32,6 +34,11 @@ edge_capacity (ScalarsTo w) = words.edge_capacity w.edge
 abbrev pub IsOut : LaneWriter → Type 0
 IsOut (MessagesTo w) = ⊤
 IsOut (ScalarsTo w) = many_messages w.gathered.items ≡ []
+
+-- all that was taken is told, as far as there is room to tell it and its count is known
+abbrev pub IsTold : LaneReader → Type 0
+IsTold (MessagesFrom r) = ⊤
+IsTold (ScalarsFrom p) = HasTold p
 
 -- the kind of the items that this writer may put, or none where each may be put
 abbrev pub kind_of : LaneWriter → Option Kind
@@ -83,3 +90,39 @@ SameReader (MessagesFrom a) (MessagesFrom b) = ring.SameReader a b
 SameReader (MessagesFrom a) (ScalarsFrom q) = ⊥
 SameReader (ScalarsFrom p) (MessagesFrom b) = ⊥
 SameReader (ScalarsFrom p) (ScalarsFrom q) = words.SameReader p.edge q.edge × ring.SameWriter p.back q.back × (q.inbox.store.capacity ≡ p.inbox.store.capacity)
+
+-- nothing was put on the lane, which has places for so many messages
+abbrev pub IsNewWriter : LaneWriter → ℕ → Type 0
+IsNewWriter w capacity = (sent w ≡ []) × (certain_room w ≡ capacity) × (edge_capacity w ≡ capacity)
+
+-- no `End` was put on the lane
+abbrev pub IsNotClosed : LaneWriter → Type 0
+IsNotClosed w = ended (signals (sent w)) ≡ false
+
+-- the writer put nothing, and no room that was certain is lost
+abbrev pub WriterLooked : LaneWriter → LaneWriter → Type 0
+WriterLooked a b = (sent b ≡ sent a) × (certain_room a ≤ certain_room b)
+
+-- the reader took nothing, and what was certain is still certain
+abbrev pub ReaderLooked : LaneReader → LaneReader → Type 0
+ReaderLooked a b = (received b ≡ received a) × IsPrefix (certain_held a) (certain_held b)
+
+-- what was certain at either end is still certain
+abbrev pub StaysCertain : LaneWriter → LaneReader → LaneWriter → LaneReader → Type 0
+StaysCertain w r w' r' = (certain_room w ≤ certain_room w') × IsPrefix (certain_held r) (certain_held r')
+
+-- the writer put m after all others
+abbrev pub PutsOne : LaneWriter → Msg → LaneWriter → Type 0
+PutsOne a m b = (sent b ≡ sent a ++ m ∷ []) × (certain_room a ≤ certain_room b + 1)
+
+-- what was certain comes first of these and of what is certain after them
+abbrev pub KeepsCertain : LaneReader → List Msg → LaneReader → Type 0
+KeepsCertain a ms b = IsPrefix (certain_held a) (ms ++ certain_held b)
+
+-- the reader took m: the first of what was certain, where anything was
+abbrev pub TakesOne : LaneReader → Msg → LaneReader → Type 0
+TakesOne a m b = (received b ≡ received a ++ m ∷ []) × IsPrefix (certain_held a) (m ∷ certain_held b)
+
+-- the reader took nothing, and nothing was certain
+abbrev pub TakesNone : LaneReader → LaneReader → Type 0
+TakesNone a b = (received b ≡ received a) × (certain_held a ≡ []) × (certain_held b ≡ [])

@@ -9,7 +9,7 @@ use Rattle.flow_lanes.specs.declared.ends.LaneReader.{LaneReader}
 use Rattle.flow_rings.specs.declared.ring.Held.{Held}
 use Rattle.flow_lanes.specs.declared.rings.Rings.{Rings}
 use Rattle.flow_messages.specs.declared.message.Kind.{Kind}
-use Rattle.flow_lanes.specs.Lane.{kind_of, sent, received, certain_room, certain_held, edge_capacity, IsOut, SameWriter, SameReader, IsLane}
+use Rattle.flow_lanes.specs.Lane.{kind_of, sent, received, certain_room, certain_held, edge_capacity, IsOut, IsTold, SameWriter, SameReader, IsLane}
 
 -- what was put, where the writer is there
 abbrev pub sent_of : Option LaneWriter → List Signal
@@ -40,6 +40,11 @@ capacity_of (Some w) = edge_capacity w
 abbrev pub OutOf : Option LaneWriter → Type 0
 OutOf None = ⊤
 OutOf (Some w) = IsOut w
+
+-- all that was taken there is told
+abbrev pub ToldAt : Option LaneReader → Type 0
+ToldAt None = ⊤
+ToldAt (Some r) = IsTold r
 
 -- what was taken, where the reader is there
 abbrev pub received_of : Option LaneReader → List Signal
@@ -80,9 +85,9 @@ writer_at t e = slice_index_or t.writers.items e None
 abbrev pub reader_at : Rings → ℕ → Option LaneReader
 reader_at t e = slice_index_or t.readers.items e None
 
--- nothing is gathered in any writer
+-- nothing is kept back: nothing is gathered in any writer, and each reader told what it took
 abbrev pub AllOut : Rings → Type 0
-AllOut t = (k : ℕ) → OutOf (writer_at t k)
+AllOut t = ((k : ℕ) → OutOf (writer_at t k)) × ((k : ℕ) → ToldAt (reader_at t k))
 
 -- the same writer, or none in both
 abbrev pub SameWriters : Option LaneWriter → Option LaneWriter → Type 0

@@ -8,6 +8,8 @@ ghost use Rattle.flow_messages.specs.Contents.{unit_messages, flag_messages, int
 ghost use Rattle.flow_messages.specs.declared.message.Kind.TheVariants.{Unit as UnitKind, Bool as BoolKind, Int as IntKind};
 ghost use Rattle.flow_rings.specs.Edge.{received, SameReader};
 ghost use Rattle.flow_words.specs.Edge.{sent, kind_of, SameWriter, followed_unless_ended};
+ghost use Rattle.flow_lanes.specs.declared.ends.LaneWriter.TheVariants.{Scalars as ScalarsTo};
+ghost use Rattle.flow_lanes.specs.Lane.{IsNotClosed, PutsOne, WriterLooked};
 ghost use Rattle.flow_lanes.specs.Counted.{put_by, sure_room};
 ghost use Rattle.flow_lanes.specs.Credits.{credit, number_in};
 ghost use Rattle.flow_lanes.specs.Many.{many_messages};
@@ -76,15 +78,13 @@ impl CountedWriter {
         requires fits { FitsEdge (Some (kind_of self.old.edge)) (signal_of message) }
         ensures edge { SameWriter self.old.edge self.new.edge }
         ensures back { SameReader self.old.back self.new.back }
-        ensures ok { OnOk result ((put_by self.new ≡ put_by self.old ++ message ∷ []) ×
-            (sure_room self.old ≤ sure_room self.new + 1)) }
-        ensures refused { IfErr result (λ e. (e.message ≡ message) ×
-            (put_by self.new ≡ put_by self.old) × (sure_room self.old ≤ sure_room self.new)) }
+        ensures ok { OnOk result (PutsOne (ScalarsTo self.old) message (ScalarsTo self.new)) }
+        ensures returned { IfErr result (λ e. e.message ≡ message) }
+        ensures refused { IfErr result (λ _. WriterLooked (ScalarsTo self.old) (ScalarsTo self.new)) }
         ensures closed { IsErrAnd result (λ e. e.why ≡ Closed) ↔
             (ended (signals (put_by self.old)) ≡ true) }
         ensures full { IsErrAnd result (λ e. e.why ≡ Full) → sure_room self.new ≡ 0 }
-        ensures succeeds { ended (signals (put_by self.old)) ≡ false →
-            0 < sure_room self.old → IsOk result }
+        ensures succeeds { IsNotClosed (ScalarsTo self.old) → 0 < sure_room self.old → IsOk result }
     {
         let has_room = self.has_room();
         if !has_room || self.edge.is_closed() {

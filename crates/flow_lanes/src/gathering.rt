@@ -6,6 +6,7 @@ ghost use Rattle.flow_messages.specs.Contents.{unit_messages, flag_messages, int
 ghost use Rattle.flow_messages.specs.declared.message.Kind.TheVariants.{Unit as UnitKind, Bool as BoolKind, Int as IntKind, Vec as VecKind};
 ghost use Rattle.flow_words.specs.Edge.{sent, certain_room, kind_of, SameWriter, followed_unless_ended};
 ghost use Rattle.flow_lanes.specs.Many.{many_messages, many_kind, places_for};
+ghost use Rattle.flow_lanes.specs.Counted.{gathered_in, put_by_both, KeepsRoomBut};
 
 use crate::gathered::{Gathered, Many};
 use flow_messages::{Item, Kind, Msg};
@@ -66,7 +67,7 @@ impl Gathered {
     // How many are gathered.
     #[inline(always)]
     pub(crate) fn len(&self) -> usize
-        ensures { result ≡ length (many_messages self.now.items) }
+        ensures { result ≡ length (gathered_in self.now) }
     {
         match &self.items {
             Many::Units(count) => *count,
@@ -79,7 +80,7 @@ impl Gathered {
     #[inline(always)]
     fn has_places(&self, count: usize) -> bool
         ensures { IsTrue result ↔
-            (length (many_messages self.now.items) + count ≤ self.now.most) }
+            (length (gathered_in self.now) + count ≤ self.now.most) }
     {
         count <= self.most - self.len()
     }
@@ -88,10 +89,10 @@ impl Gathered {
     #[inline(always)]
     pub(crate) fn add_units(&mut self, count: usize)
         requires kind { many_kind self.old.items ≡ UnitKind }
-        requires places { length (many_messages self.old.items) + count ≤ self.old.most }
+        requires places { length (gathered_in self.old) + count ≤ self.old.most }
         ensures kind { many_kind self.new.items ≡ many_kind self.old.items }
-        ensures added { many_messages self.new.items ≡
-            many_messages self.old.items ++ unit_messages count }
+        ensures added { gathered_in self.new ≡
+            gathered_in self.old ++ unit_messages count }
     {
         match &mut self.items {
             Many::Units(gathered) => *gathered += count,
@@ -103,11 +104,11 @@ impl Gathered {
     #[inline(always)]
     pub(crate) fn add_flags(&mut self, flags: &[bool])
         requires kind { many_kind self.old.items ≡ BoolKind }
-        requires places { length (many_messages self.old.items) + length flags.now ≤
+        requires places { length (gathered_in self.old) + length flags.now ≤
             self.old.most }
         ensures kind { many_kind self.new.items ≡ many_kind self.old.items }
-        ensures added { many_messages self.new.items ≡
-            many_messages self.old.items ++ flag_messages flags.now }
+        ensures added { gathered_in self.new ≡
+            gathered_in self.old ++ flag_messages flags.now }
     {
         match &mut self.items {
             Many::Flags(gathered) => append(gathered, flags),
@@ -119,11 +120,11 @@ impl Gathered {
     #[inline(always)]
     pub(crate) fn add_ints(&mut self, ints: &[i64])
         requires kind { many_kind self.old.items ≡ IntKind }
-        requires places { length (many_messages self.old.items) + length ints.now ≤
+        requires places { length (gathered_in self.old) + length ints.now ≤
             self.old.most }
         ensures kind { many_kind self.new.items ≡ many_kind self.old.items }
-        ensures added { many_messages self.new.items ≡
-            many_messages self.old.items ++ int_messages ints.now }
+        ensures added { gathered_in self.new ≡
+            gathered_in self.old ++ int_messages ints.now }
     {
         match &mut self.items {
             Many::Ints(gathered) => append(gathered, ints),
@@ -134,12 +135,12 @@ impl Gathered {
     // Whether the message is a scalar of 64 bits at most and of the kind. Then it is gathered.
     #[inline(always)]
     fn add(&mut self, message: &Msg) -> bool
-        requires { length (many_messages self.old.items) < self.old.most }
+        requires { length (gathered_in self.old) < self.old.most }
         ensures kind { many_kind self.new.items ≡ many_kind self.old.items }
-        ensures added { IsTrue result → many_messages self.new.items ≡
-            many_messages self.old.items ++ message.now ∷ [] }
+        ensures added { IsTrue result → gathered_in self.new ≡
+            gathered_in self.old ++ message.now ∷ [] }
         ensures kept { result ≡ false →
-            many_messages self.new.items ≡ many_messages self.old.items }
+            gathered_in self.new ≡ gathered_in self.old }
     {
         match (&mut self.items, message) {
             (Many::Units(gathered), Msg::Item(Item::Unit)) => {
@@ -165,14 +166,14 @@ impl Gathered {
     #[inline(never)]
     pub(crate) fn put_on(&mut self, edge: &mut WordWriter)
         requires kind { many_kind self.old.items ≡ kind_of edge.old }
-        requires certain { length (many_messages self.old.items) ≤ certain_room edge.old }
-        ensures none { many_messages self.new.items ≡ [] }
+        requires certain { length (gathered_in self.old) ≤ certain_room edge.old }
+        ensures none { gathered_in self.new ≡ [] }
         ensures kind { many_kind self.new.items ≡ many_kind self.old.items }
         ensures same { SameWriter edge.old edge.new }
         ensures put { sent edge.new ≡
-            followed_unless_ended (sent edge.old) (many_messages self.old.items) }
+            followed_unless_ended (sent edge.old) (gathered_in self.old) }
         ensures room { certain_room edge.old ≤
-            certain_room edge.new + length (many_messages self.old.items) }
+            certain_room edge.new + length (gathered_in self.old) }
     {
         match &mut self.items {
             Many::Units(gathered) => {
@@ -194,18 +195,16 @@ impl Gathered {
     #[inline(always)]
     pub(crate) fn makes_places(&mut self, edge: &mut WordWriter, count: usize) -> bool
         requires kind { many_kind self.old.items ≡ kind_of edge.old }
-        requires certain { length (many_messages self.old.items) ≤ certain_room edge.old }
+        requires certain { length (gathered_in self.old) ≤ certain_room edge.old }
         requires open { ended (signals (sent edge.old)) ≡ false }
         ensures kind { many_kind self.new.items ≡ many_kind self.old.items }
         ensures same { SameWriter edge.old edge.new }
-        ensures kept { sent edge.new ++ many_messages self.new.items ≡
-            sent edge.old ++ many_messages self.old.items }
+        ensures kept { put_by_both self.new edge.new ≡ put_by_both self.old edge.old }
         ensures open { ended (signals (sent edge.new)) ≡ false }
-        ensures room { certain_room edge.old + length (many_messages self.new.items) ≤
-            certain_room edge.new + length (many_messages self.old.items) }
+        ensures room { KeepsRoomBut 0 self.old edge.old self.new edge.new }
         ensures places { IsTrue result →
-            length (many_messages self.new.items) + count ≤ self.new.most }
-        ensures alone { result ≡ false → many_messages self.new.items ≡ [] }
+            length (gathered_in self.new) + count ≤ self.new.most }
+        ensures alone { result ≡ false → gathered_in self.new ≡ [] }
     {
         if self.has_places(count) {
             return true;
@@ -221,19 +220,17 @@ impl Gathered {
     #[inline(always)]
     pub(crate) fn gathers(&mut self, edge: &mut WordWriter, message: &Msg) -> bool
         requires kind { many_kind self.old.items ≡ kind_of edge.old }
-        requires certain { length (many_messages self.old.items) ≤ certain_room edge.old }
+        requires certain { length (gathered_in self.old) ≤ certain_room edge.old }
         requires open { ended (signals (sent edge.old)) ≡ false }
         ensures kind { many_kind self.new.items ≡ many_kind self.old.items }
         ensures same { SameWriter edge.old edge.new }
-        ensures added { IsTrue result → (sent edge.new ++ many_messages self.new.items ≡
-            (sent edge.old ++ many_messages self.old.items) ++ message.now ∷ []) ×
-            (certain_room edge.old + length (many_messages self.new.items) ≤
-            certain_room edge.new + length (many_messages self.old.items) + 1) }
+        ensures added { IsTrue result →
+            put_by_both self.new edge.new ≡ put_by_both self.old edge.old ++ message.now ∷ [] }
+        ensures used { IsTrue result → KeepsRoomBut 1 self.old edge.old self.new edge.new }
         ensures open { ended (signals (sent edge.new)) ≡ false }
-        ensures alone { result ≡ false → (many_messages self.new.items ≡ []) ×
-            (sent edge.new ≡ sent edge.old ++ many_messages self.old.items) ×
-            (certain_room edge.old ≤
-            certain_room edge.new + length (many_messages self.old.items)) }
+        ensures alone { result ≡ false → gathered_in self.new ≡ [] }
+        ensures out { result ≡ false → sent edge.new ≡ put_by_both self.old edge.old }
+        ensures room { result ≡ false → KeepsRoomBut 0 self.old edge.old self.new edge.new }
     {
         if !self.makes_places(edge, 1) {
             return false;

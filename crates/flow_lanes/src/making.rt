@@ -2,7 +2,7 @@
 ghost use Rattle.std.specs.Prelude.{◌≡◌, ◌<◌, ◌≤◌, [], IfOk};
 ghost use Rattle.flow_messages.specs.Kinds.{TakesKind};
 ghost use Rattle.flow_messages.specs.Limits.{greatest_capacity};
-ghost use Rattle.flow_lanes.specs.Lane.{sent, received, certain_room, certain_held, edge_capacity, kind_of, IsLane};
+ghost use Rattle.flow_lanes.specs.Lane.{sent, received, certain_room, certain_held, edge_capacity, kind_of, IsLane, IsNewWriter};
 
 use crate::counted::CountedWriter;
 use crate::counting::NUMBERS;
@@ -29,8 +29,7 @@ pub fn lane(
     requires some { 0 < capacity }
     requires limit { capacity ≤ greatest_capacity }
     ensures pair { IfOk result (λ r. IsLane r.0 r.1) }
-    ensures writer { IfOk result (λ r. (sent r.0 ≡ []) × (certain_room r.0 ≡ capacity) ×
-        (edge_capacity r.0 ≡ capacity)) }
+    ensures writer { IfOk result (λ r. IsNewWriter r.0 capacity) }
     ensures reader { IfOk result (λ r. (received r.1 ≡ []) × (certain_held r.1 ≡ [])) }
     ensures kind { IfOk result (λ r. TakesKind (kind_of r.0) kind) }
 {

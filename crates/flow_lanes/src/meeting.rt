@@ -10,7 +10,7 @@ ghost use Rattle.flow_lanes.specs.Credits.{credit, Owes};
 ghost use Rattle.flow_lanes.specs.Taken.{taken_from, held_in};
 ghost use Rattle.flow_lanes.specs.Counted.{put_by, sure_room};
 ghost use Rattle.flow_lanes.specs.Many.{many_messages};
-ghost use Rattle.flow_lanes.specs.Lane.{sent, received, certain_room, certain_held, edge_capacity, IsLane, IsOut, SameWriter, SameReader};
+ghost use Rattle.flow_lanes.specs.Lane.{sent, received, certain_room, certain_held, edge_capacity, IsLane, IsOut, SameWriter, SameReader, StaysCertain};
 
 use crate::counted::CountedWriter;
 use crate::ends::{LaneReader, LaneWriter};
@@ -28,8 +28,7 @@ pub fn meet_lane(writer: &mut LaneWriter, reader: &mut LaneReader) -> Held
     ensures writer { SameWriter writer.old writer.new × (sent writer.new ≡ sent writer.old) }
     ensures reader { SameReader reader.old reader.new ×
         (received reader.new ≡ received reader.old) }
-    ensures looked { (certain_room writer.old ≤ certain_room writer.new) ×
-        IsPrefix (certain_held reader.old) (certain_held reader.new) }
+    ensures looked { StaysCertain writer.old reader.old writer.new reader.new }
     ensures pair { IsLane writer.new reader.new }
     ensures fifo { received reader.new ++ certain_held reader.new ≡ sent writer.new }
     ensures count { result.count ≡ length (certain_held reader.new) }

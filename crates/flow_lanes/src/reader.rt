@@ -6,7 +6,7 @@ ghost use Rattle.flow_messages.specs.Contents.{unit_messages, flag_messages, int
 ghost use Rattle.flow_messages.specs.Flats.{scalar_first};
 ghost use Rattle.flow_messages.specs.Kinds.{FitsEdge};
 ghost use Rattle.flow_messages.specs.Signals.{signals, signal_of, ended};
-ghost use Rattle.flow_lanes.specs.Lane.{received, certain_held, reader_kind, SameReader};
+ghost use Rattle.flow_lanes.specs.Lane.{received, certain_held, reader_kind, IsTold, KeepsCertain, ReaderLooked, SameReader, TakesNone, TakesOne};
 
 use crate::ends::LaneReader;
 use crate::taking::take_each;
@@ -17,8 +17,7 @@ impl LaneReader {
     #[inline(always)]
     pub fn ready(&mut self) -> bool
         ensures same { SameReader self.old self.new }
-        ensures looked { (received self.new ≡ received self.old) ×
-            IsPrefix (certain_held self.old) (certain_held self.new) }
+        ensures looked { ReaderLooked self.old self.new }
         ensures value { IsTrue result ↔ (0 < length (certain_held self.new)) }
     {
         match self {
@@ -34,8 +33,7 @@ impl LaneReader {
     #[inline(always)]
     pub fn scalar_is_next(&mut self) -> bool
         ensures same { SameReader self.old self.new }
-        ensures looked { (received self.new ≡ received self.old) ×
-            IsPrefix (certain_held self.old) (certain_held self.new) }
+        ensures looked { ReaderLooked self.old self.new }
         ensures value { result ≡ scalar_first (signals (certain_held self.new)) }
     {
         match self {
@@ -52,10 +50,8 @@ impl LaneReader {
     #[inline(always)]
     pub fn take(&mut self) -> Option<Msg>
         ensures same { SameReader self.old self.new }
-        ensures some { IfSome result (λ m. (received self.new ≡ received self.old ++ m ∷ []) ×
-            IsPrefix (certain_held self.old) (m ∷ certain_held self.new)) }
-        ensures none { IfNone result ((received self.new ≡ received self.old) ×
-            (certain_held self.old ≡ []) × (certain_held self.new ≡ [])) }
+        ensures some { IfSome result (λ m. TakesOne self.old m self.new) }
+        ensures none { IfNone result (TakesNone self.old self.new) }
         ensures open { IfSome result (λ _. ended (signals (received self.old)) ≡ false) }
         ensures fits { IfSome result (λ m. FitsEdge (reader_kind self.old) (signal_of m)) }
         ensures succeeds { 0 < length (certain_held self.old) → IsSome result }
@@ -73,12 +69,25 @@ impl LaneReader {
         ensures same { SameReader self.old self.new }
         ensures taken { received self.new ≡
             received self.old ++ take count (certain_held self.old) }
-        ensures ahead { IsPrefix (certain_held self.old)
-            (take count (certain_held self.old) ++ certain_held self.new) }
+        ensures ahead { KeepsCertain self.old (take count (certain_held self.old)) self.new }
     {
         match self {
             LaneReader::Scalars(pocket) => pocket.take_many(count),
             LaneReader::Messages(edge) => take_each(edge, count),
+        }
+    }
+
+    /// Tells the writer how many messages were taken, where there is room to tell it.
+    #[inline(always)]
+    pub fn tell(&mut self)
+        ensures same { SameReader self.old self.new }
+        ensures taken { received self.new ≡ received self.old }
+        ensures held { certain_held self.new ≡ certain_held self.old }
+        ensures told { IsTold self.new }
+    {
+        match self {
+            LaneReader::Messages(_) => {}
+            LaneReader::Scalars(pocket) => pocket.tell(),
         }
     }
 

@@ -1,6 +1,6 @@
 // What is called at the ring ends that a share of a network owns.
 ghost use Rattle.std.specs.Prelude.{◌≡◌, ◌≢◌, ◌<◌, ℕ, Some, None, length, slice_set, IfOk};
-ghost use Rattle.flow_lanes.specs.Rings.{ends_of, writer_at, reader_at, OutOf, SameRings, Joins, Kept, RingsHaveMet};
+ghost use Rattle.flow_lanes.specs.Rings.{ends_of, writer_at, reader_at, OutOf, ToldAt, SameRings, Joins, Kept, RingsHaveMet};
 
 use crate::ends::{LaneReader, LaneWriter};
 use crate::meeting::meet_lane;
@@ -153,6 +153,9 @@ impl Ends for Rings {
         for edge in 0..self.writers.len() {
             self.put_out_at(edge);
         }
+        for edge in 0..self.readers.len() {
+            self.tell_at(edge);
+        }
     }
 
     ghost same_refl = { same_rings_refl };
@@ -225,6 +228,21 @@ impl Rings {
     {
         if let Some(writer) = &mut self.writers[edge] {
             writer.put_out();
+        }
+    }
+
+    // The reader of one edge tells how many messages it took, where it is here.
+    #[inline(always)]
+    fn tell_at(&mut self, edge: usize)
+        requires { edge < length self.old.readers.items }
+        ensures same { SameRings self.old self.new }
+        ensures view { ends_of self.new ≡ ends_of self.old }
+        ensures told { ToldAt (reader_at self.new edge) }
+        ensures others { (k : ℕ) → k ≢ edge → reader_at self.new k ≡ reader_at self.old k }
+        ensures writers { self.new.writers.items ≡ self.old.writers.items }
+    {
+        if let Some(reader) = &mut self.readers[edge] {
+            reader.tell();
         }
     }
 

@@ -6,12 +6,14 @@ ghost use Rattle.flow_messages.specs.declared.message.Msg.TheVariants.{Item as I
 ghost use Rattle.flow_messages.specs.declared.message.Item.TheVariants.{Int as IntItem};
 ghost use Rattle.flow_messages.specs.Stores.{content_of};
 ghost use Rattle.flow_boxes.specs.Received.{received_of};
-ghost use Rattle.flow_rings.specs.Edge.{certain_held, certain_room, kind_of, received, SameReader, SameWriter};
+ghost use Rattle.flow_rings.specs.Edge.{certain_held, certain_room, kind_of, received, KeepsCertain, SameReader, SameWriter};
 ghost use Rattle.flow_words.specs.Edge as words;
 ghost use Rattle.flow_messages.specs.Kinds.{FitsEdge};
 ghost use Rattle.flow_messages.specs.Signals.{signals, signal_of, ended};
 ghost use Rattle.flow_lanes.specs.Credits.{Owes};
-ghost use Rattle.flow_lanes.specs.Taken.{taken_from, held_in};
+ghost use Rattle.flow_lanes.specs.declared.ends.LaneReader.TheVariants.{Scalars as ScalarsFrom};
+ghost use Rattle.flow_lanes.specs.Lane.{reader_kind, TakesNone, TakesOne};
+ghost use Rattle.flow_lanes.specs.Taken.{taken_from, held_in, HasTold};
 
 use crate::pocket::Pocket;
 use flow_history::History;
@@ -40,6 +42,8 @@ pub(crate) fn tell(back: &mut EdgeWriter, owed: u64) -> u64
     ensures owes { (taken : ℕ) → Owes taken owed back.old → Owes taken result back.new }
     ensures told { (taken : ℕ) → Owes taken owed back.old → 0 < certain_room back.old →
         owed < 2 ^ 64 - 1 → result ≡ 0 }
+    ensures rest { (taken : ℕ) → Owes taken owed back.old → 0 < certain_room back.new →
+        result < 2 ^ 64 - 1 → result ≡ 0 }
 {
     if owed == 0 || owed == u64::MAX {
         return owed;
@@ -56,8 +60,7 @@ pub(crate) fn take_each(reader: &mut EdgeReader, count: usize)
     ensures same { SameReader reader.old reader.new }
     ensures taken { received reader.new ≡
         received reader.old ++ take count (certain_held reader.old) }
-    ensures ahead { IsPrefix (certain_held reader.old)
-        (take count (certain_held reader.old) ++ certain_held reader.new) }
+    ensures ahead { KeepsCertain reader.old (take count (certain_held reader.old)) reader.new }
 {
     for _ in 0..count {
         let _ = reader.take();
@@ -79,7 +82,7 @@ impl Pocket {
     {
         self.take_over();
         if self.inbox.store.len() == 0 {
-            self.owed = tell(&mut self.back, self.owed);
+            self.tell();
         }
     }
 
@@ -158,8 +161,19 @@ impl Pocket {
     {
         let quarter = self.inbox.store.capacity / 4;
         if self.owed >= quarter as u64 {
-            self.owed = tell(&mut self.back, self.owed);
+            self.tell();
         }
+    }
+
+    // Tells the writer how many were taken, where there is room for that.
+    #[inline(always)]
+    pub(crate) fn tell(&mut self)
+        ensures edge { self.new.edge ≡ self.old.edge }
+        ensures inbox { self.new.inbox ≡ self.old.inbox }
+        ensures back { SameWriter self.old.back self.new.back }
+        ensures told { HasTold self.new }
+    {
+        self.owed = tell(&mut self.back, self.owed);
     }
 
     // Takes the oldest message, if there is one.
@@ -168,12 +182,10 @@ impl Pocket {
         ensures edge { words.SameReader self.old.edge self.new.edge }
         ensures back { SameWriter self.old.back self.new.back }
         ensures places { self.new.inbox.store.capacity ≡ self.old.inbox.store.capacity }
-        ensures some { IfSome result (λ m. (taken_from self.new ≡ taken_from self.old ++ m ∷ []) ×
-            IsPrefix (held_in self.old) (m ∷ held_in self.new)) }
-        ensures none { IfNone result ((taken_from self.new ≡ taken_from self.old) ×
-            (held_in self.old ≡ []) × (held_in self.new ≡ [])) }
+        ensures some { IfSome result (λ m. TakesOne (ScalarsFrom self.old) m (ScalarsFrom self.new)) }
+        ensures none { IfNone result (TakesNone (ScalarsFrom self.old) (ScalarsFrom self.new)) }
         ensures open { IfSome result (λ _. ended (signals (taken_from self.old)) ≡ false) }
-        ensures fits { IfSome result (λ m. FitsEdge (Some (words.reader_kind self.old.edge)) (signal_of m)) }
+        ensures fits { IfSome result (λ m. FitsEdge (reader_kind (ScalarsFrom self.old)) (signal_of m)) }
         ensures succeeds { 0 < length (held_in self.old) → IsSome result }
     {
         self.fill_if_empty();

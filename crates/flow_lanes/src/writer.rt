@@ -7,7 +7,7 @@ ghost use Rattle.flow_messages.specs.Contents.{unit_messages, flag_messages, int
 ghost use Rattle.flow_messages.specs.declared.message.Kind.TheVariants.{Unit as UnitKind, Bool as BoolKind, Int as IntKind};
 ghost use Rattle.flow_messages.specs.declared.ends.Why.TheVariants.{Full, Closed};
 ghost use Rattle.flow_words.specs.Edge.{followed_unless_ended};
-ghost use Rattle.flow_lanes.specs.Lane.{sent, certain_room, kind_of, SameWriter, IsOut};
+ghost use Rattle.flow_lanes.specs.Lane.{sent, certain_room, kind_of, IsNotClosed, IsOut, PutsOne, SameWriter, WriterLooked};
 
 use crate::ends::LaneWriter;
 use crate::scalars::{put_each, put_units_each};
@@ -23,15 +23,12 @@ impl LaneWriter {
     pub fn put(&mut self, message: Msg) -> Result<(), Refused>
         requires fits { FitsEdge (kind_of self.old) (signal_of message) }
         ensures same { SameWriter self.old self.new }
-        ensures ok { OnOk result ((sent self.new ≡ sent self.old ++ message ∷ []) ×
-            (certain_room self.old ≤ certain_room self.new + 1)) }
-        ensures refused { IfErr result (λ e. (e.message ≡ message) ×
-            (sent self.new ≡ sent self.old) × (certain_room self.old ≤ certain_room self.new)) }
+        ensures ok { OnOk result (PutsOne self.old message self.new) }
+        ensures refused { IfErr result (λ e. (e.message ≡ message) × WriterLooked self.old self.new) }
         ensures closed { IsErrAnd result (λ e. e.why ≡ Closed) ↔
             (ended (signals (sent self.old)) ≡ true) }
         ensures full { IsErrAnd result (λ e. e.why ≡ Full) → certain_room self.new ≡ 0 }
-        ensures succeeds { ended (signals (sent self.old)) ≡ false → 0 < certain_room self.old →
-            IsOk result }
+        ensures succeeds { IsNotClosed self.old → 0 < certain_room self.old → IsOk result }
     {
         match self {
             LaneWriter::Messages(edge) => edge.put(message),
@@ -115,8 +112,7 @@ impl LaneWriter {
     #[inline(always)]
     pub fn space(&mut self) -> usize
         ensures same { SameWriter self.old self.new }
-        ensures looked { (sent self.new ≡ sent self.old) ×
-            (certain_room self.old ≤ certain_room self.new) }
+        ensures looked { WriterLooked self.old self.new }
         ensures value { result ≡ certain_room self.new }
     {
         match self {
@@ -129,8 +125,7 @@ impl LaneWriter {
     #[inline(always)]
     pub fn room(&mut self) -> bool
         ensures same { SameWriter self.old self.new }
-        ensures looked { (sent self.new ≡ sent self.old) ×
-            (certain_room self.old ≤ certain_room self.new) }
+        ensures looked { WriterLooked self.old self.new }
         ensures value { IsTrue result ↔ (0 < certain_room self.new) }
     {
         match self {

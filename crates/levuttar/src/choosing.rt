@@ -13,6 +13,13 @@ const TOLD: [&str; 6] = ["drive", "threads", "chunk", "capacity", "idle", "deal"
 // The capacities that are tried where none is given, while the program stalls. The first is in `choice_of`.
 pub(crate) const GREATER: [usize; 3] = [4096, 16384, 65536];
 
+// The first capacity where several threads run. They wait for one another less often over longer rings.
+pub(crate) const FOR_THREADS: usize = 4096;
+
+// Why it is chosen.
+pub(crate) const REASON_FOR_THREADS: &str =
+    "chosen, for threads; where the program stalls, 16384 and 65536 are tried";
+
 // The option that asks what was chosen.
 pub(crate) fn explain_word<'a>(alloc: Global) -> Arg<'a> {
     Arg::new(alloc, "explain")
@@ -29,6 +36,7 @@ pub(crate) fn gives_capacity(matches: &ArgMatches<'_>) -> bool {
 // What is chosen for an option that is not given. Where nothing is, it is as for `snesl`.
 pub(crate) fn choice_of(name: &str, matches: &ArgMatches<'_>) -> Option<&'static str> {
     match name {
+        "capacity" if speaks_of_threads(matches) => Some("4096"),
         "capacity" => Some("1024"),
         "chunk" => Some("1024"),
         "drive" if speaks_of_threads(matches) || is_watched(matches) => Some("rings"),
@@ -46,6 +54,7 @@ pub(crate) fn speaks_of_threads(matches: &ArgMatches<'_>) -> bool {
 // Why that is chosen.
 fn reason_of(name: &str, matches: &ArgMatches<'_>) -> &'static str {
     match name {
+        "capacity" if speaks_of_threads(matches) => REASON_FOR_THREADS,
         "capacity" => "chosen; where the program stalls, 4096, 16384 and 65536 are tried",
         "chunk" => "chosen; long visits of a node take the least time for each element",
         "drive" if speaks_of_threads(matches) => "chosen, since an option speaks of threads",
@@ -67,7 +76,7 @@ pub(crate) fn explain<E: Write>(
             if let Some(value) = matches.get_str(name) {
                 explain_one(alloc, name, value, "as given", err)?;
             } else if let Some(foretold) = foretold
-                && tells(name)
+                && tells(name, foretold)
             {
                 explain_foretold(alloc, name, foretold, err)?;
             } else if let Some(value) = choice_of(name, matches) {

@@ -1,6 +1,6 @@
 // Threads, where no option speaks of them and a short run foretells that they pay.
 
-use crate::choosing::speaks_of_threads;
+use crate::choosing::{FOR_THREADS, REASON_FOR_THREADS, gives_capacity, speaks_of_threads};
 use crate::dealing::say_shares;
 use crate::reading::Job;
 use crate::voice::Voice;
@@ -60,6 +60,9 @@ pub(crate) fn foretell(
         config.share = choice.share.clone().ok()?;
         config.threads = choice.threads;
         config.drive = Drive::Rings;
+        if !gives_capacity(matches) {
+            config.capacity = FOR_THREADS;
+        }
     }
     Some(foretold)
 }
@@ -120,8 +123,11 @@ fn foretold_by(
 }
 
 // Whether a short run foretells something of this option.
-pub(crate) fn tells(name: &str) -> bool {
-    matches!(name, "drive" | "threads" | "idle" | "deal")
+pub(crate) fn tells(name: &str, foretold: &Foretold) -> bool {
+    match (name, &foretold.choice) {
+        ("capacity", Some(choice)) => choice.threads > 1,
+        _ => matches!(name, "drive" | "threads" | "idle" | "deal"),
+    }
 }
 
 // Tells what a short run foretells of an option, where it does.
@@ -158,6 +164,10 @@ fn explain_threads<E: Write>(
         let line = format!(in alloc;
             "threads {threads}: chosen, since least is foretold of them\n"
         )?;
+        let _ = err.say(line.as_bytes());
+    }
+    if name == "capacity" {
+        let line = format!(in alloc; "capacity {FOR_THREADS}: {REASON_FOR_THREADS}\n")?;
         let _ = err.say(line.as_bytes());
     }
     if name == "deal" {

@@ -70,6 +70,9 @@ fn ended_by_growth<
         if !has_stalled(&outcome) {
             return (outcome, None);
         }
+        if capacity <= config.capacity {
+            continue;
+        }
         say_again(rt.alloc(), config.capacity, capacity, err);
         config.capacity = capacity;
         outcome = ended_under(rt, matches, job, &config, on_terminal, out);

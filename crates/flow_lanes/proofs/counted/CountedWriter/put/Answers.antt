@@ -27,18 +27,19 @@ pub invariant_of-self-2 : goal.invariant_of-self-2
 invariant_of-self-2 c =
     let s = c.has_room-has_room.new.self in
     let edge = c.gathers.new.edge in
-    let alone = c.gathers.ensures.alone c.if-gathers.false in
-    let none = ap length alone.0 in
+    let none = ap length (c.gathers.ensures.alone c.if-gathers.false) in
+    let out = c.gathers.ensures.out c.if-gathers.false in
+    let left = c.gathers.ensures.room c.if-gathers.false in
     let gathered = length (many_messages s.gathered.items) in
     let some = c.has_room-has_room.ensures.value.0 c.if-not-has_room.false in
-    let room : 0 < certain_room edge = omega (arith, some, alone.2, s.sure) in
+    let room : 0 < certain_room edge = omega (arith, some, left, none, s.sure) in
     let put = ok_holds c.put.result (c.put.ensures.succeeds c.gathers.ensures.open room) c.put.ensures.ok in
     let longer : length (sent c.put.new.self) ≡ length (sent s.edge) + gathered + 1 = ap length put.0
     ∙ length-append (sent edge) (c.args.message ∷ [])
-    ∙ ap (λ n. n + 1) (ap length alone.1 ∙ length-append (sent s.edge) (many_messages s.gathered.items)) in
+    ∙ ap (λ n. n + 1) (ap length out ∙ length-append (sent s.edge) (many_messages s.gathered.items)) in
     record {
       kind = c.gathers.ensures.kind ∙ s.kind ∙ sym (ap (λ of. of.0) (c.put.ensures.same.0 ∙ c.gathers.ensures.same.0));
-      sure = omega (arith, some, none, put.1, alone.2, s.sure);
+      sure = omega (arith, some, none, put.1, left, s.sure);
       closed = λ _. none;
       places = c.put.ensures.same.1 ∙ c.gathers.ensures.same.1 ∙ s.places;
       limit = s.limit;

@@ -32,7 +32,7 @@ returns-clause-refused c =
     (λ e p. (
       p.0,
       writer-looked ws c.args.self.now.readers.items c.args.edge _ c.in-Some.writer _
-          (at_line-there writes_of ws c.args.edge c.requires.writes) c.index_mut.ensures.value c.in-Some.is c.put.ensures.same p.1 p.2,
+          (at_line-there writes_of ws c.args.edge c.requires.writes) c.index_mut.ensures.value c.in-Some.is c.put.ensures.same p.1.0 p.1.1,
     ))
     c.put.ensures.refused
 
