@@ -1,5 +1,5 @@
 """Measures the program `snesl`, or SNESL where it is named, beside its peers of bench/peers, all in one sitting and by turns, and
-prints a table. It takes some minutes.
+prints a table. It takes some ten minutes.
 
 The peers are plain Rust without a proof, which cargo builds here: an unproved twin of the drive, whole vectors, a plain loop, and
 a thread a node over channels. All answers have to be the same. The twin and the threads have no nodes for vectors, so two
@@ -10,9 +10,8 @@ the processor for what runs in one thread, and by the clock for what runs in sev
 `perf` where it can count, and else by valgrind, at fewer elements.
 
 With --threads the product is measured by rings of so many threads too, at the defaults, and with capacity 4,096 at chunk 256 and
-1,024; for more than one thread with neighbours apart, and in parts: ten nodes that follow one another lie in one thread, and of
-heavy as many as can. A last table tells when threads pay: the best of each number beside one thread without rings, all by the
-clock."""
+1,024; for more than one thread with neighbours apart, and by `levuttar`, or LEVUTTAR where it is named, which deals the nodes by a
+cut. A last table tells when threads pay: the best of each number beside one thread without rings, all by the clock."""
 
 import argparse
 import collections
@@ -34,20 +33,24 @@ SETTINGS = [(16, 256), (256, 256), (16, 4_096), (256, 4_096), (1_024, 1_024)]
 RING_SETTINGS = [(16, 256), (256, 4_096), (1_024, 4_096)]
 PRODUCT, TWIN, VECTORS, PLAIN, THREADS = "product", "twin", "vectors", "plain", "threads"
 TITLES = {PRODUCT: "Levuttar", TWIN: "unproved twin", VECTORS: "whole vectors", PLAIN: "plain loop", THREADS: "a thread a node"}
-# A sum of squares of more than 3,000,000 elements is over 64 bits.
+# A sum of squares of more than 3,000,000 elements is over 64 bits. The first elements touch all memory that a run has, so a long run
+# is many times as long as what edges hold.
 FEW, MANY_IN_LOOPS = 1_000, {it: 400_000 if it == "heavy" else 2_400_000 for it in PROGRAMS}
-MANY = {"squares": 1_600_000, "wide": 1_600_000, "nest": 800_000, "deep": 160_000, "heavy": 64_000, "row": 240_000}
-MANY |= dict.fromkeys(WITH_VECTORS, 1_600_000)
-# An element takes far longer where each has to wait for other threads.
-FEWER_IN_THREADS = 16
+MANY = dict.fromkeys(PROGRAMS, 2_400_000) | {"deep": 1_600_000, "heavy": 640_000} | dict.fromkeys(WITH_VECTORS, 1_600_000)
+# An element takes longer in short visits, and far longer where each node waits for others in a thread of its own.
+FEWER_IN_SHORT_VISITS, FEWER_IN_THREADS = 10, 100
 # Instructions are counted at these two, since valgrind is slow.
 COUNTED = {"squares": (10_000, 30_000), "wide": (10_000, 30_000), "nest": (10_000, 20_000), "deep": (6_000, 10_000)}
 COUNTED |= {"heavy": (4_000, 8_000), "row": (10_000, 20_000), **dict.fromkeys(WITH_VECTORS, (20_000, 40_000))}
-# So many nodes that follow one another lie in one thread, as far as the list that deals nodes out may be long. Those of heavy
-# hang on one another by the hundred.
-TOGETHER, DIGITS = {it: 100 if it == "heavy" else 10 for it in PROGRAMS}, 64
-# How nodes are dealt out to threads: all in one thread without rings, over rings in turn, or over rings in parts.
-ALONE, APART, PARTS = "alone", "apart", "parts"
+# How nodes are dealt out to threads: all in one thread without rings, over rings in turn, or over rings by a cut.
+ALONE, APART, CUT = "alone", "apart", "by a cut"
+
+
+class Programs(NamedTuple):
+    """Where the two programs of the product lie."""
+
+    snesl: str
+    levuttar: str
 
 
 class Variant(NamedTuple):
@@ -73,9 +76,10 @@ class Variant(NamedTuple):
         """Over how many elements it is timed."""
         if self.who in (VECTORS, PLAIN):
             return MANY_IN_LOOPS[program]
-        return MANY[program] // (FEWER_IN_THREADS if self.is_beside else 1)
+        fewer = FEWER_IN_THREADS if self.who == THREADS else FEWER_IN_SHORT_VISITS if self.chunk == 16 else 1
+        return MANY[program] // fewer
 
-    def command(self, snesl, program, count):
+    def command(self, programs, program, count):
         """The words of a run, and what it reads."""
         chunk, capacity = self.chunk or 256, self.capacity or 256
         if self.who != PRODUCT:
@@ -83,15 +87,13 @@ class Variant(NamedTuple):
         words = ["--drive", "serial" if self.dealt == ALONE else "rings", "--chunk", str(chunk), "--capacity", str(capacity)]
         if self.dealt != ALONE:
             words += ["--threads", str(self.threads)]
-        if self.dealt == PARTS:
-            together = min(TOGETHER[program], DIGITS // self.threads)
-            words += ["--deal", "".join(f"{thread:x}" * together for thread in range(self.threads))]
-        return [snesl, *words], TEXTS[program](count).encode()
+        its = [programs.levuttar, "run"] if self.dealt == CUT else [programs.snesl]
+        return [*its, *words], TEXTS[program](count).encode()
 
     def title(self):
         words = [TITLES[self.who]]
         words += [f"rings, {in_threads(self.threads)}"] if self.dealt != ALONE else []
-        words += ["in parts"] if self.dealt == PARTS else []
+        words += [CUT] if self.dealt == CUT else []
         words += [f"chunk {self.chunk}"] if self.chunk else []
         return ", ".join(words + ([f"capacity {self.capacity:,}"] if self.capacity else []))
 
@@ -106,20 +108,20 @@ def variants(threads):
     """All variants; the product by rings of each of these numbers of threads too."""
     made = [Variant(PRODUCT, *setting) for setting in SETTINGS]
     for count in threads:
-        for dealt in (APART, PARTS) if count > 1 else (APART,):
+        for dealt in (APART, CUT) if count > 1 else (APART,):
             made += [Variant(PRODUCT, *setting, count, dealt) for setting in RING_SETTINGS]
     made += [Variant(TWIN, *setting) for setting in SETTINGS] + [Variant(VECTORS, None, None), Variant(PLAIN, None, None)]
     # As many threads as nodes.
     return made + [Variant(THREADS, None, capacity, math.inf) for capacity in sorted({most for _, most in SETTINGS})]
 
 
-def times(snesl, cells, runs):
+def times(programs, cells, runs):
     """For each variant and program what its runs took, by numbers of elements, in as many turns over all of them."""
     spent, answers = collections.defaultdict(lambda: collections.defaultdict(list)), {}
     for _ in range(runs):
         for variant, program in cells:
             for count in (FEW, variant.many(program)):
-                answer, took = timed(*variant.command(snesl, program, count))
+                answer, took = timed(*variant.command(programs, program, count))
                 if answers.setdefault((program, count), answer) != answer:
                     sys.exit(f"bench: {program} of {count}: {variant.title()} answers {answer}, others {answers[program, count]}")
                 spent[variant, program][count].append(took)
@@ -133,26 +135,26 @@ def an_element(spent, clock):
     return Times(*(max((of(whole) - min(begun)) * 1e9, 1) / (great - few) for of in (min, statistics.median)))
 
 
-def counts(snesl, cells):
+def counts(programs, cells):
     """The name of what counts instructions, and those of an element of each variant of one thread and program. It counts some
     side by side."""
     name, alone = counter(), [cell for cell in cells if not cell[0].is_beside]
 
     def count(cell):
         few, great = COUNTED[cell[1]]
-        found = [instructions(name, *cell[0].command(snesl, cell[1], size)) for size in (few, great)]
+        found = [instructions(name, *cell[0].command(programs, cell[1], size)) for size in (few, great)]
         return (found[1] - found[0]) / (great - few) if all(found) else None
 
     with ThreadPoolExecutor(max(1, (os.cpu_count() or 1) // 2)) as pool:
         return name, dict(zip(alone, pool.map(count, alone))) if name else {}
 
 
-def sitting(snesl, threads, runs):
+def sitting(programs, threads, runs):
     """What counted instructions, and the figure of each variant and program: by the clock where nodes wait, and else of the
     processor."""
     cells = [(variant, program) for variant in variants(threads) for program in PROGRAMS if variant.runs(program)]
-    spent = times(snesl, cells, runs)
-    name, found = counts(snesl, cells)
+    spent = times(programs, cells, runs)
+    name, found = counts(programs, cells)
     figures = {}
     for cell in cells:
         by_clock, by_processor = (an_element(spent[cell], it) for it in ("clock", "processor"))
@@ -216,6 +218,7 @@ def when_threads_pay(figures, threads):
 def asked():
     words = argparse.ArgumentParser(description=__doc__, formatter_class=argparse.RawDescriptionHelpFormatter)
     words.add_argument("snesl", nargs="?")
+    words.add_argument("levuttar", nargs="?")
     words.add_argument("--threads", type=lambda text: [int(it) for it in text.split(",")], default=[], metavar="N,..")
     words.add_argument("--runs", type=int, default=9, help="how often each is run; 9 without it")
     words.add_argument("--svg", help="draws what the product takes in one thread and with the defaults of snesl, and its peers")
@@ -225,10 +228,11 @@ def asked():
 def main():
     words = asked()
     build_peers()
-    snesl = os.path.abspath(words.snesl) if words.snesl else built("snesl")["llvm"]["snesl"]
-    what = f"The program {os.path.basename(snesl)} beside its peers" if words.snesl else "The proved program beside its peers"
+    named = [words.snesl, words.levuttar]
+    places = [os.path.abspath(it) if it else built(name)["llvm"][name] for it, name in zip(named, Programs._fields)]
+    what = f"The program {os.path.basename(places[0])} beside its peers" if words.snesl else "The proved program beside its peers"
     runs = max(1, words.runs)
-    counted_by, figures = sitting(snesl, words.threads, runs)
+    counted_by, figures = sitting(Programs(*places), words.threads, runs)
     counted = f"; in brackets instructions an element, by {counted_by}" if counted_by else ""
     print(f"{what}: nanoseconds an element, the least and the median of {runs} runs{counted}.\n")
     made = dict.fromkeys(variant for variant, _ in figures)

@@ -36,7 +36,7 @@ pub(crate) fn gives_capacity(matches: &ArgMatches<'_>) -> bool {
 // What is chosen for an option that is not given. Where nothing is, it is as for `snesl`.
 pub(crate) fn choice_of(name: &str, matches: &ArgMatches<'_>) -> Option<&'static str> {
     match name {
-        "capacity" if speaks_of_threads(matches) => Some("4096"),
+        "capacity" if asks_for_threads(matches) => Some("4096"),
         "capacity" => Some("1024"),
         "chunk" => Some("1024"),
         "drive" if speaks_of_threads(matches) || is_watched(matches) => Some("rings"),
@@ -51,10 +51,15 @@ pub(crate) fn speaks_of_threads(matches: &ArgMatches<'_>) -> bool {
     matches.contains_id("threads") || matches.contains_id("idle") || matches.contains_id("deal")
 }
 
+// Whether an option asks for several threads.
+fn asks_for_threads(matches: &ArgMatches<'_>) -> bool {
+    speaks_of_threads(matches) && matches.get_str("threads") != Some("1")
+}
+
 // Why that is chosen.
 fn reason_of(name: &str, matches: &ArgMatches<'_>) -> &'static str {
     match name {
-        "capacity" if speaks_of_threads(matches) => REASON_FOR_THREADS,
+        "capacity" if asks_for_threads(matches) => REASON_FOR_THREADS,
         "capacity" => "chosen; where the program stalls, 4096, 16384 and 65536 are tried",
         "chunk" => "chosen; long visits of a node take the least time for each element",
         "drive" if speaks_of_threads(matches) => "chosen, since an option speaks of threads",

@@ -71,8 +71,8 @@ pub(crate) fn command<'a>(alloc: Global) -> Result<Command<'a>, AllocError> {
 
 const RUNS: &str = "A job is a program, a line `---`, and its input text. What no option says is
 chosen: two or four threads where a short run foretells that they pay, and else
-one; 1024 steps a visit; 1024 messages an edge, and more of them where the
-program stalls.
+one; 1024 steps a visit; 1024 messages an edge, 4096 where several threads run,
+and more of them where the program stalls.
 
 Example: levuttar run --explain examples/primes.snesl";
 
