@@ -10,7 +10,7 @@ use Rattle.snesl_run.specs.Counted.{counted_inner}
 use Rattle.snesl_run.specs.Outcome.TheVariants.{Value as Ended, Fault as Failed, Stalled}
 use Rattle.snesl_run.specs.Refusal.{Refusal}
 use Rattle.snesl_run.specs.Refusal.TheVariants.{BadConfig, NoMemory, NoThread, Output, Short}
-use Rattle.snesl_run.specs.Runs.{outcome_of, value_line, IsReported, WroteFor, HasWritten, HasError}
+use Rattle.snesl_run.specs.Runs.{outcome_of, value_line, IsReported, WroteFor, HasError}
 use Rattle.snesl_run.specs.Streams.{WriteEffect, write_effect}
 use Rattle.snesl_run.specs.declared.report.Report.{Report}
 use Rattle.callers.specs.Run.{IsLineOf, IsRefusedFor}
@@ -22,13 +22,13 @@ taken_by before after = write_effect (λ (bytes : Vec ℕ Global). Some bytes.it
 module _ (program input : List ℕ) (config : Config) where
   -- the line, where all nodes have ended
   pub line_written : (report : Report) (before after : Counted (Vec ℕ Global)) (line : Vec ℕ Global) → (counted_inner before).items ≡ [] → line ≡ counted_inner after
-      → outcome_of report ≡ Ended → HasWritten program input (taken_by before after) report → IsLineOf program input (Some line)
+      → outcome_of report ≡ Ended → WroteFor program input (taken_by before after) (outcome_of report) → IsLineOf program input (Some line)
   line_written report before after line empty is ended wrote =
       let h = subst (WroteFor program input (taken_by before after)) ended wrote in
       (h.0, h.1, ap (λ (bytes : Vec ℕ Global). bytes.items) is ∙ h.2.0 ∙ ap (λ all. all ++ value_line h.0) empty)
 
   -- no line, where a fault is named
-  pub fault_named : (report : Report) (out : WriteEffect) (f : Fault) → outcome_of report ≡ Failed f → HasWritten program input out report → IsLineOf program input None
+  pub fault_named : (report : Report) (out : WriteEffect) (f : Fault) → outcome_of report ≡ Failed f → WroteFor program input out (outcome_of report) → IsLineOf program input None
   fault_named report out f is wrote = inl (subst (WroteFor program input out) is wrote).0
 
   -- no line, where it has stalled

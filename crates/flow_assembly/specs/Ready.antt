@@ -25,6 +25,10 @@ IsCounted table plan = (s : ℕ) → slice_index_or table s 0 ≡ uses s plan
 abbrev pub IsTooBig : List Step → Type 0
 IsTooBig plan = (most_nodes < length (layout plan)) ⊎ (most_edges < edges_needed (layout plan))
 
+-- it has no more
+abbrev pub IsSmallEnough : List Step → Type 0
+IsSmallEnough plan = (length (layout plan) ≤ most_nodes) × (edges_needed (layout plan) ≤ most_edges)
+
 -- Nothing of the limits is passed, and beside these edges so many are due at these nodes, and all those at the nodes to come.
 pub record KeepsLimits (plan : List Step) (states : List ((t : NodeKind) × (member t).State)) (edges : List Edge) (due : ℕ) : Type 0 where
   pub few_nodes : length states ≤ most_nodes

@@ -1,16 +1,17 @@
 // The graph of a plan.
 
-ghost use Rattle.std.specs.Prelude.{◌≡◌, ◌<◌, ◌≤◌, ◌⊎◌, [], length, IfOk, IfErr};
+ghost use Rattle.std.specs.Prelude.{◌≡◌, ◌⊎◌, [], length, IfOk, IfErr};
 ghost use Rattle.snesl_data.specs.declared.refusal.Refusal.TheVariants.{TooBig, NoMemory};
-ghost use Rattle.flow_networks.specs.Graphs.{states_of, edges_of, states_so_far, edges_so_far};
-ghost use Rattle.flow_networks.specs.Limits.{most_nodes, most_edges};
+ghost use Rattle.flow_networks.specs.Graphs.{states_of, edges_of};
 ghost use Rattle.flow_networks.specs.Networks.{AreOpened};
 ghost use Rattle.flow_nodes.specs.StreamNodes.{node_behaviour};
-ghost use Rattle.flow_plans.specs.Layouts.{layout, places, edges_needed, edges_between, IsNetworkOfPlan};
+ghost use Rattle.flow_plans.specs.Layouts.{places};
 ghost use Rattle.flow_plans.specs.Ports.{AreWired};
 ghost use Rattle.flow_plans.specs.Views.{steps_of};
-ghost use Rattle.flow_assembly.specs.Openings.{AllOpen};
-ghost use Rattle.flow_assembly.specs.Ready.{plan_of, IsBuiltTo};
+ghost use Rattle.flow_assembly.specs.Openings.{OpensPlan};
+ghost use Rattle.flow_assembly.specs.GraphsOfPlans.{IsGraphOfPlan, edges_of_plan};
+ghost use Rattle.flow_assembly.specs.Partly.{HasSteps};
+ghost use Rattle.flow_assembly.specs.Ready.{plan_of, IsSmallEnough, IsTooBig};
 
 use crate::counted_steps::CountedSteps;
 use crate::laws::openings_perform;
@@ -38,19 +39,14 @@ pub struct Assembled {
 /// `TooBig` only where the network has more nodes or more edges than a graph may have, and else `NoMemory`.
 pub fn assemble(alloc: Global, dialect: Dialect, steps: Vec<Step>) -> Result<Assembled, Refusal>
     requires wired { AreWired [] (steps_of dialect steps.items) }
-    ensures network { IfOk result (λ a. IsNetworkOfPlan node_behaviour (steps_of dialect steps.items)
-        (states_of a.graph) (edges_of a.graph)) }
-    ensures edges { IfOk result (λ a. edges_of a.graph ≡
-        edges_between (layout (steps_of dialect steps.items))) }
-    ensures opens { IfOk result (λ a. AllOpen (layout (steps_of dialect steps.items))
-        (states_of a.graph)) }
+    ensures network { IfOk result (λ a. IsGraphOfPlan (steps_of dialect steps.items) a.graph) }
+    ensures edges { IfOk result (λ a. edges_of a.graph ≡ edges_of_plan (steps_of dialect
+        steps.items)) }
+    ensures opens { IfOk result (λ a. OpensPlan (steps_of dialect steps.items) (states_of a.graph)) }
     ensures opened { IfOk result (λ a. AreOpened node_behaviour (states_of a.graph)) }
     ensures places { IfOk result (λ a. a.places.items ≡ places (steps_of dialect steps.items)) }
-    ensures few { IfOk result (λ _. (length (layout (steps_of dialect steps.items)) ≤ most_nodes) ×
-        (edges_needed (layout (steps_of dialect steps.items)) ≤ most_edges)) }
-    ensures big { result ≡ Err TooBig → (most_nodes <
-        length (layout (steps_of dialect steps.items))) ⊎
-        (most_edges < edges_needed (layout (steps_of dialect steps.items))) }
+    ensures few { IfOk result (λ _. IsSmallEnough (steps_of dialect steps.items)) }
+    ensures big { result ≡ Err TooBig → IsTooBig (steps_of dialect steps.items) }
     ensures memory { IfErr result (λ refusal. (refusal ≡ TooBig) ⊎ (refusal ≡ NoMemory)) }
 {
     let plan = CountedSteps::new(alloc, dialect, steps)?;
@@ -64,17 +60,13 @@ pub fn assemble(alloc: Global, dialect: Dialect, steps: Vec<Step>) -> Result<Ass
 // The network of a plan that is built whole.
 fn finished(network: Network, plan: &CountedSteps) -> Assembled
     requires wired { AreWired [] (plan_of plan.now) }
-    requires built { IsBuiltTo (plan_of plan.now)
-        (length plan.now.steps.items) network.supply.items network.places.items
-        (states_so_far network.builder) (edges_so_far network.builder) }
-    ensures network { IsNetworkOfPlan node_behaviour (plan_of plan.now) (states_of result.graph)
-        (edges_of result.graph) }
-    ensures edges { edges_of result.graph ≡ edges_between (layout (plan_of plan.now)) }
-    ensures opens { AllOpen (layout (plan_of plan.now)) (states_of result.graph) }
+    requires built { HasSteps plan.now (length plan.now.steps.items) network }
+    ensures network { IsGraphOfPlan (plan_of plan.now) result.graph }
+    ensures edges { edges_of result.graph ≡ edges_of_plan (plan_of plan.now) }
+    ensures opens { OpensPlan (plan_of plan.now) (states_of result.graph) }
     ensures opened { AreOpened node_behaviour (states_of result.graph) }
     ensures places { result.places.items ≡ places (plan_of plan.now) }
-    ensures few { (length (layout (plan_of plan.now)) ≤ most_nodes) ×
-        (edges_needed (layout (plan_of plan.now)) ≤ most_edges) }
+    ensures few { IsSmallEnough (plan_of plan.now) }
 {
     openings_perform();
     Assembled {

@@ -1,13 +1,14 @@
 // The steps of a plan as parts of its network.
 
-ghost use Rattle.std.specs.Prelude.{◌≡◌, ℕ, ◌+◌, ◌<◌, ◌≤◌, ◌⊎◌, [], length, drop, Some, OnOk, IfErr};
+ghost use Rattle.std.specs.Prelude.{◌≡◌, ℕ, ◌+◌, ◌<◌, ◌≤◌, ◌⊎◌, [], length, Some, OnOk, IfErr};
 ghost use Rattle.std.specs.List.{slice_get};
 ghost use Rattle.snesl_data.specs.declared.refusal.Refusal.TheVariants.{TooBig, NoMemory};
-ghost use Rattle.flow_networks.specs.Graphs.{states_so_far, edges_so_far};
-ghost use Rattle.flow_plans.specs.Layouts.{times, uses, places_after, all_after, layout, stream_to};
-ghost use Rattle.flow_plans.specs.Ports.{AreWired, kinds_after};
-ghost use Rattle.flow_assembly.specs.Joined.{IsJoinedTo};
-ghost use Rattle.flow_assembly.specs.Ready.{plan_of, IsCounted, IsTooBig, KeepsLimits, IsBuiltTo, IsPutTo, AreNextInLayout};
+ghost use Rattle.flow_networks.specs.Graphs.{states_so_far};
+ghost use Rattle.flow_plans.specs.Layouts.{layout, stream_to};
+ghost use Rattle.flow_plans.specs.Ports.{AreWired};
+ghost use Rattle.flow_assembly.specs.Partly.{HasSteps, HasPutBefore, OwesEdges, HasAllUsesLeft, IsToRead, HasReadTo};
+ghost use Rattle.flow_assembly.specs.Partly.{node_after, nodes_after, AreNext, GrowsBy};
+ghost use Rattle.flow_assembly.specs.Ready.{plan_of, IsCounted, IsTooBig};
 
 use crate::counted_steps::CountedSteps;
 use crate::laws::openings_perform;
@@ -23,12 +24,8 @@ impl Network {
         requires inside { number < length plan.now.steps.items }
         requires wired { AreWired [] (plan_of plan.now) }
         requires counted { IsCounted plan.now.uses.items (plan_of plan.now) }
-        requires built { IsBuiltTo
-            (plan_of plan.now) number self.old.supply.items self.old.places.items
-            (states_so_far self.old.builder) (edges_so_far self.old.builder) }
-        ensures built { OnOk result (IsBuiltTo (plan_of plan.now)
-            (number + 1) self.new.supply.items self.new.places.items
-            (states_so_far self.new.builder) (edges_so_far self.new.builder)) }
+        requires built { HasSteps plan.now number self.old }
+        ensures built { OnOk result (HasSteps plan.now (number + 1) self.new) }
         ensures big { result ≡ Err TooBig → IsTooBig (plan_of plan.now) }
         ensures memory { IfErr result (λ refusal. (refusal ≡ TooBig) ⊎ (refusal ≡ NoMemory)) }
     {
@@ -58,18 +55,11 @@ impl Network {
             slice_get reads.now q }
         requires there { (q s : ℕ) → slice_get reads.now q ≡ Some s → s <
             length self.old.supply.items }
-        requires within { KeepsLimits (plan_of plan.now) (states_so_far self.old.builder)
-            (edges_so_far self.old.builder) (length reads.now) }
-        requires joined { IsJoinedTo (layout (plan_of plan.now))
-            (λ s. times s reads.now + uses s
-            (drop (length self.old.places.items) (plan_of plan.now))) self.old.supply.items node 0
-            (states_so_far self.old.builder) (edges_so_far self.old.builder) }
-        ensures joined { OnOk result (IsJoinedTo (layout (plan_of plan.now))
-            (λ s. uses s (drop (length self.old.places.items)
-            (plan_of plan.now))) self.new.supply.items node (length reads.now)
-            (states_so_far self.new.builder) (edges_so_far self.new.builder)) }
-        ensures within { OnOk result (KeepsLimits (plan_of plan.now) (states_so_far self.new.builder)
-            (edges_so_far self.new.builder) 0) }
+        requires within { OwesEdges plan.now (length reads.now) self.old }
+        requires joined { IsToRead plan.now self.old node reads.now }
+        ensures joined { OnOk result
+            (HasReadTo plan.now self.old node (length reads.now) self.new) }
+        ensures within { OnOk result (OwesEdges plan.now 0 self.new) }
         ensures nodes { states_so_far self.new.builder ≡ states_so_far self.old.builder }
         ensures supply { OnOk result (length self.new.supply.items ≡ length self.old.supply.items) }
         ensures places { self.new.places.items ≡ self.old.places.items }
@@ -94,19 +84,12 @@ impl Network {
         requires wired { AreWired [] (plan_of plan.now) }
         requires counted { IsCounted plan.now.uses.items (plan_of plan.now) }
         requires inside { first + length kinds.now ≤ length self.old.supply.items }
-        requires later { (s : ℕ) → first ≤ s → uses s (plan_of plan.now) ≡
-            uses s (drop (length self.old.places.items) (plan_of plan.now)) }
-        requires next { AreNextInLayout (plan_of plan.now) (states_so_far self.old.builder)
-            (all_after (plan_of plan.now) at first kinds.now) }
-        requires so_far { IsPutTo
-            (plan_of plan.now) first self.old.supply.items self.old.places.items
-            (states_so_far self.old.builder) (edges_so_far self.old.builder) }
-        ensures so_far { OnOk result (IsPutTo (plan_of plan.now)
-            (first + length kinds.now) self.new.supply.items self.new.places.items
-            (states_so_far self.new.builder) (edges_so_far self.new.builder)) }
-        ensures nodes { OnOk result (length (states_so_far self.new.builder) ≡
-            length (states_so_far self.old.builder) + length
-            (all_after (plan_of plan.now) at first kinds.now)) }
+        requires later { (s : ℕ) → first ≤ s → HasAllUsesLeft plan.now self.old s }
+        requires next { AreNext plan.now (nodes_after plan.now at first kinds.now) self.old }
+        requires so_far { HasPutBefore plan.now first self.old }
+        ensures so_far { OnOk result (HasPutBefore plan.now (first + length kinds.now) self.new) }
+        ensures nodes { OnOk result
+            (GrowsBy self.old (nodes_after plan.now at first kinds.now) self.new) }
         ensures supply { OnOk result (length self.new.supply.items ≡ length self.old.supply.items) }
         ensures places { self.new.places.items ≡ self.old.places.items }
         ensures big { result ≡ Err TooBig → IsTooBig (plan_of plan.now) }
@@ -129,19 +112,12 @@ impl Network {
         requires wired { AreWired [] (plan_of plan.now) }
         requires counted { IsCounted plan.now.uses.items (plan_of plan.now) }
         requires inside { stream < length self.old.supply.items }
-        requires later { uses stream (plan_of plan.now) ≡
-            uses stream (drop (length self.old.places.items) (plan_of plan.now)) }
-        requires next { AreNextInLayout (plan_of plan.now) (states_so_far self.old.builder)
-            (places_after at stream kind (uses stream (plan_of plan.now))) }
-        requires so_far { IsPutTo
-            (plan_of plan.now) stream self.old.supply.items self.old.places.items
-            (states_so_far self.old.builder) (edges_so_far self.old.builder) }
-        ensures so_far { OnOk result (IsPutTo (plan_of plan.now)
-            (stream + 1) self.new.supply.items self.new.places.items
-            (states_so_far self.new.builder) (edges_so_far self.new.builder)) }
-        ensures nodes { OnOk result (length (states_so_far self.new.builder) ≡
-            length (states_so_far self.old.builder) + length
-            (places_after at stream kind (uses stream (plan_of plan.now)))) }
+        requires later { HasAllUsesLeft plan.now self.old stream }
+        requires next { AreNext plan.now (node_after plan.now at stream kind) self.old }
+        requires so_far { HasPutBefore plan.now stream self.old }
+        ensures so_far { OnOk result (HasPutBefore plan.now (stream + 1) self.new) }
+        ensures nodes { OnOk result
+            (GrowsBy self.old (node_after plan.now at stream kind) self.new) }
         ensures supply { OnOk result (length self.new.supply.items ≡ length self.old.supply.items) }
         ensures places { self.new.places.items ≡ self.old.places.items }
         ensures big { result ≡ Err TooBig → IsTooBig (plan_of plan.now) }

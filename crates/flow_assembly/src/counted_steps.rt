@@ -1,11 +1,11 @@
 // The steps of a plan, and how often they read each stream.
 
-ghost use Rattle.std.specs.Prelude.{◌≡◌, ℕ, ◌+◌, ◌<◌, ◌≤◌, ◌⊎◌, length, slice_index_or, IfOk, OnOk, IfErr};
+ghost use Rattle.std.specs.Prelude.{◌≡◌, ℕ, ◌+◌, ◌<◌, ◌≤◌, ◌⊎◌, length, IfOk, OnOk, IfErr};
 ghost use Rattle.snesl_data.specs.declared.refusal.Refusal.TheVariants.{TooBig, NoMemory};
 ghost use Rattle.flow_networks.specs.Limits.{most_edges};
-ghost use Rattle.flow_plans.specs.Layouts.{times};
 ghost use Rattle.flow_plans.specs.Views.{steps_of};
 ghost use Rattle.flow_assembly.specs.Ready.{plan_of, IsCounted, IsTooBig};
+ghost use Rattle.flow_assembly.specs.Tables.{uses_in, CountsReads, CountsTooMany, SameUsesBut};
 
 use flow_networks::MAX_EDGES;
 use flow_plans::Step;
@@ -43,7 +43,7 @@ impl CountedSteps {
 
     /// How often the steps read the stream.
     pub fn uses(&self, stream: usize) -> usize
-        ensures { result ≡ slice_index_or self.now.uses.items stream 0 }
+        ensures { result ≡ uses_in self.now.uses.items stream }
     {
         match self.uses.get(stream) {
             Some(uses) => *uses,
@@ -54,10 +54,8 @@ impl CountedSteps {
 
 // Counts these reads.
 fn add_uses(uses: &mut Vec<usize>, reads: &[usize]) -> Result<(), Refusal>
-    ensures counted { OnOk result ((s : ℕ) → slice_index_or uses.new.items s 0 ≡
-        slice_index_or uses.old.items s 0 + times s reads.now) }
-    ensures big { result ≡ Err TooBig → (s : ℕ) ×
-        (most_edges < slice_index_or uses.old.items s 0 + times s reads.now) }
+    ensures counted { OnOk result (CountsReads uses.old.items reads.now uses.new.items) }
+    ensures big { result ≡ Err TooBig → CountsTooMany uses.old.items reads.now }
     ensures memory { IfErr result (λ refusal. (refusal ≡ TooBig) ⊎ (refusal ≡ NoMemory)) }
 {
     for stream in reads {
@@ -68,11 +66,9 @@ fn add_uses(uses: &mut Vec<usize>, reads: &[usize]) -> Result<(), Refusal>
 
 // Counts one read of the stream.
 fn add_use(uses: &mut Vec<usize>, stream: usize) -> Result<(), Refusal>
-    ensures one { OnOk result (slice_index_or uses.new.items stream 0 ≡
-        slice_index_or uses.old.items stream 0 + 1) }
-    ensures others { OnOk result ((s : ℕ) → (s ≡ stream → ⊥) → slice_index_or uses.new.items s 0 ≡
-        slice_index_or uses.old.items s 0) }
-    ensures big { result ≡ Err TooBig → most_edges ≤ slice_index_or uses.old.items stream 0 }
+    ensures one { OnOk result (uses_in uses.new.items stream ≡ uses_in uses.old.items stream + 1) }
+    ensures others { OnOk result (SameUsesBut uses.old.items stream uses.new.items) }
+    ensures big { result ≡ Err TooBig → most_edges ≤ uses_in uses.old.items stream }
     ensures memory { IfErr result (λ refusal. (refusal ≡ TooBig) ⊎ (refusal ≡ NoMemory)) }
 {
     extend(uses, stream)?;
@@ -86,7 +82,7 @@ fn add_use(uses: &mut Vec<usize>, stream: usize) -> Result<(), Refusal>
 // Makes the table so long that the stream is in it.
 fn extend(uses: &mut Vec<usize>, stream: usize) -> Result<(), AllocError>
     ensures inside { OnOk result (stream < length uses.new.items) }
-    ensures same { (s : ℕ) → slice_index_or uses.new.items s 0 ≡ slice_index_or uses.old.items s 0 }
+    ensures same { (s : ℕ) → uses_in uses.new.items s ≡ uses_in uses.old.items s }
 {
     while uses.len() <= stream {
         uses.push(0)?;

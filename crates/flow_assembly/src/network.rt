@@ -1,13 +1,12 @@
 // A network that is being built.
 
-ghost use Rattle.std.specs.Prelude.{◌≡◌, ◌+◌, ◌<◌, ◌^◌, ◌⊎◌, ◌++◌, ◌∷◌, [], length, drop, slice_set, IfOk, OnOk, IfErr};
+ghost use Rattle.std.specs.Prelude.{◌≡◌, ◌+◌, ◌<◌, ◌^◌, ◌⊎◌, [], length, IfOk, OnOk, IfErr};
 ghost use Rattle.snesl_data.specs.declared.refusal.Refusal.TheVariants.{TooBig, NoMemory};
-ghost use Rattle.flow_networks.specs.Graphs.{states_so_far, edges_so_far};
+ghost use Rattle.flow_networks.specs.Graphs.{states_so_far, edges_so_far, AddsNode};
 ghost use Rattle.flow_networks.specs.Limits.{most_nodes, most_edges};
-ghost use Rattle.flow_networks.specs.Networks.{MayJoin};
 ghost use Rattle.flow_nodes.specs.StreamNodes.{node_behaviour, state_of};
-ghost use Rattle.flow_assembly.specs.Joined.{supplier, edge_from, port_after};
-ghost use Rattle.flow_assembly.specs.Ready.{ports_of};
+ghost use Rattle.flow_assembly.specs.Joined.{supplier};
+ghost use Rattle.flow_assembly.specs.Partly.{MayRead, MayAttach, AddsEdge, MovesSupplier, AddsStreams, IsAtLimit, node_count};
 
 use flow_networks::{Edge, GraphBuilder};
 use flow_nodes::StreamNode;
@@ -52,16 +51,10 @@ impl Network {
     pub fn join(&mut self, stream: usize, reader: usize, reader_port: usize) -> Result<(), Refusal>
         requires inside { stream < length self.old.supply.items }
         requires fits { (supplier self.old.supply.items stream).port + 1 < 2 ^ 64 }
-        requires may { MayJoin node_behaviour (states_so_far self.old.builder)
-            (edges_so_far self.old.builder)
-            (edge_from (supplier self.old.supply.items stream) reader reader_port) }
+        requires may { MayRead self.old stream reader reader_port }
         ensures nodes { states_so_far self.new.builder ≡ states_so_far self.old.builder }
-        ensures edges { OnOk result (edges_so_far self.new.builder ≡
-            edges_so_far self.old.builder ++
-            edge_from (supplier self.old.supply.items stream) reader reader_port ∷ []) }
-        ensures supply { OnOk result (self.new.supply.items ≡
-            slice_set self.old.supply.items stream
-            (port_after (supplier self.old.supply.items stream))) }
+        ensures edges { OnOk result (AddsEdge self.old stream reader reader_port self.new) }
+        ensures supply { OnOk result (MovesSupplier self.old stream self.new) }
         ensures places { self.new.places.items ≡ self.old.places.items }
         ensures room { OnOk result (length (edges_so_far self.old.builder) ≡ most_edges → ⊥) }
         ensures big { result ≡ Err TooBig → length (edges_so_far self.old.builder) ≡ most_edges }
@@ -86,26 +79,16 @@ impl Network {
         requires opened { node_behaviour.opening (state_of node) ≡ state_of node }
         requires inside { stream < length self.old.supply.items }
         requires fits { (supplier self.old.supply.items stream).port + 1 < 2 ^ 64 }
-        requires may { MayJoin node_behaviour (states_so_far self.old.builder ++ state_of node ∷ [])
-            (edges_so_far self.old.builder)
-            (edge_from (supplier self.old.supply.items stream)
-            (length (states_so_far self.old.builder)) 0) }
+        requires may { MayAttach self.old node stream }
         ensures number { IfOk result (λ number. number ≡ length (states_so_far self.old.builder)) }
-        ensures nodes { OnOk result (states_so_far self.new.builder ≡
-            states_so_far self.old.builder ++ state_of node ∷ []) }
-        ensures edges { OnOk result (edges_so_far self.new.builder ≡
-            edges_so_far self.old.builder ++
-            edge_from (supplier self.old.supply.items stream)
-            (length (states_so_far self.old.builder)) 0 ∷ []) }
-        ensures supply { OnOk result (self.new.supply.items ≡
-            slice_set self.old.supply.items stream
-            (port_after (supplier self.old.supply.items stream))) }
+        ensures nodes { OnOk result (AddsNode self.old.builder (state_of node) self.new.builder) }
+        ensures edges { OnOk result (AddsEdge self.old stream (node_count self.old) 0 self.new) }
+        ensures supply { OnOk result (MovesSupplier self.old stream self.new) }
         ensures places { self.new.places.items ≡ self.old.places.items }
         ensures room { OnOk result (length (states_so_far self.old.builder) ≡ most_nodes → ⊥) }
         ensures room_for_edge { OnOk result (length (edges_so_far self.old.builder) ≡ most_edges →
             ⊥) }
-        ensures big { result ≡ Err TooBig → (length (states_so_far self.old.builder) ≡ most_nodes) ⊎
-            (length (edges_so_far self.old.builder) ≡ most_edges) }
+        ensures big { result ≡ Err TooBig → IsAtLimit self.old }
         ensures memory { IfErr result (λ refusal. (refusal ≡ TooBig) ⊎ (refusal ≡ NoMemory)) }
     {
         let number = self.builder.node(node)?;
@@ -115,8 +98,7 @@ impl Network {
 
     /// Adds the outputs of the node as the suppliers of the next streams.
     pub fn add_streams(&mut self, node: usize, outputs: usize) -> Result<(), AllocError>
-        ensures supply { OnOk result (self.new.supply.items ≡ self.old.supply.items ++
-            ports_of node outputs) }
+        ensures supply { OnOk result (AddsStreams self.old node outputs self.new) }
         ensures builder { self.new.builder ≡ self.old.builder }
         ensures places { self.new.places.items ≡ self.old.places.items }
     {

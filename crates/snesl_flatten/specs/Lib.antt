@@ -1,6 +1,7 @@
 pub mod Behind
 pub mod Networks
 pub mod PlanViews
+pub mod Set
 pub mod Sources
 pub mod Unset
 -- what the public clauses cite of the crates below
@@ -13,4 +14,6 @@ pub use Rattle.flow_networks.specs.Limits
 pub use Rattle.flow_networks.specs.Networks as GraphNetworks
 pub use Rattle.flow_plans.specs.Layouts
 pub use Rattle.flow_assembly.specs.Openings
+pub use Rattle.flow_assembly.specs.GraphsOfPlans
+pub use Rattle.flow_assembly.specs.Ready
 pub use Rattle.snesl_translation.specs.Programs

@@ -7,8 +7,12 @@ use Rattle.flow_nodes.specs.StreamNodes.{node_behaviour}
 use Rattle.flow_plans.specs.Layouts.{Placed, layout, places}
 use Rattle.flow_plans.specs.Plans.{Step}
 use Rattle.flow_assembly.specs.Openings.{IsUsable}
-use Rattle.snesl_translation.specs.Programs.{unset_cells}
-use Rattle.snesl_types.specs.Typed.{typed_inputs, typed_text, typed_tree}
+use Rattle.flow_plans.specs.Views.{steps_of}
+use Rattle.flow_plans.specs.declared.operation.Step.{Step as StepData}
+use Rattle.snesl_translation.specs.Makings.{Making}
+use Rattle.snesl_translation.specs.Programs.{program_plan, unset_cells}
+use Rattle.snesl_translation.specs.Wires.{Wires}
+use Rattle.snesl_types.specs.Typed.{typed_dialect, typed_inputs, typed_text, typed_tree}
 use Rattle.snesl_types.specs.declared.typed.TypedProgram.{TypedProgram}
 use Rattle.snesl_flatten.specs.Networks.{StreamNodeState, program_steps}
 use Rattle.snesl_flatten.specs.Sources.{all_kinds, HasSources}
@@ -16,6 +20,14 @@ use Rattle.snesl_flatten.specs.Sources.{all_kinds, HasSources}
 -- the steps of a program, whose sources write nothing yet
 abbrev pub unset_steps : TypedProgram → List Step
 unset_steps typed = program_steps (typed_text typed) (typed_tree typed) (typed_inputs typed) unset_cells
+
+-- these are they
+abbrev pub AreUnsetSteps : TypedProgram → List StepData → Type 0
+AreUnsetSteps typed steps = steps_of (typed_dialect typed) steps ≡ unset_steps typed
+
+-- how they are made
+abbrev pub unset_plan : TypedProgram → Making Wires
+unset_plan typed = program_plan (typed_text typed) (typed_tree typed) (typed_inputs typed) unset_cells
 
 -- The network is that of the program, no source of which is set, before any step; and the nodes of the steps are at these places.
 pub record HoldsNetwork (typed : TypedProgram) (states : List StreamNodeState) (edges : List Edge) (at : List ℕ) : Type 0 where

@@ -1,15 +1,11 @@
 // From programs to plans.
 
-ghost use Rattle.std.specs.Prelude.{◌≡◌, ◌<◌, ◌≤◌, ◌⊎◌, Err, IfOk, IfErr, length};
+ghost use Rattle.std.specs.Prelude.{◌≡◌, ◌⊎◌, Err, IfOk, IfErr};
 ghost use Rattle.snesl_data.specs.declared.refusal.Refusal.TheVariants.{TooBig, NoMemory};
-ghost use Rattle.snesl_types.specs.Typed.{typed_inputs, typed_text, typed_tree};
-ghost use Rattle.flow_nodes.specs.StreamNodes.{node_behaviour};
-ghost use Rattle.flow_networks.specs.Limits.{most_nodes, most_edges};
-ghost use Rattle.flow_plans.specs.Layouts.{layout, edges_needed, IsNetworkOfPlan};
-ghost use Rattle.flow_assembly.specs.Openings.{AllOpen};
-ghost use Rattle.snesl_translation.specs.Programs.{unset_cells};
-ghost use Rattle.snesl_flatten.specs.Networks.{program_steps};
-ghost use Rattle.snesl_flatten.specs.PlanViews.{plan_typed, plan_states, plan_edges};
+ghost use Rattle.flow_assembly.specs.Openings.{OpensPlan};
+ghost use Rattle.flow_assembly.specs.Ready.{IsSmallEnough, IsTooBig};
+ghost use Rattle.snesl_flatten.specs.PlanViews.{plan_typed, plan_states, PlansSteps};
+ghost use Rattle.snesl_flatten.specs.Unset.{unset_steps};
 
 use crate::plan::Plan;
 use crate::steps::steps_of_program;
@@ -31,18 +27,10 @@ use std::alloc::Global;
 /// - `NoMemory`: memory was refused.
 pub fn flatten<'a>(alloc: Global, typed: &'a TypedProgram<'a>) -> Result<Plan<'a>, Refusal>
     ensures program { IfOk result (λ plan. plan_typed plan ≡ typed.now) }
-    ensures network { IfOk result (λ plan. IsNetworkOfPlan node_behaviour
-        (program_steps (typed_text typed.now) (typed_tree typed.now)
-        (typed_inputs typed.now) unset_cells) (plan_states plan) (plan_edges plan)) }
-    ensures opens { IfOk result (λ plan. AllOpen
-        (layout (program_steps (typed_text typed.now) (typed_tree typed.now)
-        (typed_inputs typed.now) unset_cells)) (plan_states plan)) }
-    ensures big { let nodes = layout (program_steps (typed_text typed.now) (typed_tree typed.now)
-        (typed_inputs typed.now) unset_cells) in
-        (result ≡ Err TooBig → (most_nodes < length nodes) ⊎ (most_edges < edges_needed nodes)) }
-    ensures few { let nodes = layout (program_steps (typed_text typed.now) (typed_tree typed.now)
-        (typed_inputs typed.now) unset_cells) in
-        IfOk result (λ _. (length nodes ≤ most_nodes) × (edges_needed nodes ≤ most_edges)) }
+    ensures network { IfOk result (λ plan. PlansSteps (unset_steps typed.now) plan) }
+    ensures opens { IfOk result (λ plan. OpensPlan (unset_steps typed.now) (plan_states plan)) }
+    ensures big { result ≡ Err TooBig → IsTooBig (unset_steps typed.now) }
+    ensures few { IfOk result (λ _. IsSmallEnough (unset_steps typed.now)) }
     ensures memory { IfErr result (λ refusal. (refusal ≡ TooBig) ⊎ (refusal ≡ NoMemory)) }
 {
     let steps = steps_of_program(alloc, typed)?;

@@ -1,16 +1,16 @@
 // The plan of a program.
 
-ghost use Rattle.std.specs.Prelude.{◌≡◌, ◌↔◌, [], map, IsTrue, IfOk};
-ghost use Rattle.snesl_values.specs.Inputs.{declarations_of, dialect_of, environment_of};
-ghost use Rattle.snesl_types.specs.Typed.{typed_dialect, typed_inputs, typed_text, typed_tree};
+ghost use Rattle.std.specs.Prelude.{◌≡◌, ◌↔◌, [], IsTrue, IfOk};
+ghost use Rattle.snesl_values.specs.Inputs.{declarations_of, dialect_of};
+ghost use Rattle.snesl_types.specs.Typed.{typed_dialect, typed_inputs, AreReadFor};
 ghost use Rattle.flow_nodes.specs.StreamNodes.{node_behaviour};
 ghost use Rattle.flow_networks.specs.Graphs.{states_of, edges_of};
 ghost use Rattle.flow_networks.specs.Networks.{AreOpened};
-ghost use Rattle.flow_plans.specs.Layouts.{layout, places as places_of, IsNetworkOfPlan};
-ghost use Rattle.flow_assembly.specs.Openings.{AllOpen};
-ghost use Rattle.snesl_translation.specs.Programs.{cells_of, columns_of};
-ghost use Rattle.snesl_flatten.specs.Networks.{program_steps, NetworkMeans};
-ghost use Rattle.snesl_flatten.specs.Sources.{all_kinds, cells_in, source_kind, AreFresh, HasSources};
+ghost use Rattle.flow_plans.specs.Layouts.{places as places_of};
+ghost use Rattle.flow_assembly.specs.Openings.{OpensPlan};
+ghost use Rattle.flow_assembly.specs.GraphsOfPlans.{HoldsOfGraph, IsGraphOfPlan};
+ghost use Rattle.snesl_flatten.specs.Set.{HaveKindsOf, HasSourcesOf, HasInputsSet, MeansForTyped};
+ghost use Rattle.snesl_flatten.specs.Sources.{AreFresh};
 ghost use Rattle.snesl_flatten.specs.Unset.{unset_steps, HoldsNetwork, AreButSources};
 
 use crate::inputs::sources_of_inputs;
@@ -38,7 +38,8 @@ pub struct Plan<'a> {
 }
 
 impl<'a> Plan<'a> {
-    ghost use Rattle.snesl_flatten.specs.PlanViews.{plan_typed, plan_states, plan_edges};
+    ghost use Rattle.snesl_flatten.specs.PlanViews.{plan_typed, plan_edges};
+    ghost use Rattle.snesl_flatten.specs.PlanViews.{steps_for, AreButSourcesOf, MeansFor};
 
     /// The typed program of which it is the plan.
     pub fn typed(&self) -> &'a TypedProgram<'a>
@@ -49,8 +50,7 @@ impl<'a> Plan<'a> {
 
     /// Whether the inputs were read for the program of the plan: in its dialect and for its declared inputs.
     pub fn fits(&self, inputs: &Inputs) -> bool
-        ensures { IsTrue result ↔ ((dialect_of inputs.now ≡ typed_dialect (plan_typed self.now)) ×
-            (declarations_of inputs.now ≡ typed_inputs (plan_typed self.now))) }
+        ensures { IsTrue result ↔ AreReadFor (plan_typed self.now) inputs.now }
     {
         self.typed.fits(inputs)
     }
@@ -67,23 +67,13 @@ impl<'a> Plan<'a> {
     pub fn with(self, inputs: Inputs) -> Result<Graph<StreamNode>, AllocError>
         requires in_dialect { dialect_of inputs ≡ typed_dialect (plan_typed self) }
         requires fits { declarations_of inputs ≡ typed_inputs (plan_typed self) }
-        ensures network { IfOk result (λ graph. IsNetworkOfPlan node_behaviour
-            (program_steps (typed_text (plan_typed self.entry)) (typed_tree (plan_typed self.entry))
-            (typed_inputs (plan_typed self.entry))
-            (cells_of (typed_inputs (plan_typed self.entry)) (environment_of inputs)))
-            (states_of graph) (edges_of graph)) }
-        ensures opens { IfOk result (λ graph. AllOpen
-            (layout (program_steps (typed_text (plan_typed self.entry))
-            (typed_tree (plan_typed self.entry)) (typed_inputs (plan_typed self.entry))
-            (cells_of (typed_inputs (plan_typed self.entry)) (environment_of inputs))))
-            (states_of graph)) }
+        ensures network { IfOk result (λ graph. IsGraphOfPlan (steps_for self.entry inputs) graph) }
+        ensures opens { IfOk result
+            (λ graph. OpensPlan (steps_for self.entry inputs) (states_of graph)) }
         ensures opened { IfOk result (λ graph. AreOpened node_behaviour (states_of graph)) }
         ensures edges { IfOk result (λ graph. edges_of graph ≡ plan_edges self.entry) }
-        ensures others { IfOk result (λ graph. AreButSources (plan_typed self.entry)
-            (plan_states self.entry) (states_of graph)) }
-        ensures means { IfOk result (λ graph. NetworkMeans (typed_text (plan_typed self.entry))
-            (typed_tree (plan_typed self.entry)) (environment_of inputs) (states_of graph)
-            (edges_of graph)) }
+        ensures others { IfOk result (λ graph. AreButSourcesOf self.entry (states_of graph)) }
+        ensures means { IfOk result (HoldsOfGraph (MeansFor self.entry inputs)) }
     {
         let Plan {
             alloc,
@@ -107,14 +97,11 @@ fn set_sources(
     places: &Vec<usize>,
     sources: Vec<TextSource>,
 )
-    requires sources { HasSources (typed_text typed.now) (typed_tree typed.now)
-        (typed_inputs typed.now) [] (states_of graph.old) (edges_of graph.old) }
+    requires sources { HoldsOfGraph (HasSourcesOf typed.now []) graph.old }
     requires places { places.now.items ≡ places_of (unset_steps typed.now) }
     requires fresh { AreFresh sources.items }
-    requires kinds { map source_kind sources.items ≡ all_kinds (typed_inputs typed.now) }
-    ensures sources { HasSources (typed_text typed.now) (typed_tree typed.now)
-        (typed_inputs typed.now) (map cells_in sources.items) (states_of graph.new)
-        (edges_of graph.new) }
+    requires kinds { HaveKindsOf (typed_inputs typed.now) sources.items }
+    ensures sources { HoldsOfGraph (HasSourcesOf typed.now sources.items) graph.new }
     ensures edges { edges_of graph.new ≡ edges_of graph.old }
     ensures others { AreButSources typed.now (states_of graph.old) (states_of graph.new) }
 {
@@ -132,11 +119,8 @@ fn set_sources(
 fn has_meaning(graph: &Graph<StreamNode>, typed: &TypedProgram, inputs: &Inputs)
     requires in_dialect { dialect_of inputs.now ≡ typed_dialect typed.now }
     requires fits { declarations_of inputs.now ≡ typed_inputs typed.now }
-    requires sources { HasSources (typed_text typed.now) (typed_tree typed.now)
-        (typed_inputs typed.now) (columns_of (typed_inputs typed.now) (environment_of inputs.now))
-        (states_of graph.now) (edges_of graph.now) }
-    ensures { NetworkMeans (typed_text typed.now) (typed_tree typed.now) (environment_of inputs.now)
-        (states_of graph.now) (edges_of graph.now) }
+    requires sources { HoldsOfGraph (HasInputsSet typed.now inputs.now) graph.now }
+    ensures { HoldsOfGraph (MeansForTyped typed.now inputs.now) graph.now }
 {
     inputs_fit(inputs);
     soundness();

@@ -3,15 +3,12 @@
 ghost use Rattle.std.specs.Prelude.{◌≡◌, ◌<◌, ◌⊎◌, length, IfOk, IfErr, Err};
 ghost use Rattle.snesl_data.specs.declared.refusal.Refusal.TheVariants.{TooBig, NoMemory};
 ghost use Rattle.snesl_values.specs.Inputs.{declared};
-ghost use Rattle.snesl_tree.specs.View.{tree_of};
-ghost use Rattle.snesl_types.specs.Typed.{typed_dialect, typed_inputs, typed_text, typed_tree};
+ghost use Rattle.snesl_types.specs.Typed.{typed_dialect};
 ghost use Rattle.flow_networks.specs.Limits.{most_nodes};
-ghost use Rattle.flow_plans.specs.Views.{steps_of};
-ghost use Rattle.snesl_translation.specs.Programs.{inputs_sourced, program_plan, unset_cells};
-ghost use Rattle.snesl_steps.specs.Views.{bindings_of, dialect_of_steps, next_in, wires_of};
+ghost use Rattle.snesl_steps.specs.Views.{dialect_of_steps, next_in, wires_of};
 ghost use Rattle.snesl_steps.specs.Added.{Adds};
-ghost use Rattle.snesl_flatten.specs.Networks.{program_steps};
-ghost use Rattle.snesl_flatten.specs.Behind.{printed};
+ghost use Rattle.snesl_flatten.specs.Behind.{AddsPrinted, AddsSources};
+ghost use Rattle.snesl_flatten.specs.Unset.{unset_plan, unset_steps, AreUnsetSteps};
 
 use crate::offsets::first_offset;
 use flow_plans::{Operation, Step};
@@ -28,12 +25,8 @@ pub(crate) fn steps_of_program(
     alloc: Global,
     typed: &TypedProgram<'_>,
 ) -> Result<Vec<Step>, Refusal>
-    ensures steps { IfOk result (λ steps. steps_of (typed_dialect typed.now) steps.items ≡
-        program_steps (typed_text typed.now) (typed_tree typed.now)
-        (typed_inputs typed.now) unset_cells) }
-    ensures big { result ≡ Err TooBig → most_nodes <
-        length (program_steps (typed_text typed.now) (typed_tree typed.now)
-        (typed_inputs typed.now) unset_cells) }
+    ensures steps { IfOk result (λ steps. AreUnsetSteps typed.now steps.items) }
+    ensures big { result ≡ Err TooBig → most_nodes < length (unset_steps typed.now) }
     ensures memory { IfErr result (λ refusal. (refusal ≡ TooBig) ⊎ (refusal ≡ NoMemory)) }
 {
     let mut steps = Steps::new(alloc, typed.dialect());
@@ -45,9 +38,7 @@ pub(crate) fn steps_of_program(
 fn add_program(steps: &mut Steps, typed: &TypedProgram<'_>) -> Result<Wires, Refusal>
     requires dialect { dialect_of_steps steps.old ≡ typed_dialect typed.now }
     requires next { next_in steps.old ≡ 0 }
-    ensures { Adds wires_of steps.old steps.new
-        (program_plan (typed_text typed.now) (typed_tree typed.now)
-        (typed_inputs typed.now) unset_cells) result }
+    ensures { Adds wires_of steps.old steps.new (unset_plan typed.now) result }
 {
     let program = typed.program();
     let at = first_offset(&program.expr);
@@ -67,8 +58,7 @@ fn bind_inputs<'a>(
     at: usize,
     declarations: &'a [(Vec<u8>, Ty)],
 ) -> Result<Vec<Binding<'a>>, Refusal>
-    ensures { Adds (λ bindings. bindings_of bindings.items) steps.old steps.new
-        (inputs_sourced at unset_cells (declared declarations.now) (next_in steps.old)) result }
+    ensures { AddsSources at (declared declarations.now) steps.old steps.new result }
 {
     let mut bindings = Vec::new(steps.alloc());
     for declaration in declarations {
@@ -88,9 +78,7 @@ fn print_value(
     inputs: &[Binding<'_>],
     control: usize,
 ) -> Result<Wires, Refusal>
-    ensures { Adds wires_of steps.old steps.new
-        (printed steps.old at context.now (tree_of expr.now)
-        (bindings_of inputs.now) control) result }
+    ensures { AddsPrinted at context.now expr.now inputs.now control steps.old steps.new result }
 {
     let nothing = Scope::Nothing;
     let scope = Scope::Frame(inputs, &nothing);

@@ -4,7 +4,8 @@ use Rattle.snesl_data.specs.declared.refusal.Refusal.{Refusal}
 use Rattle.flow_networks.specs.declared.edge.Edge.{Edge}
 use Rattle.flow_drives.specs.declared.config.Config.{Config}
 use Rattle.snesl_flatten.specs.Networks.{NetworkMeans, StreamNodeState}
-use Rattle.snesl_network.specs.Driven.{FitsInGraph, IsNetworkFor, WasRefused}
+use Rattle.snesl_network.specs.Driven.{CameToRest, FitsInGraph, IsNetworkFor, WasRefused}
+use Rattle.snesl_network.specs.NodesAtRest.{FinalView}
 
 module _ (text input : List ℕ) where
   -- These nodes and edges are the network of the program with its input, which a graph may have, and compute its value.
@@ -16,3 +17,11 @@ module _ (text input : List ℕ) where
   -- there is no network of it, whatever the configuration
   abbrev pub HasNoNetwork : Refusal → Type 0
   HasNoNetwork refusal = (config : Config) → WasRefused text input config refusal
+
+-- what rests is as each program says of which these are the nodes and edges
+abbrev pub IsAsMeant : List StreamNodeState → List Edge → Config → FinalView StreamNodeState → Type 0
+IsAsMeant states edges config rest = (text input : List ℕ) → IsMeantFor text input states edges → CameToRest text input config rest
+
+-- so is the refusal
+abbrev pub IsRefusedAsMeant : List StreamNodeState → List Edge → Config → Refusal → Type 0
+IsRefusedAsMeant states edges config refusal = (text input : List ℕ) → IsMeantFor text input states edges → WasRefused text input config refusal

@@ -15,3 +15,7 @@ pub record FinalView (S : Type 0) : Type 0 where
 
 abbrev pub final_view : {X : Type 0} {t : Ghosts X} → Rested X t → FinalView t.State
 final_view rested = record { states = rested_states rested; edges = rested_edges rested; traffic = traffic_of rested; capacity = rested_capacity rested }
+
+-- this holds of the nodes at rest
+abbrev pub HasRested : {X : Type 0} {t : Ghosts X} → (FinalView t.State → Type 0) → Rested X t → Type 0
+HasRested holds rested = holds (final_view rested)

@@ -1,16 +1,16 @@
 // From the text of a program and its input to the network at rest.
 
-ghost use Rattle.std.specs.Prelude.{◌≡◌, ◌⊎◌, Err, IfErr, IfOk, List, ℕ};
+ghost use Rattle.std.specs.Prelude.{◌≡◌, ◌⊎◌, Err, IfErr, IfOk};
 ghost use Rattle.snesl_data.specs.declared.refusal.Refusal.TheVariants.{BadConfig, NoThread};
 ghost use Rattle.flow_nodes.specs.StreamNodes.{node_behaviour};
 ghost use Rattle.flow_networks.specs.Graphs.{states_of, edges_of};
 ghost use Rattle.flow_networks.specs.Networks.{AreOpened};
 ghost use Rattle.flow_drives.specs.Configs.{IsLawful};
-ghost use Rattle.flow_drives.specs.Resteds.{rested_rounds, rested_epochs};
-ghost use Rattle.flow_drives.specs.Starts.{AskedBy};
+ghost use Rattle.flow_drives.specs.Starts.{DriveAsks};
+ghost use Rattle.flow_assembly.specs.GraphsOfPlans.{HoldsOfGraph};
 ghost use Rattle.snesl_network.specs.Driven.{CameToRest, WasRefused};
-ghost use Rattle.snesl_network.specs.Meant.{IsMeantFor, HasNoNetwork};
-ghost use Rattle.snesl_network.specs.NodesAtRest.{final_view};
+ghost use Rattle.snesl_network.specs.Meant.{IsMeantFor, HasNoNetwork, IsAsMeant, IsRefusedAsMeant};
+ghost use Rattle.snesl_network.specs.NodesAtRest.{HasRested};
 ghost use Rattle.snesl_network.specs.WhichDrive.{WasDrivenBy};
 
 use flow_drives::{
@@ -49,8 +49,7 @@ pub fn drive_program<R: Threads, G: Gate + Send + Sync + Drop + 'static>(
     config: &Config,
     gate: Arc<G, Global>,
 ) -> Result<Rested<StreamNode>, Refusal>
-    ensures rests { IfOk result
-        (λ rested. CameToRest program.now input.now config.now (final_view rested)) }
+    ensures rests { IfOk result (HasRested (CameToRest program.now input.now config.now)) }
     ensures drive { IfOk result (λ rested. WasDrivenBy config.now rested) }
     ensures refused { IfErr result (WasRefused program.now input.now config.now) }
     ensures config { (IsLawful config.now → ⊥) → result ≡ Err BadConfig }
@@ -77,13 +76,11 @@ pub fn drive_program_with<R: Threads, G: Gate + Send + Sync + Drop + 'static, S:
     gate: Arc<G, Global>,
     start: &mut S,
 ) -> Result<Rested<StreamNode>, Refusal>
-    ensures rests { IfOk result
-        (λ rested. CameToRest program.now input.now config.now (final_view rested)) }
+    ensures rests { IfOk result (HasRested (CameToRest program.now input.now config.now)) }
     ensures drive { IfOk result (λ rested. WasDrivenBy config.now rested) }
     ensures refused { IfErr result (WasRefused program.now input.now config.now) }
     ensures config { (IsLawful config.now → ⊥) → result ≡ Err BadConfig }
-    ensures asked { IfOk result (λ rested. AskedBy config.now.drive (rested_rounds rested)
-        (rested_epochs rested) config.now.threads (S.asked start.old) (S.asked start.new)) }
+    ensures asked { IfOk result (λ rested. DriveAsks S.asked start.old start.new config.now rested) }
     ensures start { S.refused start.new → S.refused start.old ⊎ (result ≡ Err NoThread) }
 {
     if !config.lawful() {
@@ -95,8 +92,7 @@ pub fn drive_program_with<R: Threads, G: Gate + Send + Sync + Drop + 'static, S:
 
 // The network of a program with its input text, before any step.
 fn network(alloc: Global, program: &[u8], input: &[u8]) -> Result<Graph<StreamNode>, Refusal>
-    ensures meant { IfOk result
-        (λ graph. IsMeantFor program.now input.now (states_of graph) (edges_of graph)) }
+    ensures meant { IfOk result (HoldsOfGraph (IsMeantFor program.now input.now)) }
     ensures refused { IfErr result (HasNoNetwork program.now input.now) }
 {
     let program = parse(alloc, program)?;
@@ -119,15 +115,11 @@ fn driven<R: Threads, G: Gate + Send + Sync + Drop + 'static, S: Start>(
 ) -> Result<Rested<StreamNode>, Refusal>
     requires lawful { IsLawful config.now }
     requires opened { AreOpened node_behaviour (states_of graph) }
-    ensures rests { (text input : List ℕ)
-        → IsMeantFor text input (states_of graph) (edges_of graph)
-        → IfOk result (λ rested. CameToRest text input config.now (final_view rested)) }
+    ensures rests { IfOk result (HasRested (IsAsMeant (states_of graph) (edges_of graph)
+        config.now)) }
     ensures drive { IfOk result (λ rested. WasDrivenBy config.now rested) }
-    ensures refused { (text input : List ℕ)
-        → IsMeantFor text input (states_of graph) (edges_of graph)
-        → IfErr result (WasRefused text input config.now) }
-    ensures asked { IfOk result (λ rested. AskedBy config.now.drive (rested_rounds rested)
-        (rested_epochs rested) config.now.threads (S.asked start.old) (S.asked start.new)) }
+    ensures refused { IfErr result (IsRefusedAsMeant (states_of graph) (edges_of graph) config.now) }
+    ensures asked { IfOk result (λ rested. DriveAsks S.asked start.old start.new config.now rested) }
     ensures start { S.refused start.new → S.refused start.old ⊎ (result ≡ Err NoThread) }
 {
     flow_is_carried(&graph);

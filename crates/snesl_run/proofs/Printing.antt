@@ -11,7 +11,7 @@ use Rattle.kahn.specs.declared.outcome.Outcome.TheVariants.{Value as Ended, Faul
 use Rattle.flow_drives.specs.declared.config.Config.{Config}
 use Rattle.snesl_settings.specs.Settings.{AreLawful, RefusesBut}
 use Rattle.snesl_network.specs.Driven.{WasRefused}
-use Rattle.snesl_run.specs.Runs.{outcome_of, WroteFor, HasWritten, IsReported, HasError}
+use Rattle.snesl_run.specs.Runs.{outcome_of, WroteFor, IsReported, HasError}
 use Rattle.snesl_console.specs.Streams.{WriteEffect, ReadEffect, write_effect, WasTold}
 use Rattle.snesl_console.specs.Lines.{Prints, written, Refuses, refusal_line, fault_line, stalled_line}
 use Rattle.snesl_console.specs.Reads.{HasSplit, refusal_of}
@@ -53,7 +53,7 @@ module _ (config : Config) (program input : List ℕ) where
         subst (λ w. PrintedFor config program input (write_effect contents w after) err status) same (memory_refused printed)
 
     pub printed_fault : (fault : Fault) (report : Report) (line : Result (Vec ℕ Global) AllocError) (status : ℕ)
-        → IsReported program input config report → HasWritten program input (write_effect contents before mid) report → outcome_of report ≡ Failed fault
+        → IsReported program input config report → WroteFor program input (write_effect contents before mid) (outcome_of report) → outcome_of report ≡ Failed fault
         → IfOk line (λ l. l.items ≡ fault_line fault.kind fault.at)
         → MatchResult line (λ l. Prints (write_effect contents mid after) err l.items 2 status) (λ _. Refuses (write_effect contents mid after) err NoMemory status)
         → PrintedFor config program input (write_effect contents before after) err status
@@ -63,7 +63,7 @@ module _ (config : Config) (program input : List ℕ) where
         (λ out p. came_out report has (subst (λ o. PrintsOutcome program input out err o status) (sym e) (h.0, p))) made printed
 
     pub printed_stall : (edge : ℕ) (report : Report) (line : List ℕ) (status : ℕ)
-        → IsReported program input config report → HasWritten program input (write_effect contents before mid) report → outcome_of report ≡ Stalled edge → line ≡ stalled_line
+        → IsReported program input config report → WroteFor program input (write_effect contents before mid) (outcome_of report) → outcome_of report ≡ Stalled edge → line ≡ stalled_line
         → Prints (write_effect contents mid after) err line 3 status → PrintedFor config program input (write_effect contents before after) err status
     printed_stall edge report line status has wrote e is printed =
         let h : WroteFor program input (write_effect contents before mid) (Stalled edge) = subst (WroteFor program input (write_effect contents before mid)) e wrote in
@@ -104,7 +104,7 @@ module _ (config : Config) (program input : List ℕ) where
         system_error refusal status f (subst (λ r. HasError program input config out r) (sym e) has) told s
 
     -- a value's line that was written
-    pub printed_value : (report : Report) → IsReported program input config report → HasWritten program input out report → outcome_of report ≡ Ended
+    pub printed_value : (report : Report) → IsReported program input config report → WroteFor program input out (outcome_of report) → outcome_of report ≡ Ended
         → err.nothing → PrintedFor config program input out err 0
     printed_value report has wrote e silent =
         let h : WroteFor program input out Ended = subst (WroteFor program input out) e wrote in

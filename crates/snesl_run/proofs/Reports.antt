@@ -12,7 +12,7 @@ use Rattle.flow_drives.specs.Texts.{last_text}
 use Rattle.snesl_meaning.specs.Meaning.{Means, has_value}
 use Rattle.snesl_meaning.specs.Value.{MeaningsAreGiven}
 use Rattle.snesl_network.specs.Driven.{WasRefused}
-use Rattle.snesl_run.specs.Runs.{view_in_report, outcome_of, refusal_of, value_line, CameOut, WroteFor, HasWritten, WroteGiven, IsReported, IsCutShort, HasError, IsErrorOf, IsRefusedWith}
+use Rattle.snesl_run.specs.Runs.{view_in_report, outcome_of, refusal_of, value_line, CameOut, WroteFor, WroteGiven, IsReported, IsCutShort, HasError, IsRefusedWith}
 use Rattle.snesl_console.specs.Streams.{WriteEffect, IsWrittenWhole, IsCutOff, HasSent}
 use Rattle.snesl_run.specs.declared.report.Report.{Report}
 use Rattle.snesl_run.specs.declared.report.RunError.{RunError}
@@ -25,7 +25,7 @@ module _ (program input : List ℕ) (config : Config) (out : WriteEffect) where
 
   -- a program that was refused
   pub run_refused : (result : Result Report RunError) (refusal : Refusal) → IsErrAnd result (λ error. refusal_of error ≡ refusal)
-      → WasRefused program input config refusal → out.nothing → IfErr result (IsErrorOf program input config out)
+      → WasRefused program input config refusal → out.nothing → IfErr result (λ error. HasError program input config out (refusal_of error))
   run_refused (Ok report) refusal is was untouched = absurd is
   run_refused (Err error) refusal is was untouched = subst (HasError program input config out) (sym is) (refused_untouched refusal was untouched)
 
@@ -54,13 +54,13 @@ module _ (program input : List ℕ) (config : Config) (report : Report) (reporte
 
     -- or written whole
     pub line_written : (printed line : List ℕ) (all : Bool) → outcome_of report ≡ Ended → printed ≡ last_text text_in (view_in_report report).states
-        → line ≡ printed ++ 10 ∷ [] → HasSent out line all → all ≡ true → HasWritten program input out report
+        → line ≡ printed ++ 10 ∷ [] → HasSent out line all → all ≡ true → WroteFor program input out (outcome_of report)
     line_written printed line all is told made sent whole =
         let h = line_is printed line is told made in
         subst (WroteFor program input out) (sym is) (h.0, h.1, subst (IsWrittenWhole out) h.2 (subst (HasSent out line) whole sent))
 
     -- nothing was written where not all nodes have ended
-    pub nothing_written : (outcome : Outcome) → outcome_of report ≡ outcome → (outcome ≡ Ended → ⊥) → out.nothing → HasWritten program input out report
+    pub nothing_written : (outcome : Outcome) → outcome_of report ≡ outcome → (outcome ≡ Ended → ⊥) → out.nothing → WroteFor program input out (outcome_of report)
     nothing_written Ended is not untouched = absurd (not refl)
     nothing_written (Failed f) is not untouched =
         subst (WroteFor program input out) (sym is) (reported.came.fault f (subst (CameOut (view_in_report report)) is reported.outcome), untouched)

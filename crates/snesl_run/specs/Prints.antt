@@ -1,5 +1,9 @@
 -- What the program prints for a job, and its exit status.
-use Rattle.std.specs.Prelude.{ℕ, List}
+use Rattle.std.specs.Prelude.{ℕ, List, Option, Result, MatchResult}
+use Rattle.std.specs.declared.alloc.AllocError.{AllocError}
+use Rattle.std.specs.declared.alloc.Global.{Global}
+use Rattle.std.specs.declared.vec.Vec.{Vec}
+use Rattle.snesl_data.specs.declared.counted.Counted.{Counted}
 use Rattle.snesl_data.specs.declared.refusal.Refusal.{Refusal}
 use Rattle.snesl_data.specs.declared.refusal.Refusal.TheVariants.{BadConfig, NoMemory, Read}
 use Rattle.snesl_data.specs.Values.{Value}
@@ -11,7 +15,7 @@ use Rattle.snesl_meaning.specs.Meaning.{Means, has_value}
 use Rattle.snesl_settings.specs.Settings.{AreLawful, SaysSo}
 use Rattle.snesl_network.specs.Driven.{WasRefused}
 use Rattle.snesl_console.specs.Job.{IsJob}
-use Rattle.snesl_console.specs.Streams.{WriteEffect, ReadEffect}
+use Rattle.snesl_console.specs.Streams.{WriteEffect, ReadEffect, write_effect}
 use Rattle.snesl_console.specs.Lines.{fault_line, stalled_line, Prints, Refuses}
 use Rattle.snesl_console.specs.Reads.{IsRead, IsBrokenOff, HoldsOfJob}
 use Rattle.snesl_run.specs.declared.report.Report.{Report}
@@ -59,3 +63,15 @@ pub data Answered (words : List (List ℕ)) (reader : ReadEffect) (out err : Wri
   -- the job is answered under the configuration that they say
   under : {status : ℕ} (config : Config) → SaysSo words config → IsLawful config → IsJobAnswered config reader out err status
       → Answered words reader out err status
+
+-- the same of writers before a call and after it, by the bytes that they hold
+module _ {W E : Type 0} (contents : W → Option (List ℕ)) (err_contents : E → Option (List ℕ)) (out out' : Counted W) (err err' : Counted E) where
+  -- what is printed of a refusal, and the exit status
+  abbrev pub PrintsRefusal : Refusal → ℕ → Type 0
+  PrintsRefusal refusal status = Refuses (write_effect contents out out') (write_effect err_contents err err') refusal status
+
+  -- what is printed of a line, and the exit status; where there is none, memory was refused
+  abbrev pub PrintsMade : Result (Vec ℕ Global) AllocError → ℕ → ℕ → Type 0
+  PrintsMade line code status =
+      MatchResult line (λ line. Prints (write_effect contents out out') (write_effect err_contents err err') line.items code status)
+      (λ _. PrintsRefusal NoMemory status)

@@ -1,5 +1,6 @@
 -- What a run writes and answers.
-use Rattle.std.specs.Prelude.{◌≡◌, ℕ, List, [], ◌∷◌, ◌++◌, Result, Ok, Err}
+use Rattle.std.specs.Prelude.{◌≡◌, ℕ, List, [], ◌∷◌, ◌++◌, Option, Result, Ok, Err, IfOk, IfErr}
+use Rattle.snesl_data.specs.declared.counted.Counted.{Counted}
 use Rattle.snesl_data.specs.declared.fault.FaultKind.{FaultKind}
 use Rattle.snesl_data.specs.declared.refusal.Refusal.{Refusal}
 use Rattle.snesl_data.specs.declared.refusal.Refusal.TheVariants.{NoMemory, Output}
@@ -10,13 +11,14 @@ use Rattle.kahn.specs.declared.outcome.Outcome.TheVariants.{Value as Ended, Faul
 use Rattle.flow_nodes.specs.StreamNodes.{node_behaviour}
 use Rattle.flow_drives.specs.declared.config.Config.{Config}
 use Rattle.flow_drives.specs.Drives.{ComesOut}
+use Rattle.flow_drives.specs.Starts.{DriveAsks}
 use Rattle.snesl_flatten.specs.Networks.{StreamNodeState}
 use Rattle.snesl_meaning.specs.Meaning.{Means, has_value, has_fault}
 use Rattle.snesl_meaning.specs.Value.{GivesValue, GivesFault}
 use Rattle.snesl_network.specs.NodesAtRest.{FinalView, final_view}
 use Rattle.snesl_network.specs.WhichDrive.{WasDrivenBy}
 use Rattle.snesl_network.specs.Driven.{CameToRest, WasRefused}
-use Rattle.snesl_console.specs.Streams.{WriteEffect, IsWrittenWhole, IsCutOff}
+use Rattle.snesl_console.specs.Streams.{WriteEffect, write_effect, IsWrittenWhole, IsCutOff}
 use Rattle.snesl_run.specs.declared.report.Report.{Report}
 use Rattle.snesl_run.specs.declared.report.RunError.{RunError}
 
@@ -51,9 +53,9 @@ WroteFor program input out Ended = (v : Value) × Means program input (has_value
 WroteFor program input out (Failed f) = EndsInFault program input × out.nothing
 WroteFor program input out (Stalled e) = out.nothing
 
--- and so for a report
-abbrev pub HasWritten : (program input : List ℕ) → WriteEffect → Report → Type 0
-HasWritten program input out report = WroteFor program input out (outcome_of report)
+-- and so for a report, and a writer before the run and after it, by the bytes that it holds
+abbrev pub HasWritten : {W : Type 0} → (W → Option (List ℕ)) → (program input : List ℕ) → Counted W → Counted W → Report → Type 0
+HasWritten contents program input out out' report = WroteFor program input (write_effect contents out out') (outcome_of report)
 
 -- The same by what the program gives, which neither rules of typing nor limits on sizes say: where all nodes have ended, the
 -- line of the value that it gives was written; where a fault is named, it gives one, perhaps another, and nothing was written.
@@ -63,8 +65,8 @@ WroteGiven program input out (Failed f) = GivesFault program input × out.nothin
 WroteGiven program input out (Stalled e) = out.nothing
 
 -- and so for a report
-abbrev pub HasWrittenGiven : (program input : List ℕ) → WriteEffect → Report → Type 0
-HasWrittenGiven program input out report = WroteGiven program input out (outcome_of report)
+abbrev pub HasWrittenGiven : {W : Type 0} → (W → Option (List ℕ)) → (program input : List ℕ) → Counted W → Counted W → Report → Type 0
+HasWrittenGiven contents program input out out' report = WroteGiven program input (write_effect contents out out') (outcome_of report)
 
 -- What rests in a report: the network of the program with its input, driven by the drive of the configuration; and how it came
 -- out.
@@ -92,10 +94,20 @@ HasError program input config out Output = IsCutShort program input config out
 HasError program input config out refusal = WasRefused program input config refusal × out.nothing
 
 -- and so for the error of a run
-abbrev pub IsErrorOf : (program input : List ℕ) → Config → WriteEffect → RunError → Type 0
-IsErrorOf program input config out error = HasError program input config out (refusal_of error)
+abbrev pub Errs : {W : Type 0} → (W → Option (List ℕ)) → (program input : List ℕ) → Config → Counted W → Counted W → RunError → Type 0
+Errs contents program input config out out' error = HasError program input config (write_effect contents out out') (refusal_of error)
 
 -- it was refused, and with this refusal
 abbrev pub IsRefusedWith : Refusal → Result Report RunError → Type 0
 IsRefusedWith refusal (Ok report) = ⊥
 IsRefusedWith refusal (Err error) = refusal_of error ≡ refusal
+
+-- what a start was asked by the drive that came to this report
+abbrev pub RunAsks : {Y : Type 0} → (Y → List ℕ) → Y → Y → Config → Report → Type 0
+RunAsks asked start start' config report = DriveAsks asked start start' config report.rested
+
+-- What a run answers: a report, and what was written for it; or why there is none.
+pub record HasRun {W : Type 0} (contents : W → Option (List ℕ)) (program input : List ℕ) (config : Config) (out out' : Counted W) (result : Result Report RunError) : Type 0 where
+  pub network : IfOk result (IsReported program input config)
+  pub wrote : IfOk result (HasWritten contents program input out out')
+  pub refused : IfErr result (Errs contents program input config out out')

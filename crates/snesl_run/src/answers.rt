@@ -1,11 +1,11 @@
 // Answering a job.
 
-ghost use Rattle.std.specs.Prelude.{◌≡◌, ◌⊎◌, IfOk, IfErr, MatchResult};
+ghost use Rattle.std.specs.Prelude.{◌≡◌, ◌⊎◌};
 ghost use Rattle.clap.specs.Walk.{texts};
 ghost use Rattle.snesl_console.specs.Streams.{read_effect, write_effect};
-ghost use Rattle.snesl_console.specs.Lines.{Prints, Refuses};
 ghost use Rattle.snesl_run.specs.Prints.{Answered, IsJobAnswered, PrintedFor};
-ghost use Rattle.snesl_run.specs.Runs.{IsReported, HasWritten, IsErrorOf};
+ghost use Rattle.snesl_run.specs.Prints.{PrintsMade, PrintsRefusal};
+ghost use Rattle.snesl_run.specs.Runs.{HasRun};
 ghost use Rattle.snesl_data.specs.declared.refusal.Refusal.TheVariants.{BadConfig, NoMemory};
 
 use crate::report::{Report, RunError};
@@ -64,8 +64,7 @@ fn refuse_words<W: Write, E: Write>(
     err: &mut Counted<E>,
 ) -> u8
     requires { (refusal ≡ BadConfig) ⊎ (refusal ≡ NoMemory) }
-    ensures { Refuses (write_effect W.contents out.old out.new)
-        (write_effect E.contents err.old err.new) refusal result }
+    ensures { PrintsRefusal W.contents E.contents out.old out.new err.old err.new refusal result }
 {
     if refusal.is_of_the_system() {
         complain(refusal, err)
@@ -133,11 +132,7 @@ fn run_alone<W: Write>(
     config: &Config,
     out: &mut Counted<W>,
 ) -> Result<Report, RunError>
-    ensures network { IfOk result (IsReported program.now input.now config.now) }
-    ensures wrote { IfOk result
-        (HasWritten program.now input.now (write_effect W.contents out.old out.new)) }
-    ensures refused { IfErr result
-        (IsErrorOf program.now input.now config.now (write_effect W.contents out.old out.new)) }
+    ensures { HasRun W.contents program.now input.now config.now out.old out.new result }
 {
     match Arc::new(alloc, NoGate) {
         Ok(gate) => run(rt, alloc, program, input, config, gate, out),
@@ -154,11 +149,7 @@ fn print_made<W: Write, E: Write>(
     out: &mut Counted<W>,
     err: &mut Counted<E>,
 ) -> u8
-    ensures { MatchResult line
-        (λ line. Prints (write_effect W.contents out.old out.new)
-        (write_effect E.contents err.old err.new) line.items status result)
-        (λ _. Refuses (write_effect W.contents out.old out.new)
-        (write_effect E.contents err.old err.new) NoMemory result) }
+    ensures { PrintsMade W.contents E.contents out.old out.new err.old err.new line status result }
 {
     match line {
         Ok(line) => print(&line, status, out, err),

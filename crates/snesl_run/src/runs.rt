@@ -3,11 +3,9 @@
 ghost use Rattle.std.specs.Prelude.{◌≡◌, ◌++◌, ◌∷◌, ◌⊎◌, IfErr, IfOk, []};
 ghost use Rattle.snesl_data.specs.declared.refusal.Refusal.TheVariants.{BadConfig, NoMemory, NoThread};
 ghost use Rattle.flow_drives.specs.Configs.{IsLawful};
-ghost use Rattle.flow_drives.specs.Resteds.{rested_rounds, rested_epochs};
-ghost use Rattle.flow_drives.specs.Starts.{AskedBy};
-ghost use Rattle.snesl_console.specs.Streams.{write_effect};
 ghost use Rattle.snesl_run.specs.Alike.{IsTheOneWay};
-ghost use Rattle.snesl_run.specs.Runs.{IsReported, HasWritten, HasWrittenGiven, IsErrorOf, IsRefusedWith};
+ghost use Rattle.snesl_run.specs.Runs.{IsReported, HasWritten, HasWrittenGiven, Errs};
+ghost use Rattle.snesl_run.specs.Runs.{IsRefusedWith, RunAsks};
 
 use crate::laws::one_outcome;
 use crate::report::{Report, RunError};
@@ -54,12 +52,10 @@ pub fn run<R: Threads, W: Write, G: Gate + Send + Sync + Drop + 'static>(
     out: &mut Counted<W>,
 ) -> Result<Report, RunError>
     ensures network { IfOk result (IsReported program.now input.now config.now) }
-    ensures wrote { IfOk result
-        (HasWritten program.now input.now (write_effect W.contents out.old out.new)) }
-    ensures value { IfOk result
-        (HasWrittenGiven program.now input.now (write_effect W.contents out.old out.new)) }
-    ensures refused { IfErr result
-        (IsErrorOf program.now input.now config.now (write_effect W.contents out.old out.new)) }
+    ensures wrote { IfOk result (HasWritten W.contents program.now input.now out.old out.new) }
+    ensures value { IfOk result (HasWrittenGiven W.contents program.now input.now out.old out.new) }
+    ensures refused { IfErr result (Errs W.contents program.now input.now config.now out.old
+        out.new) }
     ensures config { (IsLawful config.now → ⊥) → IsRefusedWith BadConfig result }
     ensures one { IfOk result (IsTheOneWay program.now input.now config.now) }
 {
@@ -88,16 +84,13 @@ pub fn run_with<R: Threads, W: Write, G: Gate + Send + Sync + Drop + 'static, S:
     start: &mut S,
 ) -> Result<Report, RunError>
     ensures network { IfOk result (IsReported program.now input.now config.now) }
-    ensures wrote { IfOk result
-        (HasWritten program.now input.now (write_effect W.contents out.old out.new)) }
-    ensures value { IfOk result
-        (HasWrittenGiven program.now input.now (write_effect W.contents out.old out.new)) }
-    ensures refused { IfErr result
-        (IsErrorOf program.now input.now config.now (write_effect W.contents out.old out.new)) }
+    ensures wrote { IfOk result (HasWritten W.contents program.now input.now out.old out.new) }
+    ensures value { IfOk result (HasWrittenGiven W.contents program.now input.now out.old out.new) }
+    ensures refused { IfErr result (Errs W.contents program.now input.now config.now out.old
+        out.new) }
     ensures config { (IsLawful config.now → ⊥) → IsRefusedWith BadConfig result }
     ensures one { IfOk result (IsTheOneWay program.now input.now config.now) }
-    ensures asked { IfOk result (λ report. AskedBy config.now.drive (rested_rounds report.rested)
-        (rested_epochs report.rested) config.now.threads (S.asked start.old) (S.asked start.new)) }
+    ensures asked { IfOk result (RunAsks S.asked start.old start.new config.now) }
     ensures start { S.refused start.new → S.refused start.old ⊎ IsRefusedWith NoThread result }
 {
     one_meaning();

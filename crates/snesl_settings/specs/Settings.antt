@@ -1,11 +1,13 @@
 -- What a command line says.
-use Rattle.std.specs.Prelude.{◌≡◌, ◌⊎◌, ℕ, true, List, [], ◌∷◌, Option, Some, None, codes, fold, length, map}
+use Rattle.std.specs.Prelude.{◌≡◌, ◌<◌, ◌^◌, ◌⊎◌, ℕ, true, List, [], ◌∷◌, Option, Some, None, codes, fold, length, map, option_map}
+use Rattle.std.specs.Borrow.{Bor}
 use Rattle.std.specs.List.{All, range_with_len}
 use Rattle.std.specs.Char.{digit_value}
 use Rattle.std.specs.Int.{IsInRange}
 use Rattle.std.specs.Str.Parse.{IsNumeral, digits_value, without_leading_plus}
 use Rattle.clap.specs.Simple.{on_top}
-use Rattle.clap.specs.Words.{App, Rule, Text, fault_of, first_of, matches_of, new_app, new_rule, with_rule}
+use Rattle.clap.specs.Words.{App, Rule, Text, fault_of, first_of, found_of, matches_of, new_app, new_rule, rows_of, with_rule}
+use Rattle.clap.specs.declared.parser.matches.ArgMatches.{ArgMatches}
 use Rattle.snesl_data.specs.declared.refusal.Refusal.{Refusal}
 use Rattle.snesl_data.specs.declared.refusal.Refusal.TheVariants.{BadConfig, NoMemory}
 use Rattle.flow_drives.specs.Configs.{IsLawful, IsWithin}
@@ -35,17 +37,37 @@ command_line = fold with_rule (without_help (new_app (codes "snesl"))) (map opti
 abbrev pub option_value : List Text → Text → Option Text
 option_value words name = first_of name (matches_of command_line words)
 
+-- these are the matches of the words
+abbrev pub IsFoundIn : List Text → ArgMatches → Type 0
+IsFoundIn words matches = rows_of (found_of matches) ≡ matches_of command_line words
+
+-- the value that the matches give the option
+abbrev pub value_found : ArgMatches → Text → Option Text
+value_found matches name = first_of name (rows_of (found_of matches))
+
 -- ---- the values
+
+-- the text of a value
+abbrev pub text_said : Option (Bor Text) → Option Text
+text_said said = option_map (λ text. text.now) said
 
 -- The text is a spelling of the number: decimal digits, before which one plus may stand.
 pub record SpellsNumber (text : Text) (number : ℕ) : Type 0 where
   pub digits : IsNumeral 10 (without_leading_plus text)
   pub value : digits_value 10 (without_leading_plus text) ≡ number
 
+-- it spells none of 64 bits
+abbrev pub SpellsNoNumber : Text → Type 0
+SpellsNoNumber text = (number : ℕ) → number < 2 ^ 64 → ¬ (SpellsNumber text number)
+
 -- the value spells the number; where there is no value, the number is the default
 abbrev pub SaysNumber : Option Text → ℕ → ℕ → Type 0
 SaysNumber None default number = number ≡ default
 SaysNumber (Some text) default number = SpellsNumber text number
+
+-- it says no number from 1 to the most
+abbrev pub SaysNoneWithin : (most : ℕ) → Option Text → ℕ → Type 0
+SaysNoneWithin most value default = (number : ℕ) → IsWithin most number → ¬ (SaysNumber value default number)
 
 -- the word for a drive
 abbrev pub drive_word : Drive → Text
@@ -77,6 +99,10 @@ abbrev pub SaysShare : Option Text → ℕ → List ℕ → Type 0
 SaysShare None threads share = share ≡ range_with_len 0 threads
 SaysShare (Some text) threads share = SpellsShare text share
 
+-- it says some entries
+abbrev pub SaysSomeShare : Option Text → ℕ → Type 0
+SaysSomeShare value threads = (share : List ℕ) × SaysShare value threads share
+
 -- ---- the configuration
 
 -- Each field is what its option says, by the values of the options.
@@ -87,6 +113,10 @@ pub record HasFields (value : Text → Option Text) (config : Config) : Type 0 w
   pub idle : SaysNumber (value (codes "idle")) 64 config.idle
   pub drive : SaysDrive (value (codes "drive")) config.drive
   pub share : SaysShare (value (codes "deal")) config.threads config.share.items
+
+-- the options say a configuration that is lawful
+abbrev pub HaveLawfulFields : (Text → Option Text) → Type 0
+HaveLawfulFields value = (config : Config) × HasFields value config × IsLawful config
 
 -- The words say the configuration: clap finds no fault in them, and each field is what its option says.
 pub record SaysSo (words : List Text) (config : Config) : Type 0 where

@@ -2,11 +2,10 @@
 
 ghost use Rattle.std.specs.Prelude.{◌≡◌, ◌⊎◌, IfOk, IfErr};
 ghost use Rattle.clap.specs.Walk.{texts};
-ghost use Rattle.clap.specs.Words.{first_of, found_of, rows_of};
 ghost use Rattle.snesl_data.specs.declared.refusal.Refusal.TheVariants.{BadConfig, NoMemory};
 ghost use Rattle.flow_drives.specs.Configs.{IsLawful};
-ghost use Rattle.flow_drives.specs.declared.config.Config.{Config as ConfigSpec};
-ghost use Rattle.snesl_settings.specs.Settings.{AreLawful, HasFields, RefusesBut, SaysSo};
+ghost use Rattle.snesl_settings.specs.Settings.{AreLawful, HasFields, HaveLawfulFields};
+ghost use Rattle.snesl_settings.specs.Settings.{RefusesBut, SaysSo, value_found};
 
 use crate::options::{matched, value_of};
 use crate::values::{drive_said, number_said, share_said};
@@ -49,11 +48,8 @@ pub fn settings<'a>(alloc: Global, words: &'a [&'a str]) -> Result<Config, Refus
 
 // The configuration that the values of the options say.
 fn config_said(alloc: Global, matches: &ArgMatches<'_>) -> Result<Config, Refusal>
-    ensures fields { IfOk result
-        (HasFields (λ name. first_of name (rows_of (found_of matches.now)))) }
-    ensures refused { IfErr result (RefusesBut ((config : ConfigSpec)
-        × HasFields (λ name. first_of name (rows_of (found_of matches.now))) config
-        × IsLawful config)) }
+    ensures fields { IfOk result (HasFields (value_found matches.now)) }
+    ensures refused { IfErr result (RefusesBut (HaveLawfulFields (value_found matches.now))) }
 {
     let capacity = number_said(value_of(matches, "capacity"), 256, MAX_CAPACITY)?;
     let chunk = number_said(value_of(matches, "chunk"), 16, MAX_CHUNK)?;

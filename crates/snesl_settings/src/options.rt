@@ -1,11 +1,12 @@
 // The options of the command line, by clap.
 
-ghost use Rattle.std.specs.Prelude.{◌≡◌, [], false, IfOk, IfErr, option_map};
+ghost use Rattle.std.specs.Prelude.{◌≡◌, [], false, IfOk, IfErr};
 ghost use Rattle.clap.specs.Walk.{texts};
-ghost use Rattle.clap.specs.Words.{app_of, fault_of, first_of, found_of, kind_of, matches_of, rows_of, rule_of};
+ghost use Rattle.clap.specs.Words.{app_of, fault_of, kind_of, rule_of};
 ghost use Rattle.clap.specs.declared.error.kind.ErrorKind.TheVariants.{OutOfMemory};
 ghost use Rattle.snesl_data.specs.declared.refusal.Refusal.TheVariants.{BadConfig, NoMemory};
-ghost use Rattle.snesl_settings.specs.Settings.{RefusesBut, command_line, option_named};
+ghost use Rattle.snesl_settings.specs.Settings.{IsFoundIn, RefusesBut, command_line};
+ghost use Rattle.snesl_settings.specs.Settings.{option_named, text_said, value_found};
 
 use clap::error::ErrorKind;
 use clap::{Arg, ArgMatches, Command, Error};
@@ -15,8 +16,7 @@ use std::alloc::{AllocError, Global};
 // What clap finds for the options in the words, the first of which is the program's name.
 pub(crate) fn matched<'a>(alloc: Global, words: &'a [&'a str]) -> Result<ArgMatches<'a>, Refusal>
     ensures faultless { IfOk result (λ _. fault_of command_line (texts words.entry.now) ≡ []) }
-    ensures rows { IfOk result (λ matches. rows_of (found_of matches) ≡
-        matches_of command_line (texts words.entry.now)) }
+    ensures rows { IfOk result (IsFoundIn (texts words.entry.now)) }
     ensures refused { IfErr result (RefusesBut (fault_of command_line (texts words.entry.now) ≡
         [])) }
 {
@@ -29,8 +29,7 @@ pub(crate) fn matched<'a>(alloc: Global, words: &'a [&'a str]) -> Result<ArgMatc
 
 // The value of the option, where it has one.
 pub(crate) fn value_of<'a>(matches: &ArgMatches<'a>, name: &str) -> Option<&'a str>
-    ensures { option_map (λ text. text.now) result ≡
-        first_of name.now (rows_of (found_of matches.now)) }
+    ensures { text_said result ≡ value_found matches.now name.now }
 {
     matches.get_str(name)
 }

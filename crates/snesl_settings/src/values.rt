@@ -1,12 +1,15 @@
 // What the values of the options say.
 
-ghost use Rattle.std.specs.Prelude.{◌≡◌, ◌≤◌, ◌<◌, ◌^◌, ℕ, List, IfOk, IfErr, option_map};
+ghost use Rattle.std.specs.Prelude.{◌≡◌, ◌≤◌, ℕ, List, IfOk, IfErr};
 ghost use Rattle.std.specs.Char.{digit_value};
 ghost use Rattle.std.specs.List.{range_with_len};
 ghost use Rattle.flow_drives.specs.Configs.{IsWithin};
 ghost use Rattle.flow_drives.specs.Limits.{most_threads};
 ghost use Rattle.snesl_data.specs.declared.refusal.Refusal.TheVariants.{BadConfig};
-ghost use Rattle.snesl_settings.specs.Settings.{IsShareDigit, RefusesBut, drive_word, SaysDrive, SaysNumber, SaysShare, SpellsNumber, SpellsShare};
+ghost use Rattle.snesl_settings.specs.Settings.{IsShareDigit, RefusesBut, drive_word, text_said};
+ghost use Rattle.snesl_settings.specs.Settings.{SaysDrive, SaysNumber, SaysNoneWithin};
+ghost use Rattle.snesl_settings.specs.Settings.{SaysShare, SaysSomeShare};
+ghost use Rattle.snesl_settings.specs.Settings.{SpellsNumber, SpellsNoNumber, SpellsShare};
 
 use flow_drives::Drive;
 use snesl_data::Refusal;
@@ -18,11 +21,9 @@ const MAX_DIGITS: usize = 64;
 // The number from 1 to `most` that the value spells, or the default where there is no value.
 pub(crate) fn number_said(said: Option<&str>, default: usize, most: usize) -> Result<usize, Refusal>
     ensures within { IfOk result (λ number. IsWithin most number) }
-    ensures said { IfOk result (λ number. SaysNumber
-        (option_map (λ text. text.now) said.entry) default number) }
+    ensures said { IfOk result (λ number. SaysNumber (text_said said.entry) default number) }
     ensures refused { IfErr result (λ refusal. refusal ≡ BadConfig) }
-    ensures unsaid { IfErr result (λ _. (number : ℕ) → IsWithin most number →
-        ¬ (SaysNumber (option_map (λ text. text.now) said.entry) default number)) }
+    ensures unsaid { IfErr result (λ _. SaysNoneWithin most (text_said said.entry) default) }
 {
     let number = match said {
         None => default,
@@ -39,8 +40,7 @@ pub(crate) fn number_said(said: Option<&str>, default: usize, most: usize) -> Re
 fn number_spelled(text: &str) -> Result<usize, Refusal>
     ensures spelled { IfOk result (λ number. SpellsNumber text.now number) }
     ensures refused { IfErr result (λ refusal. refusal ≡ BadConfig) }
-    ensures unspelled { IfErr result (λ _. (number : ℕ) → number < 2 ^ 64 →
-        ¬ (SpellsNumber text.now number)) }
+    ensures unspelled { IfErr result (λ _. SpellsNoNumber text.now) }
 {
     match text.parse::<usize>() {
         Ok(number) => Ok(number),
@@ -50,11 +50,9 @@ fn number_spelled(text: &str) -> Result<usize, Refusal>
 
 // The drive of which the value is the word, or `Rings` where there is no value.
 pub(crate) fn drive_said(said: Option<&str>) -> Result<Drive, Refusal>
-    ensures said { IfOk result (λ drive. SaysDrive
-        (option_map (λ text. text.now) said.entry) drive) }
+    ensures said { IfOk result (λ drive. SaysDrive (text_said said.entry) drive) }
     ensures refused { IfErr result (λ refusal. refusal ≡ BadConfig) }
-    ensures unsaid { IfErr result (λ _. (drive : _) →
-        ¬ (SaysDrive (option_map (λ text. text.now) said.entry) drive)) }
+    ensures unsaid { IfErr result (λ _. (drive : _) → ¬ (SaysDrive (text_said said.entry) drive)) }
 {
     match said {
         None => Ok(Drive::Rings),
@@ -86,10 +84,8 @@ pub(crate) fn share_said(
     threads: usize,
 ) -> Result<Vec<u8>, Refusal>
     requires { threads ≤ most_threads }
-    ensures said { IfOk result (λ share. SaysShare
-        (option_map (λ text. text.now) said.entry) threads share.items) }
-    ensures refused { IfErr result (RefusesBut ((share : List ℕ) ×
-        SaysShare (option_map (λ text. text.now) said.entry) threads share)) }
+    ensures said { IfOk result (λ share. SaysShare (text_said said.entry) threads share.items) }
+    ensures refused { IfErr result (RefusesBut (SaysSomeShare (text_said said.entry) threads)) }
 {
     match said {
         None => {

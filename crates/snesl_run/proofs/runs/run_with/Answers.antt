@@ -3,7 +3,7 @@ use Rattle.kahn.specs.declared.outcome.Outcome.{Outcome}
 use Rattle.kahn.specs.declared.outcome.Outcome.TheVariants.{Value as Ended, Fault as Failed, Stalled}
 use Rattle.flow_nodes.specs.StreamNodes.{text_in}
 use Rattle.snesl_console.specs.Streams.{write_effect, HasSent}
-use Rattle.snesl_run.specs.Runs.{HasWritten, IsReported}
+use Rattle.snesl_run.specs.Runs.{outcome_of, IsReported, WroteFor}
 use Rattle.snesl_run.specs.declared.report.Report.{Report}
 use Rattle.snesl_run.proofs.Reports.{run_refused, line_cut_off, line_written, nothing_written, given_for, start_kept, start_refused}
 use Rattle.snesl_run.proofs.runs.run_with.Goals.{in-Value+in_ok-line-in-Value+else-not-send, in-Fault, in-Stalled}
@@ -37,15 +37,15 @@ returns-clause-wrote g c =
     outcome is not refl in
     elim c.match-outcome.branch [
       | in-Value+in_ok-line-in-Value+else-not-send w ↦
-          subst (λ out. HasWritten c.args.program.now c.args.input.now (write_effect g.W.Write.contents c.args.out.now out) report) (sym w.out-is)
+          subst (λ out. WroteFor c.args.program.now c.args.input.now (write_effect g.W.Write.contents c.args.out.now out) (outcome_of report)) (sym w.out-is)
           (line_written c.args.program.now c.args.input.now c.args.config.now report reported (write_effect g.W.Write.contents c.args.out.now w.send.new.out)
           w.text.result.now w.in_ok-line-in-Value.line.items w.send.result w.in-Value.is (w.text.ensures text_in (λ node. refl)) w.in_ok-line-in-Value.ensures.line
           (subst (λ l. HasSent (write_effect g.W.Write.contents c.args.out.now w.send.new.out) l w.send.result) w.deref.ensures.value w.send.ensures) w.if-not-send.false)
       | in-Fault w ↦
-          subst (λ out. HasWritten c.args.program.now c.args.input.now (write_effect g.W.Write.contents c.args.out.now out) report) (sym w.out-is)
+          subst (λ out. WroteFor c.args.program.now c.args.input.now (write_effect g.W.Write.contents c.args.out.now out) (outcome_of report)) (sym w.out-is)
           (untouched (Failed _) w.in-Fault.is (λ e. absurd (cc)))
       | in-Stalled w ↦
-          subst (λ out. HasWritten c.args.program.now c.args.input.now (write_effect g.W.Write.contents c.args.out.now out) report) (sym w.out-is)
+          subst (λ out. WroteFor c.args.program.now c.args.input.now (write_effect g.W.Write.contents c.args.out.now out) (outcome_of report)) (sym w.out-is)
           (untouched (Stalled _) w.in-Stalled.is (λ e. absurd (cc)))
     ]
 
