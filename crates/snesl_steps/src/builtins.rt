@@ -1,11 +1,9 @@
 // The steps of built-in functions.
 
-ghost use Rattle.std.specs.Prelude.{◌≡◌, ◌∷◌, [], map};
-ghost use Rattle.snesl_data.specs.Types.{ty_of};
-ghost use Rattle.snesl_tree.specs.declared.operator.Builtin.TheVariants.{Iota, ScanAdd, The, Tab, Seq};
-ghost use Rattle.snesl_translation.specs.Translation.{call_streams, parted, reduction};
-ghost use Rattle.snesl_steps.specs.Views.{dialect_of_steps, next_in, wires_of};
-ghost use Rattle.snesl_steps.specs.Added.{Adds};
+ghost use Rattle.std.specs.Prelude.{◌∷◌, [], map};
+ghost use Rattle.snesl_tree.specs.declared.operator.Builtin.TheVariants.{Iota, ScanAdd, Seq, Tab, The};
+ghost use Rattle.snesl_steps.specs.Views.{wires_of};
+ghost use Rattle.snesl_steps.specs.Added.{AddsCall, AddsParts, AddsReduction};
 
 use crate::forms::{concatenate, item_of};
 use crate::steps::Steps;
@@ -23,9 +21,7 @@ pub fn apply_built_in(
     function: Builtin,
     arguments: &[Wires],
 ) -> Result<Wires, Refusal>
-    ensures { Adds wires_of steps.old steps.new
-        (call_streams (dialect_of_steps steps.old) at function (map wires_of arguments.now)
-        (next_in steps.old)) result }
+    ensures { AddsCall steps.old steps.new at function (map wires_of arguments.now) result }
 {
     match (function, arguments) {
         (Builtin::Iota, [count]) => iota(steps, at, count),
@@ -50,9 +46,7 @@ pub fn apply_built_in(
 
 // The integers from 0 on, as many as a count says.
 fn iota(steps: &mut Steps, at: usize, count: &Wires) -> Result<Wires, Refusal>
-    ensures { Adds wires_of steps.old steps.new
-        (call_streams (dialect_of_steps steps.old) at Iota (wires_of count.now ∷ [])
-        (next_in steps.old)) result }
+    ensures { AddsCall steps.old steps.new at Iota (wires_of count.now ∷ []) result }
 {
     let ty = Ty::Seq(Box::new(steps.alloc, Ty::Int)?);
     steps.step_on(at, Operation::Iota, &[count.stream()], &ty)
@@ -60,9 +54,7 @@ fn iota(steps: &mut Steps, at: usize, count: &Wires) -> Result<Wires, Refusal>
 
 // At each number the sum of those before it: the flags stay.
 fn scan_add(steps: &mut Steps, at: usize, numbers: &Wires) -> Result<Wires, Refusal>
-    ensures { Adds wires_of steps.old steps.new
-        (call_streams (dialect_of_steps steps.old) at ScanAdd (wires_of numbers.now ∷ [])
-        (next_in steps.old)) result }
+    ensures { AddsCall steps.old steps.new at ScanAdd (wires_of numbers.now ∷ []) result }
 {
     let flags = numbers.stream();
     let reads = [flags, numbers.items().stream()];
@@ -78,9 +70,7 @@ fn reduce(
     ty: &Ty,
     items: &Wires,
 ) -> Result<Wires, Refusal>
-    ensures { Adds wires_of steps.old steps.new
-        (reduction (dialect_of_steps steps.old) at by (ty_of ty.now) (wires_of items.now)
-        (next_in steps.old)) result }
+    ensures { AddsReduction steps.old steps.new at by ty.now items.now result }
 {
     let reads = [items.stream(), items.items().stream()];
     steps.step_on(at, Operation::Reduce(by), &reads, ty)
@@ -88,8 +78,7 @@ fn reduce(
 
 // A sequence in parts, as truth values say: flags of the parts, and flags of their elements.
 fn part(steps: &mut Steps, at: usize, sequence: &Wires, ends: &Wires) -> Result<Wires, Refusal>
-    ensures { Adds wires_of steps.old steps.new
-        (parted at (wires_of sequence.now) (wires_of ends.now) (next_in steps.old)) result }
+    ensures { AddsParts steps.old steps.new at sequence.now ends.now result }
 {
     let ty = Ty::Pair(
         Box::new(steps.alloc, Ty::Bool)?,
@@ -105,9 +94,7 @@ fn part(steps: &mut Steps, at: usize, sequence: &Wires, ends: &Wires) -> Result<
 
 // The one item.
 fn the(steps: &mut Steps, at: usize, sequence: &Wires) -> Result<Wires, Refusal>
-    ensures { Adds wires_of steps.old steps.new
-        (call_streams (dialect_of_steps steps.old) at The (wires_of sequence.now ∷ [])
-        (next_in steps.old)) result }
+    ensures { AddsCall steps.old steps.new at The (wires_of sequence.now ∷ []) result }
 {
     steps.test_on(at, Operation::TheCheck, &[sequence.stream()])?;
     let item = copy_wires(steps.alloc, sequence.items())?;
@@ -116,9 +103,7 @@ fn the(steps: &mut Steps, at: usize, sequence: &Wires) -> Result<Wires, Refusal>
 
 // A sequence as a vector.
 fn tab(steps: &mut Steps, at: usize, sequence: &Wires) -> Result<Wires, Refusal>
-    ensures { Adds wires_of steps.old steps.new
-        (call_streams (dialect_of_steps steps.old) at Tab (wires_of sequence.now ∷ [])
-        (next_in steps.old)) result }
+    ensures { AddsCall steps.old steps.new at Tab (wires_of sequence.now ∷ []) result }
 {
     let reads = sequence.numbers(steps.alloc)?;
     let item = sequence.items().ty(steps.alloc)?;
@@ -129,9 +114,7 @@ fn tab(steps: &mut Steps, at: usize, sequence: &Wires) -> Result<Wires, Refusal>
 
 // A vector as a sequence.
 fn seq(steps: &mut Steps, at: usize, vector: &Wires) -> Result<Wires, Refusal>
-    ensures { Adds wires_of steps.old steps.new
-        (call_streams (dialect_of_steps steps.old) at Seq (wires_of vector.now ∷ [])
-        (next_in steps.old)) result }
+    ensures { AddsCall steps.old steps.new at Seq (wires_of vector.now ∷ []) result }
 {
     let whole = vector.ty(steps.alloc)?;
     let item = copy_ty(steps.alloc, item_of(&whole))?;

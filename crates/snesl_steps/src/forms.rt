@@ -1,15 +1,13 @@
 // The steps of operators and built-in functions.
 
 ghost use Rattle.std.specs.Prelude.{◌≡◌, ◌∷◌, []};
-ghost use Rattle.std.specs.Prelude.{map};
 ghost use Rattle.snesl_data.specs.Types.{ty_of};
-ghost use Rattle.flow_plans.specs.Plans.{const, units_of, index};
-ghost use Rattle.snesl_translation.specs.Makings.{stepped};
-ghost use Rattle.snesl_translation.specs.Wires.{type_of_wires, item_type, stream_of};
-ghost use Rattle.snesl_translation.specs.Moving.{flags_stepped, mixed};
-ghost use Rattle.snesl_translation.specs.Translation.{appended, binary_streams, prefix_streams, concatenated, scalars_step, equality, same_lengths, in_step};
-ghost use Rattle.snesl_steps.specs.Views.{bindings_of, dialect_of_steps, next_in, wires_of};
-ghost use Rattle.snesl_steps.specs.Added.{Adds};
+ghost use Rattle.flow_plans.specs.Plans.{units_of};
+ghost use Rattle.snesl_translation.specs.Wires.{item_type, type_of_wires};
+ghost use Rattle.snesl_translation.specs.Moving.{flags_stepped};
+ghost use Rattle.snesl_translation.specs.Translation.{concatenated, equality, in_step, same_lengths};
+ghost use Rattle.snesl_steps.specs.Views.{bindings_of, wires_of};
+ghost use Rattle.snesl_steps.specs.Added.{AddsAppended, AddsConstant, AddsElement, AddsMixed, AddsOperator, AddsPrefix, AddsTests, AddsWires};
 
 use crate::steps::Steps;
 use crate::wires::{Binding, Wires, copy_wires, kind_of, pair_wires, sequence_wires};
@@ -27,24 +25,21 @@ pub fn constant(
     ty: &Ty,
     control: usize,
 ) -> Result<Wires, Refusal>
-    ensures { Adds wires_of steps.old steps.new
-        (stepped at (const scalar) (control ∷ []) (ty_of ty.now) (next_in steps.old)) result }
+    ensures { AddsConstant steps.old steps.new at scalar ty.now control result }
 {
     steps.step_on(at, Operation::Const(scalar), &[control], ty)
 }
 
 /// A Unit for each element of the segments of a stream of flags. The errors are those of `Steps::step`.
 pub fn unit_for_each(steps: &mut Steps, at: usize, flags: usize) -> Result<Wires, Refusal>
-    ensures { Adds wires_of steps.old steps.new
-        (flags_stepped at units_of (flags ∷ []) (next_in steps.old)) result }
+    ensures { AddsWires steps.old steps.new (flags_stepped at units_of (flags ∷ [])) result }
 {
     steps.step_on(at, Operation::UnitsOf, &[flags], &Ty::Bool)
 }
 
 /// One sequence followed by another. The errors are those of `Steps::step`.
 pub fn append(steps: &mut Steps, at: usize, left: &Wires, right: &Wires) -> Result<Wires, Refusal>
-    ensures { Adds wires_of steps.old steps.new
-        (appended at (wires_of left.now) (wires_of right.now) (next_in steps.old)) result }
+    ensures { AddsAppended steps.old steps.new at left.now right.now result }
 {
     let (f, g) = (left.stream(), right.stream());
     let flags = steps.flags(at, Operation::AppendFlags, &[f, g])?;
@@ -62,8 +57,7 @@ fn mixed(
     left: &Wires,
     right: &Wires,
 ) -> Result<Wires, Refusal>
-    ensures { Adds wires_of steps.old steps.new
-        (mixed at f g (wires_of left.now) (wires_of right.now) (next_in steps.old)) result }
+    ensures { AddsMixed steps.old steps.new at f g left.now right.now result }
 {
     match left {
         Wires::Wire(ty, number) => {
@@ -90,8 +84,7 @@ fn mixed(
 
 /// The inner sequences of a sequence as one. The errors are those of `Steps::step`.
 pub fn concatenate(steps: &mut Steps, at: usize, sequence: &Wires) -> Result<Wires, Refusal>
-    ensures { Adds wires_of steps.old steps.new
-        (concatenated at (wires_of sequence.now) (next_in steps.old)) result }
+    ensures { AddsWires steps.old steps.new (concatenated at (wires_of sequence.now)) result }
 {
     let (outer, inner) = (sequence.stream(), sequence.items().stream());
     let flags = steps.flags(at, Operation::ConcatFlags, &[outer, inner])?;
@@ -109,9 +102,7 @@ pub fn apply_operator(
     left: &Wires,
     right: &Wires,
 ) -> Result<Wires, Refusal>
-    ensures { Adds wires_of steps.old steps.new
-        (binary_streams (dialect_of_steps steps.old) at operator (wires_of left.now)
-        (wires_of right.now) (next_in steps.old)) result }
+    ensures { AddsOperator steps.old steps.new at operator left.now right.now result }
 {
     let (scalar_operator, ty) = match operator {
         Operator::Or => (BinaryOperator::Or, Ty::Bool),
@@ -145,10 +136,7 @@ fn equality(operand: &Wires) -> BinaryOperator
 
 // An element of a vector, by its place.
 fn element(steps: &mut Steps, at: usize, vector: &Wires, place: &Wires) -> Result<Wires, Refusal>
-    ensures { Adds wires_of steps.old steps.new
-        (stepped at (index (item_type (type_of_wires (wires_of vector.now))))
-        (stream_of (wires_of vector.now) ∷ stream_of (wires_of place.now) ∷ [])
-        (item_type (type_of_wires (wires_of vector.now))) (next_in steps.old)) result }
+    ensures { AddsElement steps.old steps.new at vector.now place.now result }
 {
     let ty = vector.ty(steps.alloc)?;
     let item = item_of(&ty);
@@ -174,9 +162,7 @@ pub fn apply_prefix(
     operator: Prefix,
     operand: &Wires,
 ) -> Result<Wires, Refusal>
-    ensures { Adds wires_of steps.old steps.new
-        (prefix_streams (dialect_of_steps steps.old) at operator (wires_of operand.now)
-        (next_in steps.old)) result }
+    ensures { AddsPrefix steps.old steps.new at operator operand.now result }
 {
     let (operator, ty) = match operator {
         Prefix::Negate => (UnaryOperator::Negate, Ty::Int),
@@ -188,8 +174,7 @@ pub fn apply_prefix(
 /// That the sequences of a comprehension have segments of the same lengths: the first is compared with each other one. The
 /// errors are those of `Steps::step`.
 pub fn same_lengths(steps: &mut Steps, at: usize, sources: &[Binding<'_>]) -> Result<(), Refusal>
-    ensures { Adds (λ x. x) steps.old steps.new
-        (in_step at (bindings_of sources.now) (next_in steps.old)) result }
+    ensures { AddsTests steps.old steps.new (in_step at (bindings_of sources.now)) result }
 {
     match sources {
         [] => Ok(()),
@@ -204,8 +189,7 @@ fn same_as(
     flags: usize,
     others: &[Binding<'_>],
 ) -> Result<(), Refusal>
-    ensures { Adds (λ x. x) steps.old steps.new
-        (same_lengths at flags (bindings_of others.now) (next_in steps.old)) result }
+    ensures { AddsTests steps.old steps.new (same_lengths at flags (bindings_of others.now)) result }
 {
     for source in others {
         steps.test_on(at, Operation::SameFlags, &[flags, source.wires.stream()])?;

@@ -25,14 +25,11 @@ pub struct Steps {
 
 impl Steps {
     ghost use Rattle.std.specs.Prelude.{◌≡◌, []};
-    ghost use Rattle.snesl_data.specs.Types.{ty_of, bool};
-    ghost use Rattle.flow_plans.specs.Views.{operation_of, steps_of};
-    ghost use Rattle.snesl_translation.specs.Makings.{stepped, tested};
-    ghost use Rattle.snesl_translation.specs.Moving.{flags_stepped};
-    ghost use Rattle.snesl_translation.specs.Programs.{control_sourced, source_steps, sourced, unset_cells};
-    ghost use Rattle.snesl_translation.specs.Wires.{wire};
-    ghost use Rattle.snesl_steps.specs.Views.{dialect_of_steps, steps_in, next_in, wires_of};
-    ghost use Rattle.snesl_steps.specs.Added.{Adds, only_steps};
+    ghost use Rattle.snesl_data.specs.Types.{ty_of};
+    ghost use Rattle.flow_plans.specs.Views.{steps_of};
+    ghost use Rattle.snesl_translation.specs.Programs.{control_sourced, sourced, unset_cells};
+    ghost use Rattle.snesl_steps.specs.Views.{dialect_of_steps, next_in, steps_in};
+    ghost use Rattle.snesl_steps.specs.Added.{Adds, AddsFlags, AddsSources, AddsStep, AddsTest, AddsWires};
 
     /// No steps. All that are made compute in the dialect.
     pub fn new(alloc: Global, dialect: Dialect) -> Steps
@@ -73,9 +70,7 @@ impl Steps {
         reads: Vec<usize>,
         ty: &Ty,
     ) -> Result<Wires, Refusal>
-        ensures { Adds wires_of self.old self.new
-            (stepped at (operation_of (dialect_of_steps self.old) operation) reads.items
-            (ty_of ty.now) (next_in self.old)) result }
+        ensures { AddsStep self.old self.new at operation reads.items ty.now result }
     {
         self.test(at, operation, reads)?;
         let wires = next_wires(self.alloc, ty, &mut self.next)?;
@@ -90,9 +85,7 @@ impl Steps {
         reads: &[usize],
         ty: &Ty,
     ) -> Result<Wires, Refusal>
-        ensures { Adds wires_of self.old self.new
-            (stepped at (operation_of (dialect_of_steps self.old) operation) reads.now
-            (ty_of ty.now) (next_in self.old)) result }
+        ensures { AddsStep self.old self.new at operation reads.now ty.now result }
     {
         let reads = reads.to_vec(self.alloc)?;
         self.step(at, operation, reads, ty)
@@ -105,9 +98,7 @@ impl Steps {
         operation: Operation,
         reads: &[usize],
     ) -> Result<usize, Refusal>
-        ensures { Adds (λ number. wire bool number) self.old self.new
-            (flags_stepped at (operation_of (dialect_of_steps self.old) operation) reads.now
-            (next_in self.old)) result }
+        ensures { AddsFlags self.old self.new at operation reads.now result }
     {
         self.test_on(at, operation, reads)?;
         let number = next_number(&mut self.next)?;
@@ -121,9 +112,7 @@ impl Steps {
         operation: Operation,
         reads: Vec<usize>,
     ) -> Result<(), Refusal>
-        ensures { Adds (λ x. x) self.old self.new
-            (tested at (operation_of (dialect_of_steps self.old) operation) reads.items (tt {0})
-            (next_in self.old)) result }
+        ensures { AddsTest self.old self.new at operation reads.items result }
     {
         if self.steps.len() >= MAX_NODES {
             return Err(Refusal::TooBig);
@@ -143,9 +132,7 @@ impl Steps {
         operation: Operation,
         reads: &[usize],
     ) -> Result<(), Refusal>
-        ensures { Adds (λ x. x) self.old self.new
-            (tested at (operation_of (dialect_of_steps self.old) operation) reads.now (tt {0})
-            (next_in self.old)) result }
+        ensures { AddsTest self.old self.new at operation reads.now result }
     {
         let reads = reads.to_vec(self.alloc)?;
         self.test(at, operation, reads)
@@ -164,8 +151,7 @@ impl Steps {
     /// Adds the beginnings of the streams of an input of this type, whose lists are to be set, and returns them. The errors
     /// are those of `step`.
     pub fn input(&mut self, at: usize, ty: &Ty) -> Result<Wires, Refusal>
-        ensures { Adds wires_of self.old self.new
-            (sourced at unset_cells (ty_of ty.now) (next_in self.old)) result }
+        ensures { AddsWires self.old self.new (sourced at unset_cells (ty_of ty.now)) result }
     {
         let kinds = kinds(self.alloc, ty)?;
         self.sources(at, &kinds)?;
@@ -175,9 +161,7 @@ impl Steps {
 
     // Adds the beginnings of streams of these kinds.
     fn sources(&mut self, at: usize, kinds: &[Kind]) -> Result<(), Refusal>
-        ensures { Adds (λ x. x) self.old self.new
-            (only_steps (source_steps at unset_cells (next_in self.old) kinds.now)
-            (next_in self.old)) result }
+        ensures { AddsSources self.old self.new at kinds.now result }
     {
         for kind in kinds {
             self.test(at, Operation::Input(*kind), Vec::new(self.alloc))?;
