@@ -1,9 +1,18 @@
 -- What names stand for in a part of a program that runs more often or less often, one binding after another.
-use Rattle.std.specs.Prelude.{ℕ, List, [], ◌∷◌, ◌++◌, if◌then◌else◌}
+use Rattle.std.specs.Prelude.{ℕ, List, [], ◌∷◌, ◌++◌, if◌then◌else◌, Result, Vec}
+use Rattle.std.specs.Global.{Global}
+use Rattle.snesl_data.specs.declared.refusal.Refusal.{Refusal}
 use Rattle.snesl_translation.specs.Wires.{Wires, Bound}
 use Rattle.snesl_translation.specs.Makings.{Making, done, and_then}
 use Rattle.snesl_translation.specs.FreeNames.{Names, is_among, without}
-use Rattle.snesl_translation.specs.Moving.{distributed, kept}
+use Rattle.snesl_translation.specs.Moving.{all_moved, distributed, kept}
+use Rattle.snesl_steps.specs.Added.{Adds}
+use Rattle.snesl_steps.specs.Views.{binding_of, bindings_of, next_in}
+use Rattle.snesl_steps.specs.declared.steps.Steps.{Steps}
+use Rattle.snesl_steps.specs.declared.wires.Binding.{Binding}
+use Rattle.snesl_scopes.specs.Scopes.{bound_of, names_in}
+use Rattle.snesl_scopes.specs.declared.part.Part.{Part}
+use Rattle.snesl_scopes.specs.declared.scope.Scope.{Scope}
 use Rattle.snesl_scopes.specs.declared.moving.Movement.{Movement}
 use Rattle.snesl_scopes.specs.declared.moving.Movement.TheVariants.{Distribute, Keep}
 
@@ -29,3 +38,24 @@ abbrev pub each_moved : (Wires → ℕ → Making Wires) → Names → Bound →
 each_moved move names [] before next = done before next
 each_moved move names (entry ∷ bound) before next =
     and_then (one_moved move names entry before next) (λ now k. each_moved move names bound now k)
+
+-- the steps that move what a part takes from outside were added, and the result is what its names stand for then; or it was refused
+abbrev pub MovesAll : (old new : Steps) → (Wires → ℕ → Making Wires) → Part → Scope → Result (Vec Binding Global) Refusal → Type 0
+MovesAll old new move part scope result =
+    Adds (λ moved. bindings_of moved.items) old new (all_moved move (names_in part) (bound_of scope) (next_in old)) result
+
+-- so it is with these bindings, which come after those that were moved before; with all that are in scope; and with one
+abbrev pub MovesIn : (old new : Steps) → ℕ → Movement → Part → List Binding → (before after : Vec Binding Global) → Result (Unit {0}) Refusal → Type 0
+MovesIn old new at movement part bindings before after result =
+    Adds (λ _. bindings_of after.items) old new
+    (each_moved (moved_by at movement) (names_in part) (bindings_of bindings) (bindings_of before.items) (next_in old)) result
+
+abbrev pub MovesScope : (old new : Steps) → ℕ → Movement → Part → Scope → (before after : Vec Binding Global) → Result (Unit {0}) Refusal → Type 0
+MovesScope old new at movement part scope before after result =
+    Adds (λ _. bindings_of after.items) old new
+    (each_moved (moved_by at movement) (names_in part) (bound_of scope) (bindings_of before.items) (next_in old)) result
+
+abbrev pub MovesOne : (old new : Steps) → ℕ → Movement → Part → Binding → (before after : Vec Binding Global) → Result (Unit {0}) Refusal → Type 0
+MovesOne old new at movement part binding before after result =
+    Adds (λ _. bindings_of after.items) old new
+    (one_moved (moved_by at movement) (names_in part) (binding_of binding) (bindings_of before.items) (next_in old)) result

@@ -1,5 +1,5 @@
 -- What names stand for where an expression is translated, and which names a part of a program takes from outside.
-use Rattle.std.specs.Prelude.{List, ℕ, [], ◌++◌, Option, Some, None, Bool, true, false, if◌then◌else◌}
+use Rattle.std.specs.Prelude.{◌≡◌, List, ℕ, [], ◌++◌, Option, Some, None, Bool, true, false, if◌then◌else◌, option_map, unwrap_or}
 use Rattle.std.specs.Str.{bytes_eq}
 use Rattle.std.specs.Borrow.{Bor}
 use Rattle.snesl_tree.specs.View.{tree_of, binders_of}
@@ -7,8 +7,11 @@ use Rattle.snesl_tree.specs.Spelling.{spelling}
 use Rattle.snesl_tree.specs.Tree.{Binders, none_bound, binder, Condition, always, only_where}
 use Rattle.snesl_tree.specs.declared.expr.Expr.{Expr}
 use Rattle.snesl_translation.specs.Wires.{Bound}
+use Rattle.snesl_translation.specs.Translation.{wires_named}
 use Rattle.snesl_translation.specs.FreeNames.{Names, free, free_of_condition, without_binders}
-use Rattle.snesl_steps.specs.Views.{bindings_of}
+use Rattle.snesl_steps.specs.Views.{bindings_of, wires_of}
+use Rattle.snesl_steps.specs.declared.wires.Binding.{Binding}
+use Rattle.snesl_steps.specs.declared.wires.Wires.{Wires}
 use Rattle.snesl_scopes.specs.declared.scope.Scope.{Scope}
 use Rattle.snesl_scopes.specs.declared.scope.Scope.TheVariants.{Nothing, Frame'}
 use Rattle.snesl_scopes.specs.declared.part.Part.{Part}
@@ -32,3 +35,8 @@ names_in part =
 abbrev pub binds : List ℕ → List ℕ → Binders → Bool
 binds text bytes none_bound = false
 binds text bytes (binder place source others) = if bytes_eq bytes (spelling text place) then true else binds text bytes others
+
+-- the streams of a name are those that were found among these bindings, and else those that it has outside of them
+abbrev pub LooksUp : List ℕ → List Binding → Bound → Option (Bor Wires) → Type 0
+LooksUp name bindings outer found =
+    wires_named name (bindings_of bindings ++ outer) ≡ unwrap_or (option_map (λ wires. wires_of wires.now) found) (wires_named name outer)

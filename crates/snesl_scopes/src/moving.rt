@@ -1,11 +1,9 @@
 // The streams of names where a part of a program runs more often, or less often.
 
-ghost use Rattle.std.specs.Prelude.{◌≡◌};
-ghost use Rattle.snesl_translation.specs.Moving.{all_moved, distributed, kept};
-ghost use Rattle.snesl_steps.specs.Views.{binding_of, bindings_of, next_in, wires_of};
-ghost use Rattle.snesl_steps.specs.Added.{Adds};
-ghost use Rattle.snesl_scopes.specs.Scopes.{bound_of, names_in};
-ghost use Rattle.snesl_scopes.specs.Moved.{each_moved, moved_by, one_moved};
+ghost use Rattle.snesl_translation.specs.Moving.{distributed, kept};
+ghost use Rattle.snesl_steps.specs.Views.{wires_of};
+ghost use Rattle.snesl_steps.specs.Added.{AddsWires};
+ghost use Rattle.snesl_scopes.specs.Moved.{MovesIn, MovesAll, MovesOne, MovesScope, moved_by};
 
 use crate::part::{Part, names};
 use crate::scope::{Scope, is_bound};
@@ -32,9 +30,7 @@ pub fn distribute_all<'a>(
     part: &Part<'_>,
     scope: &Scope<'a>,
 ) -> Result<Vec<Binding<'a>>, Refusal>
-    ensures { Adds (λ bindings. bindings_of bindings.items) steps.old steps.new
-        (all_moved (distributed at flags) (names_in part.now) (bound_of scope.now)
-        (next_in steps.old)) result }
+    ensures { MovesAll steps.old steps.new (distributed at flags) part.now scope.now result }
 {
     move_all(steps, at, Movement::Distribute(flags), part, scope)
 }
@@ -47,9 +43,7 @@ pub fn keep_all<'a>(
     part: &Part<'_>,
     scope: &Scope<'a>,
 ) -> Result<Vec<Binding<'a>>, Refusal>
-    ensures { Adds (λ bindings. bindings_of bindings.items) steps.old steps.new
-        (all_moved (kept at truths) (names_in part.now) (bound_of scope.now)
-        (next_in steps.old)) result }
+    ensures { MovesAll steps.old steps.new (kept at truths) part.now scope.now result }
 {
     move_all(steps, at, Movement::Keep(truths), part, scope)
 }
@@ -61,16 +55,14 @@ fn move_all<'a>(
     part: &Part<'_>,
     scope: &Scope<'a>,
 ) -> Result<Vec<Binding<'a>>, Refusal>
-    ensures { Adds (λ bindings. bindings_of bindings.items) steps.old steps.new
-        (all_moved (moved_by at movement) (names_in part.now) (bound_of scope.now)
-        (next_in steps.old)) result }
+    ensures { MovesAll steps.old steps.new (moved_by at movement) part.now scope.now result }
 {
     let mut moved = Vec::new(steps.alloc());
     move_scope(steps, at, movement, part, scope, &mut moved)?;
     Ok(moved)
 }
 
-// Moves what is in scope, from the innermost bindings outwards, and adds it after what was moved before.
+// MovesIn what is in scope, from the innermost bindings outwards, and adds it after what was moved before.
 fn move_scope<'a>(
     steps: &mut Steps,
     at: usize,
@@ -79,9 +71,7 @@ fn move_scope<'a>(
     scope: &Scope<'a>,
     moved: &mut Vec<Binding<'a>>,
 ) -> Result<(), Refusal>
-    ensures { Adds (λ x. bindings_of moved.new.items) steps.old steps.new
-        (each_moved (moved_by at movement) (names_in part.now) (bound_of scope.now)
-        (bindings_of moved.old.items) (next_in steps.old)) result }
+    ensures { MovesScope steps.old steps.new at movement part.now scope.now moved.old moved.new result }
 {
     match *scope {
         Scope::Nothing => Ok(()),
@@ -101,9 +91,7 @@ fn move_frame<'a>(
     bindings: &[Binding<'a>],
     moved: &mut Vec<Binding<'a>>,
 ) -> Result<(), Refusal>
-    ensures { Adds (λ x. bindings_of moved.new.items) steps.old steps.new
-        (each_moved (moved_by at movement) (names_in part.now) (bindings_of bindings.now)
-        (bindings_of moved.old.items) (next_in steps.old)) result }
+    ensures { MovesIn steps.old steps.new at movement part.now bindings.now moved.old moved.new result }
 {
     for binding in bindings {
         move_binding(steps, at, movement, part, binding, moved)?;
@@ -120,9 +108,7 @@ fn move_binding<'a>(
     binding: &Binding<'a>,
     moved: &mut Vec<Binding<'a>>,
 ) -> Result<(), Refusal>
-    ensures { Adds (λ x. bindings_of moved.new.items) steps.old steps.new
-        (one_moved (moved_by at movement) (names_in part.now) (binding_of binding.now)
-        (bindings_of moved.old.items) (next_in steps.old)) result }
+    ensures { MovesOne steps.old steps.new at movement part.now binding.now moved.old moved.new result }
 {
     if is_bound(binding.name, moved) {
         return Ok(());
@@ -144,8 +130,7 @@ fn move_wires(
     movement: Movement,
     wires: &Wires,
 ) -> Result<Wires, Refusal>
-    ensures { Adds wires_of steps.old steps.new
-        (moved_by at movement (wires_of wires.now) (next_in steps.old)) result }
+    ensures { AddsWires steps.old steps.new (moved_by at movement (wires_of wires.now)) result }
 {
     match movement {
         Movement::Distribute(flags) => distribute(steps, at, flags, wires),
@@ -155,8 +140,7 @@ fn move_wires(
 
 // No part of this kind takes a sequence from outside: one stays as it is.
 fn distribute(steps: &mut Steps, at: usize, flags: usize, wires: &Wires) -> Result<Wires, Refusal>
-    ensures { Adds wires_of steps.old steps.new
-        (distributed at flags (wires_of wires.now) (next_in steps.old)) result }
+    ensures { AddsWires steps.old steps.new (distributed at flags (wires_of wires.now)) result }
 {
     match wires {
         Wires::Wire(ty, number) => {
@@ -178,8 +162,7 @@ fn distribute(steps: &mut Steps, at: usize, flags: usize, wires: &Wires) -> Resu
 
 // Of a sequence whole segments are kept: its elements by truth values of their own.
 fn keep(steps: &mut Steps, at: usize, truths: usize, wires: &Wires) -> Result<Wires, Refusal>
-    ensures { Adds wires_of steps.old steps.new
-        (kept at truths (wires_of wires.now) (next_in steps.old)) result }
+    ensures { AddsWires steps.old steps.new (kept at truths (wires_of wires.now)) result }
 {
     match wires {
         Wires::Wire(ty, number) => {

@@ -1,10 +1,10 @@
 // What names stand for.
 
-ghost use Rattle.std.specs.Prelude.{◌≡◌, ◌++◌, option_map, unwrap_or, IfOk};
+ghost use Rattle.std.specs.Prelude.{◌≡◌, IfOk};
 ghost use Rattle.snesl_translation.specs.Wires.{Bound};
 ghost use Rattle.snesl_translation.specs.Translation.{is_bound, wires_named};
 ghost use Rattle.snesl_steps.specs.Views.{bindings_of, wires_of};
-ghost use Rattle.snesl_scopes.specs.Scopes.{bound_of};
+ghost use Rattle.snesl_scopes.specs.Scopes.{LooksUp, bound_of};
 
 use snesl_data::Ty;
 use snesl_steps::{Binding, Wires, copy_wires};
@@ -34,8 +34,7 @@ pub fn look_up(alloc: Global, name: &[u8], scope: &Scope<'_>) -> Result<Wires, A
 
 // The streams of the first binding of the name.
 fn find<'a>(name: &[u8], bindings: &'a [Binding<'_>]) -> Option<&'a Wires>
-    ensures { (outer : Bound) → wires_named name.now (bindings_of bindings.now ++ outer) ≡
-        unwrap_or (option_map (λ wires. wires_of wires.now) result) (wires_named name.now outer) }
+    ensures { (outer : Bound) → LooksUp name.now bindings.now outer result }
 {
     for binding in bindings {
         if name == binding.name {
