@@ -43,3 +43,9 @@ bound_more bindings more binding entry others e same =
     ∙ sym (append_assoc (bindings_of bindings) (binding_of binding ∷ []) others)
     ∙ ap (λ l. l ++ others) (sym (map-append binding_of bindings (binding ∷ [])))
     ∙ ap (λ l. bindings_of l ++ others) (sym e)
+
+-- what a body sees, as the slices of its frames and as its rows hold it
+pub bound_seen : {items outside : List Binding} (items' outside' : List Binding) → items ≡ items' → outside ≡ outside'
+    → bindings_of items ++ (bindings_of outside ++ []) ≡ bindings_of items' ++ (bindings_of outside' ++ [])
+bound_seen {outside = outside} items' outside' e h =
+    ap (λ (l : List Binding). bindings_of l ++ (bindings_of outside ++ [])) e ∙ ap (λ (l : List Binding). bindings_of items' ++ (bindings_of l ++ [])) h

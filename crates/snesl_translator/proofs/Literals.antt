@@ -4,7 +4,7 @@ use Rattle.std.proofs.lemmas.List.{take_more, take-append-drop}
 use Rattle.snesl_data.specs.declared.dialect.Dialect.{Dialect}
 use Rattle.snesl_data.specs.declared.refusal.Refusal.{Refusal}
 use Rattle.snesl_tree.specs.declared.expr.Expr.{Expr}
-use Rattle.snesl_tree.specs.Tree.{Tree, Trees, none, both}
+use Rattle.snesl_tree.specs.Tree.{Tree, Trees, none, both, literal}
 use Rattle.snesl_tree.specs.View.{tree_of, trees_of}
 use Rattle.snesl_translation.specs.Wires.{Wires, Bound}
 use Rattle.snesl_translation.specs.Makings.{Making, done, and_then}
@@ -18,6 +18,7 @@ use Rattle.snesl_scopes.specs.Scopes.{bound_of}
 use Rattle.snesl_scopes.specs.declared.scope.Scope.{Scope}
 use Rattle.snesl_translator.specs.declared.translator.ProgramContext.{ProgramContext}
 use Rattle.snesl_translator.specs.Translated.{bodies_in, further_in, single_in}
+use Rattle.snesl_translator.proofs.Expressions.{tr_in}
 use Rattle.snesl_translator.proofs.Makings.{in_turn, then_nothing}
 
 module _ (dialect : Dialect) (text : List ℕ) (bodies : Bodies) (at : ℕ) (bound : Bound) (control : ℕ) where
@@ -113,3 +114,12 @@ module _ (context : ProgramContext) (scope : Scope) (at control : ℕ) where
       → HasMade old new (further_in (dialect_of_steps old) context scope at u (trees_of xs) control (next_in old)) w
   all_after {old = old} {new = new} u w xs i l made =
       subst (λ ys. HasMade old new (further_in (dialect_of_steps old) context scope at u (trees_of ys) control (next_in old)) w) (take_all i xs l) made
+
+-- a literal is its first item, and then the others after it
+pub literal_listed : (dialect : Dialect) (context : ProgramContext) (scope : Scope) (at control : ℕ) (first : Expr) (others : List Expr) (next : ℕ)
+    → and_then (single_in dialect context scope at (tree_of first) control next) (λ u k. further_in dialect context scope at u (trees_of others) control k)
+    ≡ tr_in dialect context scope (literal at (trees_of (first ∷ others))) control next
+literal_listed dialect context scope at control first others next =
+    sym (further_after dialect context.text.now (bodies_in dialect context) at (bound_of scope) control
+    (λ b c n. single at (free context.text.now (tree_of first))
+    (λ b c n. tr dialect context.text.now (bodies_in dialect context) (tree_of first) b c n) b c n) (trees_of others) next)

@@ -1,9 +1,11 @@
 -- Which function a call means, where the translator stands.
-use Rattle.std.specs.Prelude.{◌≡◌, ℕ, List, map}
+use Rattle.std.specs.Prelude.{◌≡◌, ◌+◌, ◌≤◌, ℕ, List, map}
+use Rattle.std.specs.Borrow.{Bor}
 use Rattle.snesl_data.specs.declared.dialect.Dialect.{Dialect}
 use Rattle.snesl_tree.specs.declared.declaration.Declaration.{Declaration}
 use Rattle.snesl_tree.specs.declared.declaration.Function.{Function}
 use Rattle.snesl_tree.specs.View.{declaration_of, tree_of, typed_of}
+use Rattle.snesl_evaluation.specs.Scopes.{weight, weight_of}
 use Rattle.snesl_translation.specs.Wires.{Wires}
 use Rattle.snesl_translation.specs.Makings.{Making, done}
 use Rattle.snesl_translation.specs.Translation.{nowhere, tr}
@@ -20,6 +22,14 @@ abbrev pub IsCalled : List ℕ → List Declaration → List ℕ → Function �
 IsCalled text declarations name function earlier =
     (dialect : Dialect) (at : ℕ) (arguments : List Wires) (control next : ℕ)
     → bodies_of dialect text (map declaration_of declarations) at name arguments control next ≡ entered dialect text function earlier arguments control next
+
+-- this is such a function, with the declarations before it
+abbrev pub IsLast : List ℕ → List Declaration → List ℕ → Bor Function × Bor (List Declaration) → Type 0
+IsLast text declarations name found = IsCalled text declarations name found.0.now found.1.now
+
+-- a function and the declarations before it weigh no more than these declarations
+abbrev pub IsNoHeavier : List Declaration → Bor Function × Bor (List Declaration) → Type 0
+IsNoHeavier declarations found = weight_of found.0.now + weight found.1.now ≤ weight declarations
 
 -- calls of this name have no function
 abbrev pub IsUnknown : List ℕ → List Declaration → List ℕ → Type 0

@@ -1,3 +1,4 @@
 pub mod Called
 pub mod Rows
 pub mod Translated
+pub mod Forms

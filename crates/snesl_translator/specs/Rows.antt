@@ -1,12 +1,26 @@
 -- What a part of a program sees that runs more often, or less often, than what is around it.
-use Rattle.std.specs.Prelude.{ℕ, ◌∷◌, [], ◌++◌}
+use Rattle.std.specs.Prelude.{◌≡◌, ℕ, List, ◌∷◌, [], ◌++◌, Result, map, Vec}
+use Rattle.std.specs.Global.{Global}
+use Rattle.snesl_data.specs.declared.refusal.Refusal.{Refusal}
+use Rattle.snesl_tree.specs.View.{binders_of, tree_of, typed_of}
+use Rattle.snesl_tree.specs.declared.declaration.Typing.{Typing}
+use Rattle.snesl_tree.specs.declared.expr.Binder.{Binder}
+use Rattle.snesl_tree.specs.declared.expr.Expr.{Expr}
 use Rattle.snesl_translation.specs.Wires.{Bound, stream_of}
 use Rattle.snesl_translation.specs.Makings.{Making, done, and_then}
 use Rattle.snesl_translation.specs.Moving.{all_moved, distributed, flags_stepped, kept}
-use Rattle.snesl_translation.specs.FreeNames.{Names}
+use Rattle.snesl_translation.specs.FreeNames.{Names, free, without_binders}
+use Rattle.snesl_translation.specs.Functions.{parameters_bound}
 use Rattle.snesl_translation.specs.Translation.{Sources, first_flags, in_step, items_bound, units_step}
 use Rattle.flow_plans.specs.Plans.{flag_of_bool}
-use Rattle.snesl_steps.specs.Views.{bindings_of}
+use Rattle.snesl_steps.specs.Added.{Adds}
+use Rattle.snesl_steps.specs.Views.{bindings_of, next_in, wires_of}
+use Rattle.snesl_steps.specs.declared.steps.Steps.{Steps}
+use Rattle.snesl_steps.specs.declared.wires.Binding.{Binding}
+use Rattle.snesl_steps.specs.declared.wires.Wires.{Wires}
+use Rattle.snesl_scopes.specs.Scopes.{bound_of, names_in}
+use Rattle.snesl_scopes.specs.declared.part.Part.{Part}
+use Rattle.snesl_scopes.specs.declared.scope.Scope.{Scope}
 use Rattle.snesl_translator.specs.declared.rows.Rows.{Rows}
 
 -- the flags that its values stand under, the streams of its names, and its control stream
@@ -37,3 +51,25 @@ where_opened at names bound d next =
     and_then (all_moved (kept at d) names bound k) (λ inner k.
     and_then (units_step at (stream_of f) k) (λ c k.
     done (record { flags = stream_of f; bound = inner; control = stream_of c }) k)))
+
+-- the names that a body takes from outside of its binders, and those that a condition and a body take
+abbrev pub names_taken : List ℕ → List Binder → Expr → Names
+names_taken text binders body = without_binders text (binders_of binders) (free text (tree_of body))
+
+abbrev pub names_taken_where : List ℕ → List Binder → (condition body : Expr) → Names
+names_taken_where text binders condition body =
+    without_binders text (binders_of binders) (free text (tree_of condition) ++ free text (tree_of body))
+
+-- the bindings are those of parameters beside arguments
+abbrev pub AreBound : List ℕ → List Typing → List Wires → Vec Binding Global → Type 0
+AreBound text parameters arguments frame = bindings_of frame.items ≡ parameters_bound text (map typed_of parameters) (map wires_of arguments)
+
+-- the steps by which a comprehension's body is opened beside these sequences were added, and the result is what it sees
+abbrev pub OpensEach : Steps → Steps → ℕ → Part → List Binding → Scope → Result Rows Refusal → Type 0
+OpensEach old new at part sources scope result =
+    Adds rows_of old new (each_opened at (names_in part) (bindings_of sources) (bound_of scope) (next_in old)) result
+
+-- so it is with an item where these truth values are true
+abbrev pub OpensWhere : Steps → Steps → ℕ → Part → ℕ → Scope → Result Rows Refusal → Type 0
+OpensWhere old new at part truths scope result =
+    Adds rows_of old new (where_opened at (names_in part) (bound_of scope) truths (next_in old)) result

@@ -3,13 +3,15 @@ use Rattle.std.specs.Prelude.{ℕ, true, List, [], ◌∷◌, ◌++◌, map}
 use Rattle.snesl_data.specs.declared.dialect.Dialect.{Dialect}
 use Rattle.snesl_data.specs.Types.{bool}
 use Rattle.snesl_operators.specs.declared.scalar.Scalar.TheVariants.{Bool as Truth}
-use Rattle.flow_plans.specs.Plans.{const}
+use Rattle.flow_plans.specs.Plans.{const, the_check}
+use Rattle.snesl_tree.specs.Spelling.{spelling}
 use Rattle.snesl_tree.specs.Tree.{Tree, Trees, Binders}
 use Rattle.snesl_tree.specs.View.{declaration_of}
-use Rattle.snesl_translation.specs.Wires.{Wires, segments, stream_of}
-use Rattle.snesl_translation.specs.Makings.{Making, done, and_then, stepped}
+use Rattle.snesl_tree.specs.declared.span.Span.{Span}
+use Rattle.snesl_translation.specs.Wires.{Wires, item_wires, segments, stream_of}
+use Rattle.snesl_translation.specs.Makings.{Making, done, and_then, stepped, tested}
 use Rattle.snesl_translation.specs.FreeNames.{free, without_binders}
-use Rattle.snesl_translation.specs.Translation.{Bodies, Sources, concatenated, filtered, single, tr, tr_all, tr_binders, tr_further}
+use Rattle.snesl_translation.specs.Translation.{Bodies, Sources, appended, concatenated, filtered, single, tr, tr_all, tr_binders, tr_further, wires_named}
 use Rattle.snesl_translation.specs.Functions.{bodies_of}
 use Rattle.snesl_steps.specs.Views.{dialect_of_steps, next_in}
 use Rattle.snesl_steps.specs.declared.steps.Steps.{Steps}
@@ -74,3 +76,11 @@ abbrev pub where_after : Dialect → ProgramContext → Scope → ℕ → Source
 where_after dialect context scope at sources body condition binders next =
     let names = without_binders context.text.now binders (free context.text.now condition ++ free context.text.now body) in
     and_then (each_opened at names sources (bound_of scope) next) (λ rows k. where_in dialect context rows at body condition k)
+
+-- the streams of a name in scope
+abbrev pub streams_named : List ℕ → Scope → Span → Wires
+streams_named text scope name = wires_named (spelling text name) (bound_of scope)
+
+-- of two sequences, of which one is empty, the element of the other
+abbrev pub joined : ℕ → (left right : Wires) → ℕ → Making Wires
+joined at left right next = and_then (appended at left right next) (λ w k. tested at the_check (stream_of w ∷ []) (item_wires w) k)

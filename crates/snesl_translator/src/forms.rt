@@ -1,15 +1,11 @@
 // What the forms of expressions have beside the expressions in them.
 
-ghost use Rattle.snesl_tree.specs.Spelling.{spelling};
-ghost use Rattle.snesl_translation.specs.Wires.{two, segments, stream_of, item_wires};
-ghost use Rattle.snesl_translation.specs.Makings.{done, and_then, tested};
-ghost use Rattle.snesl_translation.specs.Translation.{appended, concatenated, wires_named};
-ghost use Rattle.flow_plans.specs.Plans.{the_check};
-ghost use Rattle.std.specs.Prelude.{◌∷◌, []};
+ghost use Rattle.snesl_translation.specs.Wires.{segments, two};
+ghost use Rattle.snesl_translation.specs.Translation.{concatenated};
 ghost use Rattle.snesl_steps.specs.Views.{next_in, wires_of};
-ghost use Rattle.snesl_steps.specs.Added.{Adds};
-ghost use Rattle.snesl_scopes.specs.Scopes.{bound_of};
-ghost use Rattle.snesl_translator.specs.Translated.{always_true};
+ghost use Rattle.snesl_steps.specs.Added.{Adds, AddsWires, OnlyGives};
+ghost use Rattle.snesl_translator.specs.Forms.{AddsOneOf};
+ghost use Rattle.snesl_translator.specs.Translated.{always_true, streams_named};
 
 use snesl_data::{Refusal, Ty};
 use snesl_operators::Scalar;
@@ -27,9 +23,7 @@ pub(crate) fn named(
     name: Span,
     scope: &Scope<'_>,
 ) -> Result<Wires, Refusal>
-    ensures { Adds wires_of steps.old steps.new
-        (done (wires_named (spelling text.now name) (bound_of scope.now))
-        (next_in steps.old)) result }
+    ensures { OnlyGives steps.old steps.new (streams_named text.now scope.now name) result }
 {
     let wires = look_up(steps.alloc(), name.spelled(text), scope)?;
     Ok(wires)
@@ -38,8 +32,7 @@ pub(crate) fn named(
 // The streams of a pair.
 #[inline(never)]
 pub(crate) fn paired(steps: &mut Steps, first: Wires, second: Wires) -> Result<Wires, Refusal>
-    ensures { Adds wires_of steps.old steps.new
-        (done (two (wires_of first) (wires_of second)) (next_in steps.old)) result }
+    ensures { OnlyGives steps.old steps.new (two (wires_of first) (wires_of second)) result }
 {
     let wires = pair_wires(steps.alloc(), first, second)?;
     Ok(wires)
@@ -47,8 +40,7 @@ pub(crate) fn paired(steps: &mut Steps, first: Wires, second: Wires) -> Result<W
 
 // The streams of a sequence.
 pub(crate) fn sequence(steps: &mut Steps, flags: usize, items: Wires) -> Result<Wires, Refusal>
-    ensures { Adds wires_of steps.old steps.new
-        (done (segments flags (wires_of items)) (next_in steps.old)) result }
+    ensures { OnlyGives steps.old steps.new (segments flags (wires_of items)) result }
 {
     let wires = sequence_wires(steps.alloc(), flags, items)?;
     Ok(wires)
@@ -71,8 +63,7 @@ pub(crate) fn flat(
     flags: usize,
     items: Wires,
 ) -> Result<Wires, Refusal>
-    ensures { Adds wires_of steps.old steps.new
-        (concatenated at (segments flags (wires_of items)) (next_in steps.old)) result }
+    ensures { AddsWires steps.old steps.new (concatenated at (segments flags (wires_of items))) result }
 {
     let sequences = sequence_wires(steps.alloc(), flags, items)?;
     concatenate(steps, at, &sequences)
@@ -86,9 +77,7 @@ pub(crate) fn one_of(
     left: &Wires,
     right: &Wires,
 ) -> Result<Wires, Refusal>
-    ensures { Adds wires_of steps.old steps.new
-        (and_then (appended at (wires_of left.now) (wires_of right.now) (next_in steps.old))
-        (λ w k. tested at the_check (stream_of w ∷ []) (item_wires w) k)) result }
+    ensures { AddsOneOf steps.old steps.new at left.now right.now result }
 {
     let both = append(steps, at, left, right)?;
     let mut arguments = Vec::new(steps.alloc());

@@ -1,10 +1,9 @@
 // Names and the streams that they stand for.
 
-ghost use Rattle.std.specs.Prelude.{◌≡◌, ◌∷◌, [], map, IfOk};
-ghost use Rattle.snesl_tree.specs.View.{typed_of};
-ghost use Rattle.snesl_translation.specs.Functions.{parameters_bound};
+ghost use Rattle.std.specs.Prelude.{◌≡◌, ◌∷◌, [], IfOk};
 ghost use Rattle.snesl_translation.specs.Translation.{first_flags, items_bound};
 ghost use Rattle.snesl_steps.specs.Views.{bindings_of, wires_of};
+ghost use Rattle.snesl_translator.specs.Rows.{AreBound};
 
 use snesl_steps::{Binding, Wires, copy_wires};
 use snesl_tree::Typing;
@@ -32,8 +31,7 @@ pub(crate) fn bind_parameters<'a>(
     parameters: &[Typing],
     arguments: &[Wires],
 ) -> Result<Vec<Binding<'a>>, AllocError>
-    ensures { IfOk result (λ frame. bindings_of frame.items ≡
-        parameters_bound text.now (map typed_of parameters.now) (map wires_of arguments.now)) }
+    ensures { IfOk result (AreBound text.now parameters.now arguments.now) }
 {
     let mut frame = Vec::new(alloc);
     let number = parameters.len().min(arguments.len());

@@ -1,8 +1,7 @@
 // Declared functions.
 
-ghost use Rattle.std.specs.Prelude.{◌+◌, ◌≤◌, IfSome, IfNone};
-ghost use Rattle.snesl_evaluation.specs.Scopes.{weight, weight_of};
-ghost use Rattle.snesl_translator.specs.Called.{IsCalled, IsUnknown};
+ghost use Rattle.std.specs.Prelude.{IfNone, IfSome};
+ghost use Rattle.snesl_translator.specs.Called.{IsLast, IsNoHeavier, IsUnknown};
 
 use snesl_tree::{Declaration, Function};
 
@@ -12,11 +11,9 @@ pub(crate) fn find_function<'a>(
     text: &[u8],
     declarations: &'a [Declaration],
 ) -> Option<(&'a Function, &'a [Declaration])>
-    ensures found { IfSome result (λ found.
-        IsCalled text.now declarations.now name.now found.0.now found.1.now) }
+    ensures found { IfSome result (IsLast text.now declarations.now name.now) }
     ensures unknown { IfNone result (IsUnknown text.now declarations.now name.now) }
-    ensures weighed { IfSome result (λ found. weight_of found.0.now + weight found.1.now ≤
-        weight declarations.now) }
+    ensures weighed { IfSome result (IsNoHeavier declarations.now) }
 {
     let (last, earlier) = declarations.split_last()?;
     match last {

@@ -1,14 +1,11 @@
 // Parts of a program that run more often, or less often, than what is around them.
 
-ghost use Rattle.std.specs.Prelude.{◌≡◌, ◌∷◌, ◌++◌, []};
-ghost use Rattle.snesl_tree.specs.View.{binders_of, tree_of};
+ghost use Rattle.std.specs.Prelude.{◌≡◌, ◌∷◌, []};
 ghost use Rattle.flow_plans.specs.Plans.{flag_of_bool};
-ghost use Rattle.snesl_translation.specs.FreeNames.{free, without_binders};
 ghost use Rattle.snesl_translation.specs.Moving.{flags_stepped};
-ghost use Rattle.snesl_steps.specs.Views.{bindings_of, next_in, wires_of};
-ghost use Rattle.snesl_steps.specs.Added.{Adds};
-ghost use Rattle.snesl_scopes.specs.Scopes.{bound_of, names_in};
-ghost use Rattle.snesl_translator.specs.Rows.{each_opened, rows_of, where_opened};
+ghost use Rattle.snesl_steps.specs.Added.{AddsWires};
+ghost use Rattle.snesl_scopes.specs.Scopes.{names_in};
+ghost use Rattle.snesl_translator.specs.Rows.{OpensEach, OpensWhere, names_taken, names_taken_where};
 
 use crate::frames::{bind_items, flags_of_first};
 use flow_plans::Operation;
@@ -28,8 +25,7 @@ pub(crate) struct Rows<'a> {
 
 // A body within its binders.
 pub(crate) fn part_of<'a>(text: &'a [u8], binders: &'a [Binder], body: &'a Expr) -> Part<'a>
-    ensures { names_in result ≡ without_binders text.now (binders_of binders.now)
-        (free text.now (tree_of body.now)) }
+    ensures { names_in result ≡ names_taken text.now binders.now body.now }
 {
     Part {
         text,
@@ -46,8 +42,8 @@ pub(crate) fn part_where<'a>(
     condition: &'a Expr,
     body: &'a Expr,
 ) -> Part<'a>
-    ensures { names_in result ≡ without_binders text.now (binders_of binders.now)
-        (free text.now (tree_of condition.now) ++ free text.now (tree_of body.now)) }
+    ensures { names_in result ≡
+        names_taken_where text.now binders.now condition.now body.now }
 {
     Part {
         text,
@@ -66,9 +62,7 @@ pub(crate) fn open_each<'a>(
     sources: &[Binding<'a>],
     scope: &Scope<'a>,
 ) -> Result<Rows<'a>, Refusal>
-    ensures { Adds rows_of steps.old steps.new
-        (each_opened at (names_in part.now) (bindings_of sources.now) (bound_of scope.now)
-        (next_in steps.old)) result }
+    ensures { OpensEach steps.old steps.new at part.now sources.now scope.now result }
 {
     let flags = flags_of_first(sources);
     let items = bind_items(steps.alloc(), sources)?;
@@ -93,9 +87,7 @@ pub(crate) fn open_where<'a>(
     truths: usize,
     scope: &Scope<'a>,
 ) -> Result<Rows<'a>, Refusal>
-    ensures { Adds rows_of steps.old steps.new
-        (where_opened at (names_in part.now) (bound_of scope.now) truths
-        (next_in steps.old)) result }
+    ensures { OpensWhere steps.old steps.new at part.now truths scope.now result }
 {
     let segments = flags_of(steps, at, truths)?;
     let outside = keep_all(steps, at, truths, part, scope)?;
@@ -112,8 +104,7 @@ pub(crate) fn open_where<'a>(
 
 // The flags of one sequence for each truth value, which has an element where it is true.
 fn flags_of(steps: &mut Steps, at: usize, truths: usize) -> Result<Wires, Refusal>
-    ensures { Adds wires_of steps.old steps.new
-        (flags_stepped at flag_of_bool (truths ∷ []) (next_in steps.old)) result }
+    ensures { AddsWires steps.old steps.new (flags_stepped at flag_of_bool (truths ∷ [])) result }
 {
     let mut reads = Vec::new(steps.alloc());
     reads.push(truths)?;

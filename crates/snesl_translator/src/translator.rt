@@ -1,19 +1,7 @@
 // Translation.
 
-ghost use Rattle.std.specs.Prelude.{◌∷◌, ◌++◌, map};
-ghost use Rattle.snesl_tree.specs.Spelling.{spelling};
-ghost use Rattle.snesl_tree.specs.Tree.{apply, always, binary, binding, call, choice, each, filter, literal, only_where, pair, prefix};
-ghost use Rattle.snesl_tree.specs.View.{binders_of, tree_of, trees_of};
-ghost use Rattle.snesl_translation.specs.Wires.{stream_of};
-ghost use Rattle.snesl_translation.specs.Makings.{and_then};
-ghost use Rattle.snesl_translation.specs.Translation.{prefix_streams, tr};
-ghost use Rattle.snesl_tree.specs.declared.operator.Prefix.TheVariants.{Not};
-ghost use Rattle.snesl_steps.specs.Views.{bindings_of, dialect_of_steps, next_in, wires_of};
-ghost use Rattle.snesl_steps.specs.Added.{Adds};
-ghost use Rattle.snesl_scopes.specs.Scopes.{bound_of};
-ghost use Rattle.snesl_translator.specs.Called.{entered};
-ghost use Rattle.snesl_translator.specs.Rows.{rows_of};
-ghost use Rattle.snesl_translator.specs.Translated.{all_in, binders_in, bodies_in, body_in, each_behind, filtered_in, further_in, single_in, translated, where_after, where_in};
+ghost use Rattle.snesl_tree.specs.View.{tree_of};
+ghost use Rattle.snesl_translator.specs.Forms.{Applies, CallsNamed, Chooses, Combines, Enters, Extends, Filters, FiltersNot, Invokes, Lets, PairsUp, Repeats, RepeatsOver, RepeatsWhere, Sifts, SiftsOver, SiftsRows, Singles, Translates, TranslatesAll, TranslatesIn, TranslatesLiteral, TranslatesRows, TranslatesSources, Uses};
 
 use crate::forms::{always_true, flat, named, one_of, paired, sequence};
 use crate::frames::{bind_parameters, one_bound};
@@ -53,8 +41,7 @@ pub fn translate(
     scope: &Scope<'_>,
     control: usize,
 ) -> Result<Wires, Refusal>
-    ensures { Adds wires_of steps.old steps.new
-        (translated steps.old context.now scope.now (tree_of expr.now) control) result }
+    ensures { Translates steps.old steps.new context.now scope.now (tree_of expr.now) control result }
 {
     // It only hands each form on to a function of its own, and none is inlined into another: its frame, and theirs, are
     // what translation takes of the stack.
@@ -133,9 +120,8 @@ fn binary_form(
     scope: &Scope<'_>,
     control: usize,
 ) -> Result<Wires, Refusal>
-    ensures { Adds wires_of steps.old steps.new
-        (translated steps.old context.now scope.now
-        (binary at operator (tree_of left.now) (tree_of right.now)) control) result }
+    ensures { Combines steps.old steps.new context.now scope.now at operator left.now right.now
+        control result }
 {
     let u = translate(steps, context, left, scope, control)?;
     let v = translate(steps, context, right, scope, control)?;
@@ -154,9 +140,7 @@ fn prefix_form(
     scope: &Scope<'_>,
     control: usize,
 ) -> Result<Wires, Refusal>
-    ensures { Adds wires_of steps.old steps.new
-        (translated steps.old context.now scope.now
-        (prefix at operator (tree_of operand.now)) control) result }
+    ensures { Applies steps.old steps.new context.now scope.now at operator operand.now control result }
 {
     let u = translate(steps, context, operand, scope, control)?;
     apply_prefix(steps, at, operator, &u)
@@ -173,9 +157,7 @@ fn pair_form(
     scope: &Scope<'_>,
     control: usize,
 ) -> Result<Wires, Refusal>
-    ensures { Adds wires_of steps.old steps.new
-        (translated steps.old context.now scope.now
-        (pair at (tree_of first.now) (tree_of second.now)) control) result }
+    ensures { PairsUp steps.old steps.new context.now scope.now at first.now second.now control result }
 {
     let u = translate(steps, context, first, scope, control)?;
     let v = translate(steps, context, second, scope, control)?;
@@ -195,9 +177,7 @@ fn let_form(
     scope: &Scope<'_>,
     control: usize,
 ) -> Result<Wires, Refusal>
-    ensures { Adds wires_of steps.old steps.new
-        (translated steps.old context.now scope.now
-        (binding at name (tree_of value.now) (tree_of body.now)) control) result }
+    ensures { Lets steps.old steps.new context.now scope.now at name value.now body.now control result }
 {
     let u = translate(steps, context, value, scope, control)?;
     let frame = one_bound(steps.alloc(), name.spelled(context.text), u)?;
@@ -215,10 +195,7 @@ fn in_frame<'a>(
     scope: &'a Scope<'a>,
     control: usize,
 ) -> Result<Wires, Refusal>
-    ensures { Adds wires_of steps.old steps.new
-        (tr (dialect_of_steps steps.old) context.now.text.now
-        (bodies_in (dialect_of_steps steps.old) context.now) (tree_of body.now)
-        (bindings_of frame.now ++ bound_of scope.now) control (next_in steps.old)) result }
+    ensures { TranslatesIn steps.old steps.new context.now frame.now scope.now body.now control result }
 {
     let inner = Scope::Frame(frame, scope);
     let w = translate(steps, context, body, &inner, control)?;
@@ -238,10 +215,8 @@ fn if_form(
     scope: &Scope<'_>,
     control: usize,
 ) -> Result<Wires, Refusal>
-    ensures { Adds wires_of steps.old steps.new
-        (translated steps.old context.now scope.now
-        (choice at (tree_of condition.now) (tree_of positive.now)
-        (tree_of negative.now)) control) result }
+    ensures { Chooses steps.old steps.new context.now scope.now at condition.now positive.now
+        negative.now control result }
 {
     let d = translate(steps, context, condition, scope, control)?;
     let u = filtered(steps, context, at, positive, scope, d.stream())?;
@@ -260,11 +235,7 @@ fn otherwise(
     scope: &Scope<'_>,
     condition: &Wires,
 ) -> Result<Wires, Refusal>
-    ensures { Adds wires_of steps.old steps.new
-        (and_then (prefix_streams (dialect_of_steps steps.old) at Not (wires_of condition.now)
-        (next_in steps.old)) (λ e k. filtered_in
-        (dialect_of_steps steps.old) context.now scope.now at (tree_of item.now)
-        (stream_of e) k)) result }
+    ensures { FiltersNot steps.old steps.new context.now scope.now at item.now condition.now result }
 {
     let e = apply_prefix(steps, at, Prefix::Not, condition)?;
     filtered(steps, context, at, item, scope, e.stream())
@@ -282,9 +253,7 @@ fn built_in(
     scope: &Scope<'_>,
     control: usize,
 ) -> Result<Wires, Refusal>
-    ensures { Adds wires_of steps.old steps.new
-        (translated steps.old context.now scope.now
-        (call at function (trees_of arguments.now)) control) result }
+    ensures { Uses steps.old steps.new context.now scope.now at function arguments.now control result }
 {
     let us = all_translated(steps, context, arguments, scope, control)?;
     apply_built_in(steps, at, function, &us)
@@ -301,9 +270,7 @@ fn call_form(
     scope: &Scope<'_>,
     control: usize,
 ) -> Result<Wires, Refusal>
-    ensures { Adds wires_of steps.old steps.new
-        (translated steps.old context.now scope.now
-        (apply function (trees_of arguments.now)) control) result }
+    ensures { Invokes steps.old steps.new context.now scope.now function arguments.now control result }
 {
     let us = all_translated(steps, context, arguments, scope, control)?;
     called(steps, context, function, &us, control)
@@ -319,10 +286,7 @@ fn called(
     arguments: &[Wires],
     control: usize,
 ) -> Result<Wires, Refusal>
-    ensures { Adds wires_of steps.old steps.new
-        (bodies_in (dialect_of_steps steps.old) context.now name.at
-        (spelling context.now.text.now name) (map wires_of arguments.now) control
-        (next_in steps.old)) result }
+    ensures { CallsNamed steps.old steps.new context.now name arguments.now control result }
 {
     let bytes = name.spelled(context.text);
     match find_function(bytes, context.text, context.functions) {
@@ -339,18 +303,16 @@ fn enter(
     context: &ProgramContext<'_>,
     function: &Function,
     earlier: &[Declaration],
-    arguments: &[Wires],
+    wires: &[Wires],
     control: usize,
 ) -> Result<Wires, Refusal>
-    ensures { Adds wires_of steps.old steps.new
-        (entered (dialect_of_steps steps.old) context.now.text.now function.now earlier.now
-        (map wires_of arguments.now) control (next_in steps.old)) result }
+    ensures { Enters steps.old steps.new context.now function.now earlier.now wires.now control result }
 {
     let inner = ProgramContext {
         text: &*context.text,
         functions: &*earlier,
     };
-    let frame = bind_parameters(steps.alloc(), context.text, &function.parameters, arguments)?;
+    let frame = bind_parameters(steps.alloc(), context.text, &function.parameters, wires)?;
     let nothing = Scope::Nothing;
     let w = in_frame(steps, &inner, &function.body, &frame, &nothing, control)?;
     Ok(w)
@@ -367,9 +329,7 @@ fn literal_form(
     scope: &Scope<'_>,
     control: usize,
 ) -> Result<Wires, Refusal>
-    ensures { Adds wires_of steps.old steps.new
-        (translated steps.old context.now scope.now
-        (literal at (trees_of items.now)) control) result }
+    ensures { TranslatesLiteral steps.old steps.new context.now scope.now at items.now control result }
 {
     match items.split_first() {
         Some((first, others)) => {
@@ -392,9 +352,7 @@ fn further(
     scope: &Scope<'_>,
     control: usize,
 ) -> Result<Wires, Refusal>
-    ensures { Adds wires_of steps.old steps.new
-        (further_in (dialect_of_steps steps.old) context.now scope.now at (wires_of sequence)
-        (trees_of items.now) control (next_in steps.old)) result }
+    ensures { Extends steps.old steps.new context.now scope.now at sequence items.now control result }
 {
     let mut all = sequence;
     for item in items {
@@ -416,9 +374,7 @@ fn filter_form(
     scope: &Scope<'_>,
     control: usize,
 ) -> Result<Wires, Refusal>
-    ensures { Adds wires_of steps.old steps.new
-        (translated steps.old context.now scope.now
-        (filter at (tree_of item.now) (tree_of condition.now)) control) result }
+    ensures { Sifts steps.old steps.new context.now scope.now at item.now condition.now control result }
 {
     let d = translate(steps, context, condition, scope, control)?;
     filtered(steps, context, at, item, scope, d.stream())
@@ -436,9 +392,7 @@ fn each_form(
     scope: &Scope<'_>,
     control: usize,
 ) -> Result<Wires, Refusal>
-    ensures { Adds wires_of steps.old steps.new
-        (translated steps.old context.now scope.now
-        (each at (tree_of body.now) (binders_of binders.now) always) control) result }
+    ensures { Repeats steps.old steps.new context.now scope.now at body.now binders.now control result }
 {
     let sources = all_sources(steps, context, binders, scope, control)?;
     each_over(steps, context, at, body, binders, &sources, scope)
@@ -456,9 +410,8 @@ fn each_over(
     sources: &[Binding<'_>],
     scope: &Scope<'_>,
 ) -> Result<Wires, Refusal>
-    ensures { Adds wires_of steps.old steps.new
-        (each_behind (dialect_of_steps steps.old) context.now scope.now at (bindings_of sources.now)
-        (tree_of body.now) (binders_of binders.now) (next_in steps.old)) result }
+    ensures { RepeatsOver steps.old steps.new context.now scope.now at sources.now body.now
+        binders.now result }
 {
     let part = part_of(&*context.text, &*binders, &*body);
     let rows = open_each(steps, at, &part, &*sources, &*scope)?;
@@ -478,10 +431,8 @@ fn each_where(
     scope: &Scope<'_>,
     control: usize,
 ) -> Result<Wires, Refusal>
-    ensures { Adds wires_of steps.old steps.new
-        (translated steps.old context.now scope.now
-        (each at (tree_of body.now) (binders_of binders.now)
-        (only_where (tree_of condition.now))) control) result }
+    ensures { RepeatsWhere steps.old steps.new context.now scope.now at body.now binders.now
+        condition.now control result }
 {
     let sources = all_sources(steps, context, binders, scope, control)?;
     where_over(
@@ -502,10 +453,8 @@ fn where_over(
     sources: &[Binding<'_>],
     scope: &Scope<'_>,
 ) -> Result<Wires, Refusal>
-    ensures { Adds wires_of steps.old steps.new
-        (where_after (dialect_of_steps steps.old) context.now scope.now at
-        (bindings_of sources.now) (tree_of body.now) (tree_of condition.now)
-        (binders_of binders.now) (next_in steps.old)) result }
+    ensures { SiftsOver steps.old steps.new context.now scope.now at sources.now body.now
+        binders.now condition.now result }
 {
     let part = part_where(&*context.text, &*binders, &*condition, &*body);
     let rows = open_each(steps, at, &part, &*sources, &*scope)?;
@@ -522,9 +471,7 @@ fn all_translated(
     scope: &Scope<'_>,
     control: usize,
 ) -> Result<Vec<Wires>, Refusal>
-    ensures { Adds (λ us. map wires_of us.items) steps.old steps.new
-        (all_in (dialect_of_steps steps.old) context.now scope.now (trees_of exprs.now) control
-        (next_in steps.old)) result }
+    ensures { TranslatesAll steps.old steps.new context.now scope.now exprs.now control result }
 {
     let mut us = Vec::new(steps.alloc());
     for expr in exprs {
@@ -544,9 +491,7 @@ fn all_sources<'a>(
     scope: &Scope<'_>,
     control: usize,
 ) -> Result<Vec<Binding<'a>>, Refusal>
-    ensures { Adds (λ sources. bindings_of sources.items) steps.old steps.new
-        (binders_in (dialect_of_steps steps.old) context.now scope.now
-        (binders_of binders.now) control (next_in steps.old)) result }
+    ensures { TranslatesSources steps.old steps.new context.now scope.now binders.now control result }
 {
     let mut sources = Vec::new(steps.alloc());
     for binder in binders {
@@ -568,9 +513,7 @@ fn single(
     scope: &Scope<'_>,
     control: usize,
 ) -> Result<Wires, Refusal>
-    ensures { Adds wires_of steps.old steps.new
-        (single_in (dialect_of_steps steps.old) context.now scope.now at (tree_of item.now) control
-        (next_in steps.old)) result }
+    ensures { Singles steps.old steps.new context.now scope.now at item.now control result }
 {
     let truths = always_true(steps, at, control)?;
     filtered(steps, context, at, item, scope, truths)
@@ -587,9 +530,7 @@ fn filtered(
     scope: &Scope<'_>,
     truths: usize,
 ) -> Result<Wires, Refusal>
-    ensures { Adds wires_of steps.old steps.new
-        (filtered_in (dialect_of_steps steps.old) context.now scope.now at (tree_of item.now) truths
-        (next_in steps.old)) result }
+    ensures { Filters steps.old steps.new context.now scope.now at item.now truths result }
 {
     let part = part_of(&*context.text, &[], &*item);
     let rows = open_where(steps, at, &part, truths, &*scope)?;
@@ -605,9 +546,7 @@ fn in_rows(
     body: &Expr,
     rows: &Rows<'_>,
 ) -> Result<Wires, Refusal>
-    ensures { Adds wires_of steps.old steps.new
-        (body_in (dialect_of_steps steps.old) context.now (rows_of rows.now) (tree_of body.now)
-        (next_in steps.old)) result }
+    ensures { TranslatesRows steps.old steps.new context.now rows.now body.now result }
 {
     let nothing = Scope::Nothing;
     let outside = Scope::Frame(&rows.outside, &nothing);
@@ -628,9 +567,7 @@ fn where_true(
     condition: &Expr,
     rows: &Rows<'_>,
 ) -> Result<Wires, Refusal>
-    ensures { Adds wires_of steps.old steps.new
-        (where_in (dialect_of_steps steps.old) context.now (rows_of rows.now) at (tree_of body.now)
-        (tree_of condition.now) (next_in steps.old)) result }
+    ensures { SiftsRows steps.old steps.new context.now rows.now at body.now condition.now result }
 {
     let nothing = Scope::Nothing;
     let outside = Scope::Frame(&rows.outside, &nothing);

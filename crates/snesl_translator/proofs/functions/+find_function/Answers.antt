@@ -1,16 +1,12 @@
-use Rattle.std.proofs.Common.{◌≡◌, ◌+◌, ◌≤◌, ◌∷◌, ◌++◌, [], true, false, Bor, List, sym, ap, ◌∙◌, subst, arith}
+use Rattle.std.proofs.Common.{◌≡◌, ◌+◌, ◌∷◌, ◌++◌, [], true, false, sym, ap, ◌∙◌, subst, arith}
 use Rattle.std.specs.Str.{bytes_eq}
-use Rattle.snesl_tree.specs.declared.declaration.Declaration.{Declaration}
 use Rattle.snesl_tree.specs.declared.declaration.Function.{Function}
 use Rattle.snesl_tree.specs.Spelling.{spelling}
-use Rattle.snesl_evaluation.specs.Scopes.{weight, weight_of}
-use Rattle.snesl_translator.specs.Called.{IsCalled, IsUnknown}
+use Rattle.snesl_evaluation.specs.Scopes.{weight}
+use Rattle.snesl_translator.specs.Called.{IsLast, IsNoHeavier, IsUnknown}
 use Rattle.snesl_evaluation.proofs.Declared.{IsOther, found_before, none_before, weight-less, weight-function}
 use Rattle.snesl_translator.proofs.Declared.{bodies_pass, bodies_reach}
 use Rattle.snesl_translator.proofs.functions.+find_function.Goals as goal
-
-abbrev Found : Type 0
-Found = Bor Function × Bor (List Declaration)
 
 pub returns-in-Input-clause-found : goal.returns-in-Input-clause-found
 returns-in-Input-clause-found t c =
@@ -19,7 +15,7 @@ returns-in-Input-clause-found t c =
     let all = c.args.declarations.now in
     let earlier = c.in_ok-last.earlier.now in
     let other = subst (IsOther text name) (sym c.in-Input.is) tt in
-    found_before (λ (found : Found). IsCalled text earlier name found.0.now found.1.now) (λ (found : Found). IsCalled text all name found.0.now found.1.now) c.find_function.result
+    found_before (IsLast text earlier name) (IsLast text all name) c.find_function.result
     (λ found h dialect at us control next. bodies_pass dialect text name all earlier c.in_ok-last.last.now c.in_ok-last.ensures.cases.0 other at us control next ∙ h dialect at us control next)
     c.find_function.ensures.found
 
@@ -38,7 +34,7 @@ pub returns-in-Input-clause-weighed : goal.returns-in-Input-clause-weighed
 returns-in-Input-clause-weighed t c =
     let all = c.args.declarations.now in
     let earlier = c.in_ok-last.earlier.now in
-    found_before (λ (found : Found). weight_of found.0.now + weight found.1.now ≤ weight earlier) (λ (found : Found). weight_of found.0.now + weight found.1.now ≤ weight all) c.find_function.result
+    found_before (IsNoHeavier earlier) (IsNoHeavier all) c.find_function.result
     (λ found h. weight-less all earlier c.in_ok-last.last.now _ c.in_ok-last.ensures.cases.0 h)
     c.find_function.ensures.weighed
 
@@ -64,7 +60,7 @@ returns-else-eq-clause-found t c =
     let earlier = c.in_ok-last.earlier.now in
     let away : bytes_eq name (spelling text c.in-Function.function.name) ≡ false = ap (bytes_eq name) (sym c.spelled.ensures) ∙ sym c.eq.ensures ∙ c.if-eq.false in
     let other = subst (IsOther text name) (sym c.in-Function.is) away in
-    found_before (λ (found : Found). IsCalled text earlier name found.0.now found.1.now) (λ (found : Found). IsCalled text all name found.0.now found.1.now) c.find_function-else-eq.result
+    found_before (IsLast text earlier name) (IsLast text all name) c.find_function-else-eq.result
     (λ found h dialect at us control next. bodies_pass dialect text name all earlier c.in_ok-last.last.now c.in_ok-last.ensures.cases.0 other at us control next ∙ h dialect at us control next)
     c.find_function-else-eq.ensures.found
 
@@ -84,7 +80,7 @@ pub returns-else-eq-clause-weighed : goal.returns-else-eq-clause-weighed
 returns-else-eq-clause-weighed t c =
     let all = c.args.declarations.now in
     let earlier = c.in_ok-last.earlier.now in
-    found_before (λ (found : Found). weight_of found.0.now + weight found.1.now ≤ weight earlier)
-    (λ (found : Found). weight_of found.0.now + weight found.1.now ≤ weight all) c.find_function-else-eq.result
+    found_before (IsNoHeavier earlier)
+    (IsNoHeavier all) c.find_function-else-eq.result
     (λ found h. weight-less all earlier c.in_ok-last.last.now _ c.in_ok-last.ensures.cases.0 h)
     c.find_function-else-eq.ensures.weighed

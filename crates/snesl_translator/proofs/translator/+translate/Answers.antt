@@ -1,6 +1,6 @@
-use Rattle.std.proofs.Common.{◌≡◌, ℕ, true, List, [], ◌∷◌, ◌++◌, map, Ok, Err, Vec, Global, arith, sym, ap, subst, ◌∙◌}
+use Rattle.std.proofs.Common.{ℕ, true, List, [], ◌∷◌, ◌++◌, map, Ok, Err, Vec, Global, arith, sym, ap, subst, ◌∙◌}
 use denote.Param.Weighed.{at_most, most}
-use Rattle.flow_plans.specs.Plans.{const, the_check}
+use Rattle.flow_plans.specs.Plans.{const}
 use Rattle.snesl_data.specs.declared.dialect.Dialect.{Dialect}
 use Rattle.snesl_data.specs.Types.{bool}
 use Rattle.snesl_operators.specs.declared.scalar.Scalar.TheVariants.{Bool as Truth}
@@ -12,8 +12,8 @@ use Rattle.snesl_tree.specs.declared.expr.Binder.{Binder}
 use Rattle.snesl_tree.specs.declared.operator.Prefix.TheVariants.{Not}
 use Rattle.snesl_tree.proofs.Arguments.{tree_of-Call, tree_of-Apply, tree_of-Literal, binders_row}
 use Rattle.snesl_translation.specs.FreeNames.{Names, free, without_binders}
-use Rattle.snesl_translation.specs.Makings.{Making, done, and_then, stepped, tested}
-use Rattle.snesl_translation.specs.Wires.{Bound, Wires as WiresOf, item_wires, segments, stream_of, two}
+use Rattle.snesl_translation.specs.Makings.{Making, done, and_then, stepped}
+use Rattle.snesl_translation.specs.Wires.{Bound, Wires as WiresOf, segments, stream_of, two}
 use Rattle.snesl_translation.specs.Translation.{appended, binary_streams, call_streams, concatenated, filtered, prefix_streams, single, tr}
 use Rattle.snesl_steps.specs.Added.{Adds, HasMade}
 use Rattle.snesl_steps.specs.Views.{binding_of, bindings_of, dialect_of_steps, next_in, wires_of}
@@ -21,23 +21,16 @@ use Rattle.snesl_steps.specs.declared.wires.Binding.{Binding}
 use Rattle.snesl_steps.specs.declared.wires.Wires.{Wires}
 use Rattle.snesl_steps.proofs.Adding.{done_made, exits, exits_first, refused_first, then_done}
 use Rattle.snesl_scopes.specs.Scopes.{bound_of}
-use Rattle.snesl_scopes.specs.declared.scope.Scope.{Scope}
-use Rattle.snesl_translator.specs.declared.translator.ProgramContext.{ProgramContext}
 use Rattle.snesl_translator.specs.Rows.{each_opened, rows_of, where_opened}
-use Rattle.snesl_translator.specs.Translated.{always_true, bodies_in, body_in, each_behind, filtered_in, further_in, single_in, translated, where_after, where_in}
+use Rattle.snesl_translator.specs.Translated.{always_true, bodies_in, body_in, each_behind, filtered_in, further_in, joined, single_in, translated, where_after, where_in}
 use Rattle.snesl_translator.proofs.Expressions.{tr_in}
 use Rattle.snesl_translator.proofs.Adding.{item_made, item_refused, items_made, none_made, then_adds}
 use Rattle.snesl_translator.proofs.Listed.{argument_in, arguments_listed, source_in, sources_listed}
-use Rattle.snesl_translator.proofs.Literals.{all_after, further_after, item_after, item_not_after}
+use Rattle.snesl_translator.proofs.Bindings.{bound_seen}
+use Rattle.snesl_translator.proofs.Literals.{all_after, item_after, item_not_after, literal_listed}
 use Rattle.snesl_translator.proofs.Makings.{in_turn, one_in_turn}
 use Rattle.snesl_translator.proofs.Opening.{each_opens, each_rest, where_opens}
 use Rattle.snesl_translator.proofs.translator.+translate.Goals as goal
-
--- what a body sees, as the slices of its frames and as its rows hold it
-bound_seen : {items outside : List Binding} (items' outside' : List Binding) → items ≡ items' → outside ≡ outside'
-    → bindings_of items ++ (bindings_of outside ++ []) ≡ bindings_of items' ++ (bindings_of outside' ++ [])
-bound_seen {outside = outside} items' outside' e h =
-    ap (λ (l : List Binding). bindings_of l ++ (bindings_of outside ++ [])) e ∙ ap (λ (l : List Binding). bindings_of items' ++ (bindings_of l ++ [])) h
 
 -- operators and pairs
 
@@ -47,21 +40,17 @@ binary_form-returns-in_err-u t c =
 
 pub binary_form-returns-in_err-v : goal.binary_form-returns-in_err-v
 binary_form-returns-in_err-v t c =
-    let context = c.args.context.now in
-    let scope = c.args.scope.now in
     let new = c.translate-2.new.steps in
     then_adds wires_of new
-    (λ d u k. and_then (tr_in d context scope (tree_of c.args.right.now) c.args.control k)
+    (λ d u k. and_then (tr_in d c.args.context.now c.args.scope.now (tree_of c.args.right.now) c.args.control k)
     (λ v k. binary_streams d c.args.at c.args.operator u v k)) c.from_residual-in_err-v.result c.in_ok-u.ensures
     (exits_first wires_of wires_of c.translate.new.steps new new _ _ c.in_err-v.field-0.0 c.from_residual-in_err-v.result c.from_residual-in_err-v.ensures c.in_err-v.ensures)
 
 pub binary_form-returns : goal.binary_form-returns
 binary_form-returns t c =
-    let context = c.args.context.now in
-    let scope = c.args.scope.now in
     let new = c.apply_operator.new.steps in
     then_adds wires_of new
-    (λ d u k. and_then (tr_in d context scope (tree_of c.args.right.now) c.args.control k)
+    (λ d u k. and_then (tr_in d c.args.context.now c.args.scope.now (tree_of c.args.right.now) c.args.control k)
     (λ v k. binary_streams d c.args.at c.args.operator u v k)) c.apply_operator.result c.in_ok-u.ensures
     (then_adds wires_of new (λ d v k. binary_streams d c.args.at c.args.operator (wires_of c.in_ok-u.u) v k) c.apply_operator.result c.in_ok-v.ensures c.apply_operator.ensures)
 
@@ -87,10 +76,9 @@ pair_form-returns-in_err-v t c =
 
 pub pair_form-returns : goal.pair_form-returns
 pair_form-returns t c =
-    let context = c.args.context.now in
-    let scope = c.args.scope.now in
     let new = c.paired.new.steps in
-    then_adds wires_of new (λ d u k. and_then (tr_in d context scope (tree_of c.args.second.now) c.args.control k) (λ v k. done (two u v) k)) c.paired.result c.in_ok-u.ensures
+    then_adds wires_of new
+    (λ d u k. and_then (tr_in d c.args.context.now c.args.scope.now (tree_of c.args.second.now) c.args.control k) (λ v k. done (two u v) k)) c.paired.result c.in_ok-u.ensures
     (then_adds wires_of new (λ d v k. done (two (wires_of c.in_ok-u.u) v) k) c.paired.result c.in_ok-v.ensures c.paired.ensures)
 
 -- bindings
@@ -115,9 +103,6 @@ let_form-returns t c =
     frame c.in_frame.ensures)
 
 -- what runs for some instances only
-
-abbrev joined : ℕ → WiresOf → WiresOf → ℕ → Making WiresOf
-joined at u v k = and_then (appended at u v k) (λ w k. tested at the_check (stream_of w ∷ []) (item_wires w) k)
 
 pub otherwise-returns-in_err-e : goal.otherwise-returns-in_err-e
 otherwise-returns-in_err-e t c =
@@ -303,15 +288,6 @@ call_form-returns t c =
 
 -- literals
 
--- a literal is its first item, and then the others after it
-literal_listed : (dialect : Dialect) (context : ProgramContext) (scope : Scope) (at control : ℕ) (first : Expr) (others : List Expr) (next : ℕ)
-    → and_then (single_in dialect context scope at (tree_of first) control next) (λ u k. further_in dialect context scope at u (trees_of others) control k)
-    ≡ tr_in dialect context scope (literal at (trees_of (first ∷ others))) control next
-literal_listed dialect context scope at control first others next =
-    sym (further_after dialect context.text.now (bodies_in dialect context) at (bound_of scope) control
-    (λ b c n. single at (free context.text.now (tree_of first))
-    (λ b c n. tr dialect context.text.now (bodies_in dialect context) (tree_of first) b c n) b c n) (trees_of others) next)
-
 pub literal_form-returns-in_err-sequence-in-Some : goal.literal_form-returns-in_err-sequence-in-Some
 literal_form-returns-in_err-sequence-in-Some t c =
     let context = c.args.context.now in
@@ -381,15 +357,12 @@ further-returns-in_err-last t c =
 
 pub further-returns-in_err-all : goal.further-returns-in_err-all
 further-returns-in_err-all t c =
-    let context = c.args.context.now in
-    let scope = c.args.scope.now in
     let at = c.args.at in
-    let control = c.args.control in
     let all = wires_of c.loop-item.all in
     let new = c.append.new.steps in
     let refusal = c.in_err-all.field-0.0 in
     exits wires_of c.args.steps.now new _ refusal c.from_residual-in_err-all.result c.from_residual-in_err-all.ensures
-    (item_not_after context scope at control new (wires_of c.args.sequence) all c.args.items.now c.loop-item.item-index c.item-item.result refusal
+    (item_not_after c.args.context.now c.args.scope.now at c.args.control new (wires_of c.args.sequence) all c.args.items.now c.loop-item.item-index c.item-item.result refusal
     c.loop-item-test.true c.item-item.is c.loop-item.invariant
     (then_adds wires_of new (λ d v k. appended at all v k) (Err refusal) c.in_ok-last.ensures c.in_err-all.ensures))
 
@@ -441,13 +414,12 @@ each_over-returns-in_err-rows t c =
 
 pub each_over-returns : goal.each_over-returns
 each_over-returns t c =
-    let context = c.args.context.now in
     let at = c.args.at in
     let bound = bound_of c.args.scope.now in
     let body = tree_of c.args.body.now in
     let first = c.args.steps.now in
     let sources = bindings_of c.args.sources.now in
-    then_adds wires_of c.in_rows.new.steps (λ d rows k. body_in d context rows body k) c.in_rows.result
+    then_adds wires_of c.in_rows.new.steps (λ d rows k. body_in d c.args.context.now rows body k) c.in_rows.result
     (subst (λ (ns : Names). HasMade first c.open_each.new.steps (each_opened at ns sources bound (next_in first)) (rows_of c.in_ok-rows.rows)) c.part_of-part.ensures c.in_ok-rows.ensures)
     c.in_rows.ensures
 
@@ -494,14 +466,13 @@ where_over-returns-in_err-rows t c =
 
 pub where_over-returns : goal.where_over-returns
 where_over-returns t c =
-    let context = c.args.context.now in
     let at = c.args.at in
     let bound = bound_of c.args.scope.now in
     let body = tree_of c.args.body.now in
     let condition = tree_of c.args.condition.now in
     let first = c.args.steps.now in
     let sources = bindings_of c.args.sources.now in
-    then_adds wires_of c.where_true.new.steps (λ d rows k. where_in d context rows at body condition k) c.where_true.result
+    then_adds wires_of c.where_true.new.steps (λ d rows k. where_in d c.args.context.now rows at body condition k) c.where_true.result
     (subst (λ (ns : Names). HasMade first c.open_each.new.steps (each_opened at ns sources bound (next_in first)) (rows_of c.in_ok-rows.rows)) c.part_where-part.ensures c.in_ok-rows.ensures)
     c.where_true.ensures
 
@@ -542,10 +513,9 @@ in_rows-returns t c =
     let body = tree_of c.args.body.now in
     let old = c.args.steps.now in
     let d = dialect_of_steps old in
-    let first = c.translate.new.steps in
     let seen = bound_seen rows.items.items rows.outside.items c.deref-2.ensures.value c.deref.ensures.value in
     then_adds wires_of c.sequence.new.steps (λ d w k. done (segments rows.flags w) k) (Ok c.in_ok-all.all)
-    (subst (λ (b : Bound). HasMade old first (tr d text (bodies_in d context) body b rows.control (next_in old)) (wires_of c.in_ok-w.w)) seen c.in_ok-w.ensures)
+    (subst (λ (b : Bound). HasMade old c.translate.new.steps (tr d text (bodies_in d context) body b rows.control (next_in old)) (wires_of c.in_ok-w.w)) seen c.in_ok-w.ensures)
     c.in_ok-all.ensures
 
 pub where_true-returns-in_err-d : goal.where_true-returns-in_err-d
@@ -579,7 +549,6 @@ where_true-returns-in_err-w t c =
     let d = dialect_of_steps old in
     let first = c.translate.new.steps in
     let seen = bound_seen rows.items.items rows.outside.items c.deref-2.ensures.value c.deref.ensures.value in
-    let truths = stream_of (wires_of c.in_ok-d.d) in
     let second = c.filtered.new.steps in
     let e = dialect_of_steps first in
     let inside = λ (b : Bound) (control k : ℕ). tr e text (bodies_in e context) body b control k in
@@ -605,7 +574,6 @@ where_true-returns-in_err-all t c =
     let d = dialect_of_steps old in
     let first = c.translate.new.steps in
     let seen = bound_seen rows.items.items rows.outside.items c.deref-2.ensures.value c.deref.ensures.value in
-    let truths = stream_of (wires_of c.in_ok-d.d) in
     let second = c.filtered.new.steps in
     let e = dialect_of_steps first in
     let inside = λ (b : Bound) (control k : ℕ). tr e text (bodies_in e context) body b control k in
@@ -633,7 +601,6 @@ where_true-returns t c =
     let d = dialect_of_steps old in
     let first = c.translate.new.steps in
     let seen = bound_seen rows.items.items rows.outside.items c.deref-2.ensures.value c.deref.ensures.value in
-    let truths = stream_of (wires_of c.in_ok-d.d) in
     let second = c.filtered.new.steps in
     let e = dialect_of_steps first in
     let inside = λ (b : Bound) (control k : ℕ). tr e text (bodies_in e context) body b control k in
@@ -739,72 +706,65 @@ all_sources-returns t c =
 
 pub translate-returns-in-Let : goal.translate-returns-in-Let
 translate-returns-in-Let t c =
-    let old = c.args.steps.now in
-    let form = λ (tree : Tree). translated old c.args.context.now c.args.scope.now tree c.args.control in
+    let form = λ (tree : Tree). translated c.args.steps.now c.args.context.now c.args.scope.now tree c.args.control in
     let let' = λ (value body : Expr). form (binding c.in-Let.at c.in-Let.name (tree_of value) (tree_of body)) in
     let e =
     ap (λ (expr : Expr). form (tree_of expr)) c.in-Let.is
     ∙ ap (λ (value : Expr). let' value c.in-Let.body.value) (sym c.deref-in-Let.ensures)
     ∙ ap (λ (body : Expr). let' c.deref-in-Let.result.now body) (sym c.deref-in-Let-2.ensures) in
-    subst (λ (m : Making WiresOf). Adds wires_of old c.let_form.new.steps m c.let_form.result) (sym e) c.let_form.ensures
+    subst (λ (m : Making WiresOf). Adds wires_of c.args.steps.now c.let_form.new.steps m c.let_form.result) (sym e) c.let_form.ensures
 
 pub translate-returns-in-If : goal.translate-returns-in-If
 translate-returns-in-If t c =
-    let old = c.args.steps.now in
-    let form = λ (tree : Tree). translated old c.args.context.now c.args.scope.now tree c.args.control in
+    let form = λ (tree : Tree). translated c.args.steps.now c.args.context.now c.args.scope.now tree c.args.control in
     let if' = λ (condition positive negative : Expr). form (choice c.in-If.at (tree_of condition) (tree_of positive) (tree_of negative)) in
     let e =
     ap (λ (expr : Expr). form (tree_of expr)) c.in-If.is
     ∙ ap (λ (condition : Expr). if' condition c.in-If.positive.value c.in-If.negative.value) (sym c.deref-in-If.ensures)
     ∙ ap (λ (positive : Expr). if' c.deref-in-If.result.now positive c.in-If.negative.value) (sym c.deref-in-If-2.ensures)
     ∙ ap (λ (negative : Expr). if' c.deref-in-If.result.now c.deref-in-If-2.result.now negative) (sym c.deref-in-If-3.ensures) in
-    subst (λ (m : Making WiresOf). Adds wires_of old c.if_form.new.steps m c.if_form.result) (sym e) c.if_form.ensures
+    subst (λ (m : Making WiresOf). Adds wires_of c.args.steps.now c.if_form.new.steps m c.if_form.result) (sym e) c.if_form.ensures
 
 pub translate-returns-in-Call : goal.translate-returns-in-Call
 translate-returns-in-Call t c =
-    let old = c.args.steps.now in
-    let form = λ (tree : Tree). translated old c.args.context.now c.args.scope.now tree c.args.control in
+    let form = λ (tree : Tree). translated c.args.steps.now c.args.context.now c.args.scope.now tree c.args.control in
     let e =
     ap (λ (expr : Expr). form (tree_of expr)) c.in-Call.is
     ∙ ap form (tree_of-Call c.in-Call.at c.in-Call.function c.in-Call.arguments)
     ∙ ap (λ (exprs : List Expr). form (call c.in-Call.at c.in-Call.function (trees_of exprs))) (sym c.deref-in-Call.ensures.value) in
-    subst (λ (m : Making WiresOf). Adds wires_of old c.built_in.new.steps m c.built_in.result) (sym e) c.built_in.ensures
+    subst (λ (m : Making WiresOf). Adds wires_of c.args.steps.now c.built_in.new.steps m c.built_in.result) (sym e) c.built_in.ensures
 
 pub translate-returns-in-Apply : goal.translate-returns-in-Apply
 translate-returns-in-Apply t c =
-    let old = c.args.steps.now in
-    let form = λ (tree : Tree). translated old c.args.context.now c.args.scope.now tree c.args.control in
+    let form = λ (tree : Tree). translated c.args.steps.now c.args.context.now c.args.scope.now tree c.args.control in
     let e =
     ap (λ (expr : Expr). form (tree_of expr)) c.in-Apply.is
     ∙ ap form (tree_of-Apply c.in-Apply.function c.in-Apply.arguments)
     ∙ ap (λ (exprs : List Expr). form (apply c.in-Apply.function (trees_of exprs))) (sym c.deref-in-Apply.ensures.value) in
-    subst (λ (m : Making WiresOf). Adds wires_of old c.call_form.new.steps m c.call_form.result) (sym e) c.call_form.ensures
+    subst (λ (m : Making WiresOf). Adds wires_of c.args.steps.now c.call_form.new.steps m c.call_form.result) (sym e) c.call_form.ensures
 
 pub translate-returns-in-Literal : goal.translate-returns-in-Literal
 translate-returns-in-Literal t c =
-    let old = c.args.steps.now in
-    let form = λ (tree : Tree). translated old c.args.context.now c.args.scope.now tree c.args.control in
+    let form = λ (tree : Tree). translated c.args.steps.now c.args.context.now c.args.scope.now tree c.args.control in
     let e =
     ap (λ (expr : Expr). form (tree_of expr)) c.in-Literal.is
     ∙ ap form (tree_of-Literal c.in-Literal.at c.in-Literal.items)
     ∙ ap (λ (exprs : List Expr). form (literal c.in-Literal.at (trees_of exprs))) (sym c.deref-in-Literal.ensures.value) in
-    subst (λ (m : Making WiresOf). Adds wires_of old c.literal_form.new.steps m c.literal_form.result) (sym e) c.literal_form.ensures
+    subst (λ (m : Making WiresOf). Adds wires_of c.args.steps.now c.literal_form.new.steps m c.literal_form.result) (sym e) c.literal_form.ensures
 
 pub translate-returns-in-Filter : goal.translate-returns-in-Filter
 translate-returns-in-Filter t c =
-    let old = c.args.steps.now in
-    let form = λ (tree : Tree). translated old c.args.context.now c.args.scope.now tree c.args.control in
+    let form = λ (tree : Tree). translated c.args.steps.now c.args.context.now c.args.scope.now tree c.args.control in
     let filter' = λ (item condition : Expr). form (filter c.in-Filter.at (tree_of item) (tree_of condition)) in
     let e =
     ap (λ (expr : Expr). form (tree_of expr)) c.in-Filter.is
     ∙ ap (λ (item : Expr). filter' item c.in-Filter.condition.value) (sym c.deref-in-Filter.ensures)
     ∙ ap (λ (condition : Expr). filter' c.deref-in-Filter.result.now condition) (sym c.deref-in-Filter-2.ensures) in
-    subst (λ (m : Making WiresOf). Adds wires_of old c.filter_form.new.steps m c.filter_form.result) (sym e) c.filter_form.ensures
+    subst (λ (m : Making WiresOf). Adds wires_of c.args.steps.now c.filter_form.new.steps m c.filter_form.result) (sym e) c.filter_form.ensures
 
 pub translate-returns-in-None : goal.translate-returns-in-None
 translate-returns-in-None t c =
-    let old = c.args.steps.now in
-    let form = λ (tree : Tree). translated old c.args.context.now c.args.scope.now tree c.args.control in
+    let form = λ (tree : Tree). translated c.args.steps.now c.args.context.now c.args.scope.now tree c.args.control in
     let each' = λ (body : Expr) (binders : Binders). form (each c.in-Each.at (tree_of body) binders always) in
     let e =
     ap (λ (expr : Expr). form (tree_of expr)) c.in-Each.is
@@ -812,12 +772,11 @@ translate-returns-in-None t c =
     ∙ ap (each' c.in-Each.body.value) (binders_row c.in-Each.binders)
     ∙ ap (λ (body : Expr). each' body (binders_of c.in-Each.binders.items)) (sym c.deref-in-None.ensures)
     ∙ ap (λ (l : List Binder). each' c.deref-in-None.result.now (binders_of l)) (sym c.deref-in-None-2.ensures.value) in
-    subst (λ (m : Making WiresOf). Adds wires_of old c.each_form.new.steps m c.each_form.result) (sym e) c.each_form.ensures
+    subst (λ (m : Making WiresOf). Adds wires_of c.args.steps.now c.each_form.new.steps m c.each_form.result) (sym e) c.each_form.ensures
 
 pub translate-returns-in-Some : goal.translate-returns-in-Some
 translate-returns-in-Some t c =
-    let old = c.args.steps.now in
-    let form = λ (tree : Tree). translated old c.args.context.now c.args.scope.now tree c.args.control in
+    let form = λ (tree : Tree). translated c.args.steps.now c.args.context.now c.args.scope.now tree c.args.control in
     let each' = λ (body : Expr) (binders : Binders) (condition : Expr). form (each c.in-Each.at (tree_of body) binders (only_where (tree_of condition))) in
     let e =
     ap (λ (expr : Expr). form (tree_of expr)) c.in-Each.is
@@ -826,4 +785,4 @@ translate-returns-in-Some t c =
     ∙ ap (λ (body : Expr). each' body (binders_of c.in-Each.binders.items) c.in-Some.condition.value) (sym c.deref-in-Some.ensures)
     ∙ ap (λ (l : List Binder). each' c.deref-in-Some.result.now (binders_of l) c.in-Some.condition.value) (sym c.deref-in-Some-2.ensures.value)
     ∙ ap (λ (condition : Expr). each' c.deref-in-Some.result.now (binders_of c.deref-in-Some-2.result.now) condition) (sym c.deref-in-Some-3.ensures) in
-    subst (λ (m : Making WiresOf). Adds wires_of old c.each_where.new.steps m c.each_where.result) (sym e) c.each_where.ensures
+    subst (λ (m : Making WiresOf). Adds wires_of c.args.steps.now c.each_where.new.steps m c.each_where.result) (sym e) c.each_where.ensures
