@@ -4,14 +4,14 @@ ghost use Rattle.flow_networks.specs.Graphs.{states_of};
 ghost use Rattle.flow_networks.specs.Networks.{AreOpened};
 ghost use Rattle.flow_nodes.specs.StreamNodes.{node_behaviour};
 
-use crate::sketches::{
-    ONE_UNIT, PRINTS_BELOW_FIVE, SCAN_OF_QUOTIENTS, SUM_OF_FIVE, SUM_OF_UNLIKE,
-    WAITS_FOR_ITS_LENGTH, graph_of,
-};
 use flow_base::{Printing, Transducer};
 use flow_drives::{Config, Drive, DriveError, NoGate, Outcome, Rested, deal, deal_rings, drive};
 use flow_networks::Graph;
 use flow_nodes::StreamNode;
+use flow_samples::{
+    ONE_UNIT, PRINTS_BELOW_FIVE, SCAN_OF_QUOTIENTS, SUM_OF_FIVE, SUM_OF_UNLIKE,
+    WAITS_FOR_ITS_LENGTH, graph_of,
+};
 use snesl_data::{Fault, FaultKind};
 use std::alloc::{AllocError, Global};
 use std::process::Abort;

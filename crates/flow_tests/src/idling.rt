@@ -3,10 +3,10 @@
 ghost use Rattle.flow_networks.specs.Graphs.{states_of};
 ghost use Rattle.flow_networks.specs.Networks.{AreOpened};
 
-use crate::sketches::{SUM_OF_FIVE, graph_of};
 use flow_base::Transducer;
 use flow_drives::{Config, Drive, Gate, drive};
 use flow_networks::Graph;
+use flow_samples::{SUM_OF_FIVE, graph_of};
 use std::alloc::Global;
 use std::sync::Arc;
 use std::sync::atomic::{AtomicU64, Ordering};

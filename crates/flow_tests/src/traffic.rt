@@ -4,10 +4,10 @@ ghost use Rattle.flow_networks.specs.Graphs.{states_of};
 ghost use Rattle.flow_networks.specs.Networks.{AreOpened};
 
 use crate::driving::{Told, driven_under, told_at_last};
-use crate::sketches::{LONG_CHAIN, MANY_UNITS, SCAN_OF_NUMBERS, graph_of};
 use flow_base::{Printing, Transducer};
 use flow_drives::{Config, Drive, DriveError, Gate, Outcome, drive};
 use flow_networks::Graph;
+use flow_samples::{LONG_CHAIN, MANY_UNITS, SCAN_OF_NUMBERS, graph_of};
 use std::alloc::{AllocError, Global};
 use std::process::Abort;
 use std::sync::Arc;

@@ -6,11 +6,11 @@ ghost use Rattle.flow_networks.specs.Networks.{AreOpened};
 ghost use Rattle.flow_meetings.specs.SharedNetworks.{SharedNetwork};
 ghost use Rattle.flow_drives.specs.Dealings.{network_under};
 
-use crate::sketches::{SUM_OF_FIVE, graph_of};
 use flow_base::Transducer;
 use flow_drives::{Config, Drive, NoGate, deal_rings, epoch};
 use flow_meetings::are_fed;
 use flow_networks::Graph;
+use flow_samples::{SUM_OF_FIVE, graph_of};
 use std::alloc::Global;
 use std::process::Abort;
 use std::sync::Arc;

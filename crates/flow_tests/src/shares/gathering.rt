@@ -6,10 +6,10 @@ ghost use Rattle.flow_nodes.specs.StreamNodes.{node_behaviour};
 
 use crate::driving::driven_under;
 use crate::shares::regathering::dealt_and_gathered;
-use crate::sketches::{SUM_OF_FIVE, graph_of};
 use flow_drives::{Config, Drive, Outcome};
 use flow_networks::Graph;
 use flow_nodes::StreamNode;
+use flow_samples::{SUM_OF_FIVE, graph_of};
 use std::alloc::Global;
 use std::process::Abort;
 use std::test::Fail;

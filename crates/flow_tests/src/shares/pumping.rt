@@ -3,10 +3,10 @@
 ghost use Rattle.flow_meetings.specs.SharedNetworks.{AreFed};
 ghost use Rattle.flow_drives.specs.Configs.{IsLawful};
 
-use crate::sketches::{MANY_UNITS, SUM_OF_FIVE, graph_of};
 use flow_base::Transducer;
 use flow_drives::{Config, Drive, NoGate, Share, deal, deal_rings, pump};
 use flow_messages::Ends;
+use flow_samples::{MANY_UNITS, SUM_OF_FIVE, graph_of};
 use kahn::Want;
 use std::alloc::{AllocError, Global};
 use std::test::Fail;

@@ -1,0 +1,5 @@
+use Rattle.flow_samples.specs.Joined.{AreJoined}
+use Rattle.flow_node_tests.proofs.block_steps.first_wrong.Given as goal
+
+abbrev pub invariant-loop-number : goal.invariant-loop-number
+invariant-loop-number g l = AreJoined g.E.Meeting.joins l.owners l.ends

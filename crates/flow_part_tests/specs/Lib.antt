@@ -1,0 +1,2 @@
+pub mod NoEnds
+pub mod Ints

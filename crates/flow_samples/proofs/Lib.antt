@@ -1,0 +1,2 @@
+pub mod BlocksOfKind
+pub mod Taking

@@ -1,3 +1,0 @@
-pub mod Bare
-pub mod BlocksOfKind
-pub mod Taking

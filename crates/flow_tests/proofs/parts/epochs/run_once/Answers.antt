@@ -1,7 +1,0 @@
-use Rattle.flow_lanes.proofs.Sends.{rings_send}
-use denote.Param.Send.{sendable}
-use Rattle.std.proofs.Crossing.{crosses}
-use Rattle.flow_tests.proofs.parts.epochs.run_once.Goals as goal
-
-pub run_all-requires-send-E : goal.run_all-requires-send-E
-run_all-requires-send-E g c κs within = search (rings_send, crosses, sendable) depth 60 fits 20000

@@ -1,4 +1,0 @@
-use Rattle.flow_tests.proofs.parts.opening.deal_and_gather.Given as goal
-
-abbrev pub ghost-gather_graph : goal.ghost-gather_graph
-ghost-gather_graph g a = g.network

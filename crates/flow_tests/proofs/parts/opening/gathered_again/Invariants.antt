@@ -1,5 +1,0 @@
-use Rattle.flow_meetings.specs.SharedNetworks.{shared_network}
-use Rattle.flow_tests.proofs.parts.opening.gathered_again.Given as goal
-
-abbrev pub ghost-deal_and_gather : goal.ghost-deal_and_gather
-ghost-deal_and_gather a = shared_network a.graph a.share.now a.capacity

@@ -1,4 +1,0 @@
-pub mod NoEnds
-pub mod Joined
-pub mod Ints
-pub mod Taking
