@@ -45,7 +45,7 @@ def of_sources():
 def places():
     """The places of each name, by crates, of the crates on which others stand."""
     listed = re.findall(r"(?m)^([a-z][^:\n]*):(.*)", (ROOT / "crates.txt").read_text(encoding="utf-8"))
-    below, found = {word for crate, others in listed if "tests_may" not in crate for word in others.split()}, {}
+    below, found = {word for crate, others in listed if not crate.split()[0].endswith("_tests") for word in others.split()}, {}
     for name, crate, place in (*of_specs(), *of_sources()):
         if crate in below:
             found.setdefault(name, {}).setdefault(crate, []).append(os.path.relpath(place, ROOT))

@@ -4,7 +4,7 @@ Most of them meet their contracts: none can say that threads run side by side, o
 a file crates/CRATE/planted/NAME.edit, written as those of wrong/ are (docs/TESTS.md), with one more line, which names the test
 that has to fail:
 
-    fails: snesl_tests threads::threads_run_side_by_side
+    fails: snesl_run_tests threads::threads_run_side_by_side
 
 First a copy of the tree is tried as it stands, by these tests alone: each has to pass. Then each body is planted in the copy, and
 its test has to fail. `rt try --test` builds the tests, with no proof: a processor minute or so for each body, and for each crate

@@ -85,8 +85,7 @@ SNESL, LEVUTTAR, TOOL_RUNS = (("snesl", False), ("levuttar", False), ("tool_runs
 SOURCES_OF_WORDS = ["crates/snesl_lexer/src/**/*", "crates/snesl_expressions/src/**/*"]
 EXAMPLES = ["README.md", "docs/*.md", "examples/**/*", "docs/help/*", "editors/levuttar.bash"]
 PARTS = [
-    Part("tests of snesl_tests", [("snesl_tests", True)], [], tests),
-    Part("tests of flow_tests", [("flow_tests", True)], [], tests),
+    *(Part(f"tests of {it.name}", [(it.name, True)], [], tests) for it in sorted(CRATES.glob("*_tests"))),
     Part("stored run of snesl", [SNESL], ["crates/snesl/std*"], stored_run),
     Part("stored run of levuttar", [LEVUTTAR], ["crates/levuttar/std*", "crates/levuttar/args"], stored_run),
     Part("tables", [TOOL_RUNS], ["crates/tool_runs/*", "crates/tool_runs/data/*"], stored_run),
