@@ -36,9 +36,9 @@ IsOut (MessagesTo w) = ⊤
 IsOut (ScalarsTo w) = many_messages w.gathered.items ≡ []
 
 -- all that was taken is told, as far as there is room to tell it and its count is known
-abbrev pub IsTold : LaneReader → Type 0
-IsTold (MessagesFrom r) = ⊤
-IsTold (ScalarsFrom p) = HasTold p
+abbrev pub IsAllTold : LaneReader → Type 0
+IsAllTold (MessagesFrom r) = ⊤
+IsAllTold (ScalarsFrom p) = HasTold p
 
 -- the kind of the items that this writer may put, or none where each may be put
 abbrev pub kind_of : LaneWriter → Option Kind

@@ -9,7 +9,7 @@ use Rattle.flow_lanes.specs.declared.ends.LaneReader.{LaneReader}
 use Rattle.flow_rings.specs.declared.ring.Held.{Held}
 use Rattle.flow_lanes.specs.declared.rings.Rings.{Rings}
 use Rattle.flow_messages.specs.declared.message.Kind.{Kind}
-use Rattle.flow_lanes.specs.Lane.{kind_of, sent, received, certain_room, certain_held, edge_capacity, IsOut, IsTold, SameWriter, SameReader, IsLane}
+use Rattle.flow_lanes.specs.Lane.{kind_of, sent, received, certain_room, certain_held, edge_capacity, IsOut, IsAllTold, SameWriter, SameReader, IsLane}
 
 -- what was put, where the writer is there
 abbrev pub sent_of : Option LaneWriter → List Signal
@@ -44,7 +44,7 @@ OutOf (Some w) = IsOut w
 -- all that was taken there is told
 abbrev pub ToldAt : Option LaneReader → Type 0
 ToldAt None = ⊤
-ToldAt (Some r) = IsTold r
+ToldAt (Some r) = IsAllTold r
 
 -- what was taken, where the reader is there
 abbrev pub received_of : Option LaneReader → List Signal

@@ -6,7 +6,7 @@ ghost use Rattle.flow_messages.specs.Contents.{unit_messages, flag_messages, int
 ghost use Rattle.flow_messages.specs.Flats.{scalar_first};
 ghost use Rattle.flow_messages.specs.Kinds.{FitsEdge};
 ghost use Rattle.flow_messages.specs.Signals.{signals, signal_of, ended};
-ghost use Rattle.flow_lanes.specs.Lane.{received, certain_held, reader_kind, IsTold, KeepsCertain, ReaderLooked, SameReader, TakesNone, TakesOne};
+ghost use Rattle.flow_lanes.specs.Lane.{received, certain_held, reader_kind, IsAllTold, KeepsCertain, ReaderLooked, SameReader, TakesNone, TakesOne};
 
 use crate::ends::LaneReader;
 use crate::taking::take_each;
@@ -83,7 +83,7 @@ impl LaneReader {
         ensures same { SameReader self.old self.new }
         ensures taken { received self.new ≡ received self.old }
         ensures held { certain_held self.new ≡ certain_held self.old }
-        ensures told { IsTold self.new }
+        ensures told { IsAllTold self.new }
     {
         match self {
             LaneReader::Messages(_) => {}

@@ -32,6 +32,6 @@ AddsPrinted at context expr inputs control steps later result =
     Adds wires_of steps later (printed steps at context (tree_of expr) (bindings_of inputs) control) result
 
 -- the sources of inputs were added, which write nothing yet, and their streams beside the names are the result
-abbrev pub AddsSources : ℕ → List InputDeclaration → Steps → Steps → Result (Vec Binding Global) Refusal → Type 0
-AddsSources at inputs steps later result =
+abbrev pub AddsInputSources : ℕ → List InputDeclaration → Steps → Steps → Result (Vec Binding Global) Refusal → Type 0
+AddsInputSources at inputs steps later result =
     Adds (λ (bindings : Vec Binding Global). bindings_of bindings.items) steps later (inputs_sourced at unset_cells inputs (next_in steps)) result

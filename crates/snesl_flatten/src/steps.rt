@@ -7,7 +7,7 @@ ghost use Rattle.snesl_types.specs.Typed.{typed_dialect};
 ghost use Rattle.flow_networks.specs.Limits.{most_nodes};
 ghost use Rattle.snesl_steps.specs.Views.{dialect_of_steps, next_in, wires_of};
 ghost use Rattle.snesl_steps.specs.Added.{Adds};
-ghost use Rattle.snesl_flatten.specs.Behind.{AddsPrinted, AddsSources};
+ghost use Rattle.snesl_flatten.specs.Behind.{AddsPrinted, AddsInputSources};
 ghost use Rattle.snesl_flatten.specs.Unset.{unset_plan, unset_steps, AreUnsetSteps};
 
 use crate::offsets::first_offset;
@@ -58,7 +58,7 @@ fn bind_inputs<'a>(
     at: usize,
     declarations: &'a [(Vec<u8>, Ty)],
 ) -> Result<Vec<Binding<'a>>, Refusal>
-    ensures { AddsSources at (declared declarations.now) steps.old steps.new result }
+    ensures { AddsInputSources at (declared declarations.now) steps.old steps.new result }
 {
     let mut bindings = Vec::new(steps.alloc());
     for declaration in declarations {
