@@ -51,7 +51,9 @@ fn passage(driven: Driven, kind: Kind) -> u64
         (Driven::Alone, Kind::Bool) => 140,
         (Driven::Alone, Kind::Int) => 280,
         (Driven::Alone, Kind::Vec) => 1_500,
-        (Driven::OverFewRings, Kind::Unit | Kind::Bool | Kind::Int) => 550,
+        (Driven::OverFewRings, Kind::Unit) => 700,
+        (Driven::OverFewRings, Kind::Bool) => 1_000,
+        (Driven::OverFewRings, Kind::Int) => 550,
         (Driven::OverManyRings, Kind::Unit | Kind::Bool | Kind::Int) => 1_500,
         (Driven::OverFewRings | Driven::OverManyRings, Kind::Vec) => 5_000,
     }
@@ -75,7 +77,7 @@ pub fn crossing_price(kind: Kind) -> u64
     ensures { 0 < result }
 {
     match kind {
-        Kind::Unit | Kind::Bool | Kind::Int => 600,
+        Kind::Unit | Kind::Bool | Kind::Int => 400,
         Kind::Vec => 1_000,
     }
 }
