@@ -18,6 +18,7 @@ pub use Rattle.flow_networks.specs.Networks
 pub use Rattle.flow_networks.specs.Schedules
 pub use Rattle.flow_networks.specs.Settling
 pub use Rattle.flow_networks.specs.Shapes
+pub use Rattle.flow_networks.specs.Standing
 pub use Rattle.flow_networks.specs.Steps
 pub use Rattle.flow_networks.specs.Turns
 pub use Rattle.flow_networks.specs.Visits

@@ -1,11 +1,9 @@
 // Single steps of the nodes of a graph.
 ghost use Rattle.std.specs.Prelude.{◌<◌, ◌≤◌, length};
-ghost use Rattle.flow_networks.specs.Graphs.{states_of, edges_of};
-ghost use Rattle.flow_networks.specs.Networks.{HasEnds, EdgesTake};
-ghost use Rattle.flow_networks.specs.Blocks.{MovesBlock};
+ghost use Rattle.flow_networks.specs.Graphs.{states_of};
+ghost use Rattle.flow_networks.specs.Standing.{NodeHasEnds, NodeEdgesTake};
 ghost use Rattle.flow_networks.specs.Shapes.{KeepsShape};
-ghost use Rattle.flow_networks.specs.Turns.{TakesTurn};
-ghost use Rattle.flow_nodes.specs.StreamNodes.{node_behaviour};
+ghost use Rattle.flow_networks.specs.Turns.{TakesTurn, MovesInBlock};
 
 use crate::graphs::Graph;
 use flow_messages::Ends;
@@ -26,10 +24,8 @@ pub fn step_once<E: Ends>(
     node: usize,
 ) -> Result<Stepped, AllocError>
     requires inside { node < length (states_of graph.old) }
-    requires ends { HasEnds node_behaviour (states_of graph.old) (edges_of graph.old) node
-        (E.view ends.old) }
-    requires kinds { EdgesTake node_behaviour (states_of graph.old) (edges_of graph.old) node
-        (E.view ends.old) }
+    requires ends { NodeHasEnds graph.old node (E.view ends.old) }
+    requires kinds { NodeEdgesTake graph.old node (E.view ends.old) }
     ensures shape { KeepsShape E.same E.view graph.old ends.old graph.new ends.new }
     ensures turn { TakesTurn E.view node graph.old ends.old graph.new ends.new result }
 {
@@ -45,14 +41,11 @@ pub fn step_once<E: Ends>(
 /// The answer 0 does not say that the node cannot step: a single step moves what a block does not, as a vector.
 pub fn step_block<E: Ends>(graph: &mut Graph, ends: &mut E, node: usize, most: usize) -> usize
     requires inside { node < length (states_of graph.old) }
-    requires ends { HasEnds node_behaviour (states_of graph.old) (edges_of graph.old) node
-        (E.view ends.old) }
-    requires kinds { EdgesTake node_behaviour (states_of graph.old) (edges_of graph.old) node
-        (E.view ends.old) }
+    requires ends { NodeHasEnds graph.old node (E.view ends.old) }
+    requires kinds { NodeEdgesTake graph.old node (E.view ends.old) }
     ensures shape { KeepsShape E.same E.view graph.old ends.old graph.new ends.new }
     ensures most { result ≤ most }
-    ensures moves { MovesBlock node_behaviour node (edges_of graph.old) (states_of graph.old)
-        (E.view ends.old) (states_of graph.new) (E.view ends.new) result }
+    ensures moves { MovesInBlock E.view node graph.old ends.old graph.new ends.new result }
 {
     flow_networks::step_block(graph, ends, node, most)
 }
