@@ -6,9 +6,9 @@ use Rattle.std.proofs.Math.ListN.{drop_of_length-le}
 use Rattle.std.proofs.Math.Seq.{drop-cons}
 use Rattle.snesl_data.specs.declared.dialect.Dialect.{Dialect}
 use Rattle.flow_networks.specs.Limits.{most_edges}
-use Rattle.flow_plans.specs.declared.operation.Step.{Step as StepData}
-use Rattle.flow_plans.specs.Layouts.{times, uses}
-use Rattle.flow_plans.specs.Views.{step_of, steps_of}
+use Rattle.flow_nodes.specs.declared.plans.operation.Step.{Step as StepData}
+use Rattle.flow_nodes.specs.plans.Layouts.{times, uses}
+use Rattle.flow_nodes.specs.plans.Views.{step_of, steps_of}
 use Rattle.flow_assembly.specs.declared.counted_steps.CountedSteps.{CountedSteps}
 use Rattle.flow_assembly.specs.Ready.{plan_of, IsTooBig}
 use Rattle.flow_assembly.proofs.Limiting.{too_many_uses}

@@ -11,10 +11,10 @@ use Rattle.flow_networks.specs.declared.edge.Edge.{Edge}
 use Rattle.flow_networks.specs.Limits.{most_nodes, most_edges}
 use Rattle.flow_networks.specs.Networks.{AreOpened, IsJoined, state_at}
 use Rattle.flow_nodes.specs.StreamNodes.{NodeKind, member, node_behaviour}
-use Rattle.flow_plans.specs.Plans.{Step}
-use Rattle.flow_plans.specs.Ports.{kinds_read}
-use Rattle.flow_plans.specs.Views.{step_of}
-use Rattle.flow_plans.specs.Layouts.{Placed, uses, layout, layout_from, places, places_from, edges_needed, edges_between, Performs, IsNetworkOfPlan}
+use Rattle.flow_nodes.specs.plans.Plans.{Step}
+use Rattle.flow_nodes.specs.plans.Ports.{kinds_read}
+use Rattle.flow_nodes.specs.plans.Views.{step_of}
+use Rattle.flow_nodes.specs.plans.Layouts.{Placed, uses, layout, layout_from, places, places_from, edges_needed, edges_between, Performs, IsNetworkOfPlan}
 use Rattle.flow_assembly.specs.declared.network.Port.{Port}
 use Rattle.flow_assembly.specs.Openings.{AllOpen, OpeningsPerform}
 use Rattle.flow_assembly.specs.declared.counted_steps.CountedSteps.{CountedSteps}

@@ -4,9 +4,9 @@ use Rattle.std.specs.List.{slice_get}
 use Rattle.std.specs.Result.{IsErrAnd}
 use Rattle.std.proofs.Common.{sym, ◌∙◌, ap, subst, arith}
 use Rattle.flow_messages.specs.declared.message.Kind.{Kind}
-use Rattle.flow_rows.specs.Lists.{bind, each}
-use Rattle.flow_plans.specs.Ports.{kinds_read, kinds_written}
-use Rattle.flow_plans.specs.Layouts.{Placed}
+use Rattle.flow_nodes.specs.functions.Lists.{bind, each}
+use Rattle.flow_nodes.specs.plans.Ports.{kinds_read, kinds_written}
+use Rattle.flow_nodes.specs.plans.Layouts.{Placed}
 use Rattle.flow_assembly.specs.Openings.{IsUsable}
 
 -- Of streams of these kinds each port of the transducer has one of its kind.

@@ -7,14 +7,14 @@ use Rattle.std.proofs.lemmas.List.{length_push, length-set, get_or_append_left, 
 use Rattle.std.proofs.lemmas.Option.{slice_get_within}
 use Rattle.std.proofs.Math.Seq.{get_or-append_seam}
 use Rattle.flow_messages.specs.declared.message.Kind.{Kind}
-use Rattle.flow_rows.specs.Lists.{bind}
+use Rattle.flow_nodes.specs.functions.Lists.{bind}
 use Rattle.flow_messages.specs.declared.message.Kind.TheVariants.{Unit as UnitKind}
 use Rattle.flow_networks.specs.declared.edge.Edge.{Edge}
 use Rattle.flow_networks.specs.Edges.{edge_at, out_edge, IsTakenIn, IsTakenOut}
 use Rattle.flow_networks.specs.Networks.{state_at, outputs_at, inputs_at, kind_from, kind_to, MayJoin, IsJoined}
 use Rattle.flow_nodes.specs.StreamNodes.{NodeKind, member, node_behaviour}
-use Rattle.flow_plans.specs.Ports.{kinds_read, kinds_written}
-use Rattle.flow_plans.specs.Layouts.{Placed, outputs_from, stream_from, stream_to, Performs}
+use Rattle.flow_nodes.specs.plans.Ports.{kinds_read, kinds_written}
+use Rattle.flow_nodes.specs.plans.Layouts.{Placed, outputs_from, stream_from, stream_to, Performs}
 use Rattle.flow_assembly.specs.declared.network.Port.{Port}
 use Rattle.flow_assembly.specs.Openings.{IsOpening, OpeningsPerform}
 use Rattle.flow_assembly.specs.Joined.{supplier, edge_from, port_after, at_stream, run_of, ComesBefore, IsJoinedTo}

@@ -4,14 +4,14 @@ use Rattle.std.specs.List.{slice_get}
 use Rattle.std.proofs.Common.{◌∙◌, ap, subst, arith, length-append}
 use Rattle.snesl_data.specs.declared.dialect.Dialect.{Dialect}
 use Rattle.flow_messages.specs.declared.message.Kind.{Kind}
-use Rattle.flow_rows.specs.Lists.{bind, each}
-use Rattle.flow_plans.specs.declared.operation.Operation.{Operation as OperationData}
-use Rattle.flow_plans.specs.declared.operation.Operation.TheVariants as held
-use Rattle.flow_plans.specs.declared.operation.Step.{Step as StepData}
-use Rattle.flow_plans.specs.Plans.{Step}
-use Rattle.flow_plans.specs.Ports.{kinds_read, kinds_written, AreWired, kinds_after}
-use Rattle.flow_plans.specs.Views.{operation_of, steps_of}
-use Rattle.flow_plans.specs.Layouts.{Placed, uses, places_after, numbered, all_after, layout_from}
+use Rattle.flow_nodes.specs.functions.Lists.{bind, each}
+use Rattle.flow_nodes.specs.declared.plans.operation.Operation.{Operation as OperationData}
+use Rattle.flow_nodes.specs.declared.plans.operation.Operation.TheVariants as held
+use Rattle.flow_nodes.specs.declared.plans.operation.Step.{Step as StepData}
+use Rattle.flow_nodes.specs.plans.Plans.{Step}
+use Rattle.flow_nodes.specs.plans.Ports.{kinds_read, kinds_written, AreWired, kinds_after}
+use Rattle.flow_nodes.specs.plans.Views.{operation_of, steps_of}
+use Rattle.flow_nodes.specs.plans.Layouts.{Placed, uses, places_after, numbered, all_after, layout_from}
 use Rattle.flow_assembly.specs.Openings.{IsUsable}
 use Rattle.flow_assembly.proofs.Fitting.{FitsKinds, bound, changed, some_same}
 

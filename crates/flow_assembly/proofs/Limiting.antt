@@ -8,9 +8,9 @@ use Rattle.std.proofs.lemmas.Option.{slice_get_within}
 use Rattle.flow_networks.specs.declared.edge.Edge.{Edge}
 use Rattle.flow_networks.specs.Limits.{most_nodes, most_edges}
 use Rattle.flow_nodes.specs.StreamNodes.{NodeKind, member}
-use Rattle.flow_plans.specs.Plans.{Step}
-use Rattle.flow_plans.specs.Ports.{kinds_written}
-use Rattle.flow_plans.specs.Layouts.{Placed, times, uses, layout, layout_from, all_after, edges_needed}
+use Rattle.flow_nodes.specs.plans.Plans.{Step}
+use Rattle.flow_nodes.specs.plans.Ports.{kinds_written}
+use Rattle.flow_nodes.specs.plans.Layouts.{Placed, times, uses, layout, layout_from, all_after, edges_needed}
 use Rattle.flow_assembly.specs.Ready.{IsTooBig, KeepsLimits}
 use Rattle.flow_assembly.proofs.Fitting.{some_same}
 

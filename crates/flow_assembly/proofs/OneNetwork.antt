@@ -10,8 +10,8 @@ use Rattle.flow_scalar.specs.Streams.{Items}
 use Rattle.flow_scalar.specs.SourceBehaviour.{source_opening}
 use Rattle.flow_networks.specs.Networks.{state_at}
 use Rattle.flow_nodes.specs.StreamNodes.{NodeKind, member, node_behaviour, a_source}
-use Rattle.flow_plans.specs.Plans.{Operation, source}
-use Rattle.flow_plans.specs.Layouts.{layout}
+use Rattle.flow_nodes.specs.plans.Plans.{Operation, source}
+use Rattle.flow_nodes.specs.plans.Layouts.{layout}
 use Rattle.flow_assembly.specs.Openings.{IsOpening}
 use Rattle.flow_assembly.specs.OneNetwork.{PlansHaveOneNetwork}
 use Rattle.flow_assembly.proofs.Fitting.{stands_at}

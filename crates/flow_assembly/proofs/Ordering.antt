@@ -7,8 +7,8 @@ use Rattle.std.proofs.lemmas.Bool.Decides.{nat_tests}
 use Rattle.std.proofs.lemmas.Option.{slice_get_within}
 use Rattle.std.proofs.Math.ListN.{drop_of_length-le}
 use Rattle.flow_networks.specs.declared.edge.Edge.{Edge}
-use Rattle.flow_rows.specs.Lists.{bind}
-use Rattle.flow_plans.specs.Layouts.{Placed, StreamPort, ports_from, inputs_from, outputs_from, first_at, without_first, edge_between, edges_from, edges_between, stream_from, stream_to}
+use Rattle.flow_nodes.specs.functions.Lists.{bind}
+use Rattle.flow_nodes.specs.plans.Layouts.{Placed, StreamPort, ports_from, inputs_from, outputs_from, first_at, without_first, edge_between, edges_from, edges_between, stream_from, stream_to}
 use Rattle.flow_assembly.specs.declared.network.Port.{Port}
 use Rattle.flow_assembly.specs.Joined.{supplier, edge_from, port_after, at_stream, run_of, inputs_after, IsInOrder}
 use Rattle.flow_assembly.proofs.Fitting.{bound, stands_at, some_same}

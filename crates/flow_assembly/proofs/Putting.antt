@@ -10,10 +10,10 @@ use Rattle.flow_networks.specs.declared.edge.Edge.{Edge}
 use Rattle.flow_networks.specs.Limits.{most_nodes, most_edges}
 use Rattle.flow_networks.specs.Networks.{MayJoin}
 use Rattle.flow_nodes.specs.StreamNodes.{NodeKind, member, node_behaviour}
-use Rattle.flow_rows.specs.Lists.{bind}
-use Rattle.flow_plans.specs.Plans.{Step, fork, sink}
-use Rattle.flow_plans.specs.Ports.{AreWired, kinds_after}
-use Rattle.flow_plans.specs.Layouts.{Placed, uses, places_after, layout, stream_from, stream_to}
+use Rattle.flow_nodes.specs.functions.Lists.{bind}
+use Rattle.flow_nodes.specs.plans.Plans.{Step, fork, sink}
+use Rattle.flow_nodes.specs.plans.Ports.{AreWired, kinds_after}
+use Rattle.flow_nodes.specs.plans.Layouts.{Placed, uses, places_after, layout, stream_from, stream_to}
 use Rattle.flow_assembly.specs.declared.network.Port.{Port}
 use Rattle.flow_assembly.specs.Openings.{IsOpening, OpeningsPerform}
 use Rattle.flow_assembly.specs.Joined.{supplier, edge_from, port_after, IsJoinedTo}

@@ -11,8 +11,8 @@ use Rattle.flow_networks.specs.declared.edge.Edge.{Edge}
 use Rattle.flow_networks.specs.Limits.{most_edges}
 use Rattle.flow_networks.specs.Networks.{MayJoin}
 use Rattle.flow_nodes.specs.StreamNodes.{NodeKind, member, node_behaviour}
-use Rattle.flow_plans.specs.Plans.{Step}
-use Rattle.flow_plans.specs.Layouts.{Placed, times, uses, places_after, all_after, layout, stream_to}
+use Rattle.flow_nodes.specs.plans.Plans.{Step}
+use Rattle.flow_nodes.specs.plans.Layouts.{Placed, times, uses, places_after, all_after, layout, stream_to}
 use Rattle.flow_assembly.specs.declared.network.Port.{Port}
 use Rattle.flow_assembly.specs.Openings.{OpeningsPerform}
 use Rattle.flow_assembly.specs.Joined.{supplier, edge_from, port_after, IsJoinedTo}

@@ -12,10 +12,10 @@ use Rattle.flow_messages.specs.declared.message.Kind.{Kind}
 use Rattle.flow_networks.specs.declared.edge.Edge.{Edge}
 use Rattle.flow_networks.specs.Limits.{most_nodes}
 use Rattle.flow_nodes.specs.StreamNodes.{NodeKind, member, node_behaviour}
-use Rattle.flow_rows.specs.Lists.{bind, each}
-use Rattle.flow_plans.specs.Plans.{Step}
-use Rattle.flow_plans.specs.Ports.{kinds_read, kinds_written, AreWired, kinds_after}
-use Rattle.flow_plans.specs.Layouts.{Placed, times, uses, numbered, all_after, layout, layout_from, places_from, stream_from, stream_to, Performs}
+use Rattle.flow_nodes.specs.functions.Lists.{bind, each}
+use Rattle.flow_nodes.specs.plans.Plans.{Step}
+use Rattle.flow_nodes.specs.plans.Ports.{kinds_read, kinds_written, AreWired, kinds_after}
+use Rattle.flow_nodes.specs.plans.Layouts.{Placed, times, uses, numbered, all_after, layout, layout_from, places_from, stream_from, stream_to, Performs}
 use Rattle.flow_assembly.specs.declared.network.Port.{Port}
 use Rattle.flow_assembly.specs.Openings.{IsOpening}
 use Rattle.flow_assembly.specs.Joined.{supplier, IsJoinedTo}

@@ -4,8 +4,8 @@ use Rattle.flow_base.specs.declared.transducer.Transducer.{Ghosts}
 use Rattle.flow_networks.specs.declared.edge.Edge.{Edge}
 use Rattle.flow_networks.specs.declared.graph.Graph.{Graph}
 use Rattle.flow_networks.specs.Graphs.{states_of, edges_of}
-use Rattle.flow_plans.specs.Plans.{Step}
-use Rattle.flow_plans.specs.Layouts.{layout, edges_between, IsNetworkOfPlan}
+use Rattle.flow_nodes.specs.plans.Plans.{Step}
+use Rattle.flow_nodes.specs.plans.Layouts.{layout, edges_between, IsNetworkOfPlan}
 
 -- this holds of the states of the graph's nodes and of its edges
 abbrev pub HoldsOfGraph : {X : Type 0} {t : Ghosts X} → (List t.State → List Edge → Type 0) → Graph X t → Type 0

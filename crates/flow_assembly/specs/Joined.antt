@@ -5,7 +5,7 @@ use Rattle.flow_networks.specs.declared.edge.Edge.{Edge}
 use Rattle.flow_networks.specs.Edges.{edge_at, out_edge, IsTakenIn, IsTakenOut}
 use Rattle.flow_networks.specs.Networks.{state_at}
 use Rattle.flow_nodes.specs.StreamNodes.{NodeKind, member, node_behaviour}
-use Rattle.flow_plans.specs.Layouts.{Placed, StreamPort, ports_from, inputs_from, outputs_from, edges_from, edges_between, stream_from, stream_to}
+use Rattle.flow_nodes.specs.plans.Layouts.{Placed, StreamPort, ports_from, inputs_from, outputs_from, edges_from, edges_between, stream_from, stream_to}
 use Rattle.flow_assembly.specs.declared.network.Port.{Port}
 use Rattle.flow_assembly.specs.Openings.{IsOpening}
 

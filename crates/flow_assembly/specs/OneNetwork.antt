@@ -2,8 +2,8 @@
 use Rattle.std.specs.Prelude.{◌≡◌, List}
 use Rattle.flow_networks.specs.declared.edge.Edge.{Edge}
 use Rattle.flow_nodes.specs.StreamNodes.{NodeKind, member, node_behaviour}
-use Rattle.flow_plans.specs.Plans.{Step}
-use Rattle.flow_plans.specs.Layouts.{layout, FollowsLayout}
+use Rattle.flow_nodes.specs.plans.Plans.{Step}
+use Rattle.flow_nodes.specs.plans.Layouts.{layout, FollowsLayout}
 use Rattle.flow_assembly.specs.Openings.{AllOpen}
 
 -- These are the nodes and edges of the plan's network, each node in the state in which it opens.

@@ -34,10 +34,10 @@ use Rattle.flow_nodes.specs.StreamNodes.{NodeKind, member, node_behaviour, a_sou
 use Rattle.flow_nodes.specs.StreamNodes.{a_scan_add, a_reduce, a_length, a_flag_of_bool, a_the_check, a_same_flags, a_concat_flags, a_part_flags}
 use Rattle.flow_nodes.specs.StreamNodes.{an_append_flags, a_dist, a_pack, a_pack_groups, an_interleave, an_interleave_groups, a_print, a_tab}
 use Rattle.flow_nodes.specs.StreamNodes.{a_seq_of_vector, an_index}
-use Rattle.flow_plans.specs.Plans.{Operation, Step, source, const, unary, binary, iota, units_of, scan_add, reduce, length_of, dist, pack, pack_groups}
-use Rattle.flow_plans.specs.Plans.{flag_of_bool, same_flags, concat_flags, part_flags, the_check, append_flags, interleave, interleave_groups, print}
-use Rattle.flow_plans.specs.Plans.{tab, seq_of, index, fork, sink}
-use Rattle.flow_plans.specs.Layouts.{Placed, Performs, layout}
+use Rattle.flow_nodes.specs.plans.Plans.{Operation, Step, source, const, unary, binary, iota, units_of, scan_add, reduce, length_of, dist, pack, pack_groups}
+use Rattle.flow_nodes.specs.plans.Plans.{flag_of_bool, same_flags, concat_flags, part_flags, the_check, append_flags, interleave, interleave_groups, print}
+use Rattle.flow_nodes.specs.plans.Plans.{tab, seq_of, index, fork, sink}
+use Rattle.flow_nodes.specs.plans.Layouts.{Placed, Performs, layout}
 
 -- The state is the one in which the transducer of the operation opens whose faults are at this offset: that of its kind, with
 -- its parameters, before its first instance.

@@ -6,8 +6,8 @@ use Rattle.flow_networks.specs.Limits.{most_nodes, most_edges}
 use Rattle.flow_networks.specs.Networks.{MayJoin}
 use Rattle.flow_nodes.specs.StreamNodes.{node_behaviour, state_of}
 use Rattle.flow_nodes.specs.declared.stream_node.StreamNode.{StreamNode}
-use Rattle.flow_plans.specs.Plans.{Step}
-use Rattle.flow_plans.specs.Layouts.{Placed, times, uses, places_after, all_after, layout}
+use Rattle.flow_nodes.specs.plans.Plans.{Step}
+use Rattle.flow_nodes.specs.plans.Layouts.{Placed, times, uses, places_after, all_after, layout}
 use Rattle.flow_assembly.specs.declared.counted_steps.CountedSteps.{CountedSteps}
 use Rattle.flow_assembly.specs.declared.network.Network.{Network}
 use Rattle.flow_assembly.specs.Joined.{supplier, edge_from, port_after, IsJoinedTo}

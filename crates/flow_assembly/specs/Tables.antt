@@ -1,7 +1,7 @@
 -- How often each stream is read, as a table says it.
 use Rattle.std.specs.Prelude.{◌≡◌, ℕ, ◌+◌, ◌<◌, List, slice_index_or}
 use Rattle.flow_networks.specs.Limits.{most_edges}
-use Rattle.flow_plans.specs.Layouts.{times}
+use Rattle.flow_nodes.specs.plans.Layouts.{times}
 
 -- how often the stream is read; one that is not in the table is not read
 abbrev pub uses_in : List ℕ → ℕ → ℕ

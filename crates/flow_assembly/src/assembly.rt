@@ -5,9 +5,9 @@ ghost use Rattle.snesl_data.specs.declared.refusal.Refusal.TheVariants.{TooBig, 
 ghost use Rattle.flow_networks.specs.Graphs.{states_of, edges_of};
 ghost use Rattle.flow_networks.specs.Networks.{AreOpened};
 ghost use Rattle.flow_nodes.specs.StreamNodes.{node_behaviour};
-ghost use Rattle.flow_plans.specs.Layouts.{places};
-ghost use Rattle.flow_plans.specs.Ports.{AreWired};
-ghost use Rattle.flow_plans.specs.Views.{steps_of};
+ghost use Rattle.flow_nodes.specs.plans.Layouts.{places};
+ghost use Rattle.flow_nodes.specs.plans.Ports.{AreWired};
+ghost use Rattle.flow_nodes.specs.plans.Views.{steps_of};
 ghost use Rattle.flow_assembly.specs.Openings.{OpensPlan};
 ghost use Rattle.flow_assembly.specs.GraphsOfPlans.{IsGraphOfPlan, edges_of_plan};
 ghost use Rattle.flow_assembly.specs.Partly.{HasSteps};
@@ -18,7 +18,7 @@ use crate::laws::openings_perform;
 use crate::network::Network;
 use flow_networks::Graph;
 use flow_nodes::StreamNode;
-use flow_plans::Step;
+use flow_nodes::plans::Step;
 use snesl_data::{Dialect, Refusal};
 use std::alloc::Global;
 

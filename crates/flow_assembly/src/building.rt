@@ -4,8 +4,8 @@ ghost use Rattle.std.specs.Prelude.{◌≡◌, ℕ, ◌+◌, ◌<◌, ◌≤◌,
 ghost use Rattle.std.specs.List.{slice_get};
 ghost use Rattle.snesl_data.specs.declared.refusal.Refusal.TheVariants.{TooBig, NoMemory};
 ghost use Rattle.flow_networks.specs.Graphs.{states_so_far};
-ghost use Rattle.flow_plans.specs.Layouts.{layout, stream_to};
-ghost use Rattle.flow_plans.specs.Ports.{AreWired};
+ghost use Rattle.flow_nodes.specs.plans.Layouts.{layout, stream_to};
+ghost use Rattle.flow_nodes.specs.plans.Ports.{AreWired};
 ghost use Rattle.flow_assembly.specs.Partly.{HasSteps, HasPutBefore, OwesEdges, HasAllUsesLeft, IsToRead, HasReadTo};
 ghost use Rattle.flow_assembly.specs.Partly.{node_after, nodes_after, AreNext, GrowsBy};
 ghost use Rattle.flow_assembly.specs.Ready.{plan_of, IsCounted, IsTooBig};

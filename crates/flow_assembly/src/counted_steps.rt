@@ -3,12 +3,12 @@
 ghost use Rattle.std.specs.Prelude.{◌≡◌, ℕ, ◌+◌, ◌<◌, ◌≤◌, ◌⊎◌, length, IfOk, OnOk, IfErr};
 ghost use Rattle.snesl_data.specs.declared.refusal.Refusal.TheVariants.{TooBig, NoMemory};
 ghost use Rattle.flow_networks.specs.Limits.{most_edges};
-ghost use Rattle.flow_plans.specs.Views.{steps_of};
+ghost use Rattle.flow_nodes.specs.plans.Views.{steps_of};
 ghost use Rattle.flow_assembly.specs.Ready.{plan_of, IsCounted, IsTooBig};
 ghost use Rattle.flow_assembly.specs.Tables.{uses_in, CountsReads, CountsTooMany, SameUsesBut};
 
 use flow_networks::MAX_EDGES;
-use flow_plans::Step;
+use flow_nodes::plans::Step;
 use snesl_data::{Dialect, Refusal};
 use std::alloc::{AllocError, Global};
 

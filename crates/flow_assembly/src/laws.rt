@@ -4,7 +4,7 @@
 ghost use Rattle.flow_assembly.specs.OneNetwork.{PlansHaveOneNetwork};
 ghost use Rattle.flow_assembly.specs.Openings.{OpeningsPerform};
 
-use flow_rows::rows_are_functions;
+use flow_nodes::functions::rows_are_functions;
 
 /// A transducer in the state in which that of an operation opens does what the operation says: its ports are of the
 /// operation's kinds, and its row is the operation's function.

@@ -3,15 +3,15 @@
 ghost use Rattle.std.specs.Prelude.{◌≡◌, ◌≤◌, [], IfOk};
 ghost use Rattle.flow_scalar.specs.Streams.{stream_kind, stream_cells};
 ghost use Rattle.flow_nodes.specs.StreamNodes.{state_of};
-ghost use Rattle.flow_plans.specs.Plans.{fork, sink};
-ghost use Rattle.flow_plans.specs.Views.{operation_of};
+ghost use Rattle.flow_nodes.specs.plans.Plans.{fork, sink};
+ghost use Rattle.flow_nodes.specs.plans.Views.{operation_of};
 ghost use Rattle.flow_assembly.specs.Openings.{IsOpening};
 ghost use Rattle.flow_assembly.specs.Ready.{WritesKinds};
 
 use flow_base::{Node, Transducer};
 use flow_messages::Kind;
 use flow_nodes::StreamNode;
-use flow_plans::Operation;
+use flow_nodes::plans::Operation;
 use flow_scalar::workers::{
     Binary, Const, Fork, Iota, Length, Reduce, ScanAdd, Sink, Unary, UnitsOf,
 };

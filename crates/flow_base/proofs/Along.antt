@@ -5,17 +5,17 @@ use mathlib.Core.List.{IsPrefix}
 use Rattle.kahn.specs.declared.want.Want.TheVariants.{Read, Write}
 use Rattle.kahn.specs.Processes.{Reads, Writes, reads, writes}
 use Rattle.kahn.proofs.History.{does_then, reads_append, writes_append}
-use Rattle.flow_messages.specs.Blocks.{unit_signals, flag_signals, int_signals}
+use Rattle.flow_messages.specs.Blocks.{unit_signals, flag_signals, int_signals, item_signals}
 use Rattle.flow_messages.specs.Cells.{Cell}
 use Rattle.flow_messages.specs.Signals.{Signal, carry}
 use Rattle.flow_messages.specs.declared.message.Kind.{Kind}
 use Rattle.flow_messages.specs.declared.message.Kind.TheVariants.{Unit as UnitKind, Bool as BoolKind, Int as IntKind, Vec as VecKind}
 use Rattle.flow_base.specs.Machines.{Machine, ask_of, state_after_read, written_cell, state_after_write}
 use Rattle.flow_base.specs.Nodes.{behaviour_of, node_state, want_for, went_on}
-use Rattle.flow_base.specs.Along.{MovesAlong, RunsAlong, shown_signals, written_signals, written_at}
+use Rattle.flow_base.specs.Along.{MovesAlong, RunsAlong, written_signals, written_at}
 use Rattle.flow_base.specs.declared.node.Phase.TheVariants.{Working}
 use Rattle.flow_base.specs.declared.slices.Moved.{Moved}
-use Rattle.flow_base.specs.declared.slices.Shown.{Shown}
+use Rattle.flow_messages.specs.declared.items.Items.{Items}
 use Rattle.flow_base.specs.declared.slices.Written.{Written}
 use Rattle.flow_base.proofs.Batches.{block_then, length_flags, length_ints, length_units, shown, take_flags, take_ints, take_units}
 
@@ -45,26 +45,26 @@ none_written block made IntKind units flags ints = ap (λ n. int_signals (take n
 none_written block made VecKind units flags ints = refl
 
 -- the first of what is shown, where it is of one kind
-pub units_shown : (s : Shown) (n k : ℕ) → IsPrefix (unit_signals n) (shown_signals s) → k ≤ n → unit_signals k ≡ take k (shown_signals s)
-units_shown s n k seen within = sym (take_units k n within) ∙ sym (shown (unit_signals n) (shown_signals s) k seen (omega (arith, within, length_units n)))
+pub units_shown : (s : Items) (n k : ℕ) → IsPrefix (unit_signals n) (item_signals s) → k ≤ n → unit_signals k ≡ take k (item_signals s)
+units_shown s n k seen within = sym (take_units k n within) ∙ sym (shown (unit_signals n) (item_signals s) k seen (omega (arith, within, length_units n)))
 
-pub flags_shown : (s : Shown) (bs : List Bool) (k : ℕ) → IsPrefix (flag_signals bs) (shown_signals s) → k ≤ length bs → flag_signals (take k bs) ≡ take k (shown_signals s)
-flags_shown s bs k seen within = sym (take_flags k bs) ∙ sym (shown (flag_signals bs) (shown_signals s) k seen (omega (arith, within, length_flags bs)))
+pub flags_shown : (s : Items) (bs : List Bool) (k : ℕ) → IsPrefix (flag_signals bs) (item_signals s) → k ≤ length bs → flag_signals (take k bs) ≡ take k (item_signals s)
+flags_shown s bs k seen within = sym (take_flags k bs) ∙ sym (shown (flag_signals bs) (item_signals s) k seen (omega (arith, within, length_flags bs)))
 
-pub ints_shown : (s : Shown) (ns : List ℤ) (k : ℕ) → IsPrefix (int_signals ns) (shown_signals s) → k ≤ length ns → int_signals (take k ns) ≡ take k (shown_signals s)
-ints_shown s ns k seen within = sym (take_ints k ns) ∙ sym (shown (int_signals ns) (shown_signals s) k seen (omega (arith, within, length_ints ns)))
+pub ints_shown : (s : Items) (ns : List ℤ) (k : ℕ) → IsPrefix (int_signals ns) (item_signals s) → k ≤ length ns → int_signals (take k ns) ≡ take k (item_signals s)
+ints_shown s ns k seen within = sym (take_ints k ns) ∙ sym (shown (int_signals ns) (item_signals s) k seen (omega (arith, within, length_ints ns)))
 
 prefix_longer : (ms c : List Signal) → IsPrefix ms c → length ms ≤ length c
 prefix_longer ms c (more, is) = omega (arith, length-append ms more, ap length is)
 
-pub units_within : (s : Shown) (n : ℕ) → IsPrefix (unit_signals n) (shown_signals s) → n ≤ length (shown_signals s)
-units_within s n seen = omega (arith, prefix_longer (unit_signals n) (shown_signals s) seen, length_units n)
+pub units_within : (s : Items) (n : ℕ) → IsPrefix (unit_signals n) (item_signals s) → n ≤ length (item_signals s)
+units_within s n seen = omega (arith, prefix_longer (unit_signals n) (item_signals s) seen, length_units n)
 
-pub flags_within : (s : Shown) (bs : List Bool) → IsPrefix (flag_signals bs) (shown_signals s) → length bs ≤ length (shown_signals s)
-flags_within s bs seen = omega (arith, prefix_longer (flag_signals bs) (shown_signals s) seen, length_flags bs)
+pub flags_within : (s : Items) (bs : List Bool) → IsPrefix (flag_signals bs) (item_signals s) → length bs ≤ length (item_signals s)
+flags_within s bs seen = omega (arith, prefix_longer (flag_signals bs) (item_signals s) seen, length_flags bs)
 
-pub ints_within : (s : Shown) (ns : List ℤ) → IsPrefix (int_signals ns) (shown_signals s) → length ns ≤ length (shown_signals s)
-ints_within s ns seen = omega (arith, prefix_longer (int_signals ns) (shown_signals s) seen, length_ints ns)
+pub ints_within : (s : Items) (ns : List ℤ) → IsPrefix (int_signals ns) (item_signals s) → length ns ≤ length (item_signals s)
+ints_within s ns seen = omega (arith, prefix_longer (int_signals ns) (item_signals s) seen, length_ints ns)
 
 -- what one output gets, and no other
 abbrev pub only : List Signal → ℕ → List Signal
@@ -80,7 +80,7 @@ module _ {P S : Type 0} (m : Machine P S) where
       sym (ap (λ l. cond (nat_lt q (m.outputs p)) l no_messages) (none_written block made (m.kind_out p q) units flags ints)
       ∙ nothing_said (nat_lt q (m.outputs p)))
 
-  pub moved_nothing : (s : P × S) (first second : Shown) (space most : ℕ) (block : Written) (made : Moved) → made ≡ still → MovesAlong m s s first second space most block made
+  pub moved_nothing : (s : P × S) (first second : Items) (space most : ℕ) (block : Written) (made : Moved) → made ≡ still → MovesAlong m s s first second space most block made
   moved_nothing s first second space most block made is = subst (MovesAlong m s s first second space most block) (sym is) (record {
     within = record {
       first = omega arith;
@@ -215,11 +215,11 @@ module _ {P S : Type 0} (m : Machine P S) where
         ap (λ b. cond b zs []) other ∙ sym (ap (λ b. cond b (written_signals block made (m.kind_out p (suc q))) []) none)
 
     -- a worker with one output went along slices
-    pub single_ran : {s t : S} {n : ℕ} (xs ys zs : List Signal) → Single s t xs ys zs n → (first second : Shown) (block : Written) (made : Moved) → m.outputs p ≡ 1 →
-        xs ≡ take made.first (shown_signals first) → ys ≡ take made.second (shown_signals second) → zs ≡ written_signals block made (m.kind_out p 0) → n ≡ made.steps →
-        RunsAlong m (p, s) (p, t) (take made.first (shown_signals first)) (take made.second (shown_signals second)) (written_at m p block made) made.steps
+    pub single_ran : {s t : S} {n : ℕ} (xs ys zs : List Signal) → Single s t xs ys zs n → (first second : Items) (block : Written) (made : Moved) → m.outputs p ≡ 1 →
+        xs ≡ take made.first (item_signals first) → ys ≡ take made.second (item_signals second) → zs ≡ written_signals block made (m.kind_out p 0) → n ≡ made.steps →
+        RunsAlong m (p, s) (p, t) (take made.first (item_signals first)) (take made.second (item_signals second)) (written_at m p block made) made.steps
     single_ran xs ys zs ran first second block made one firsts seconds written steps =
-        ran_as ran (take made.first (shown_signals first)) (take made.second (shown_signals second)) (written_at m p block made) made.steps firsts
+        ran_as ran (take made.first (item_signals first)) (take made.second (item_signals second)) (written_at m p block made) made.steps firsts
         seconds (first_only block made zs one written) steps
 
     -- of no output

@@ -1,5 +1,5 @@
 -- What a worker makes of blocks: many messages taken or put in one call, and the history of whole rounds.
-use Rattle.std.proofs.Common.{◌≡◌, ◌≢◌, ℕ, ℤ, zero, suc, ◌+◌, ◌<◌, ◌≤◌, Bool, true, false, cond, eqb, List, [], ◌∷◌, ◌++◌, length, take, refl, sym}
+use Rattle.std.proofs.Common.{◌≡◌, ℕ, ℤ, zero, suc, ◌+◌, ◌<◌, ◌≤◌, Bool, true, false, cond, eqb, List, [], ◌∷◌, ◌++◌, length, take, refl, sym}
 use Rattle.std.proofs.Common.{◌∙◌, ap, subst, arith, append-nil, append_assoc, length-append, eq-eqb, ne_eqb, inl, inr}
 use Rattle.std.proofs.lemmas.Bool.{cases_eq, cases_Bool}
 use Rattle.std.proofs.lemmas.List.{take-append-le, take-map, length-map}
@@ -21,24 +21,6 @@ use Rattle.flow_base.proofs.Kernels.{went_further}
 pub block_then : (b : Bool) (xs ys : List Signal) → cond b xs [] ++ cond b ys [] ≡ cond b (xs ++ ys) []
 block_then true xs ys = refl
 block_then false xs ys = refl
-
--- an edge that is one is not the other
-apart_tests : (e f g : ℕ) → f ≢ g → eqb e f ≡ true → eqb e g ≡ false
-apart_tests e f g apart is = elim (cases_eq e f) [
-  | inl at ↦ ne_eqb e g (λ same. apart (sym at ∙ same))
-  | inr ne ↦ absurd (let no = ne_eqb e f ne in cc)
-]
-
-tests_then : (b c : Bool) (xs ys xs' ys' : List Signal) → (b ≡ true → c ≡ false) → (cond b xs [] ++ cond c ys []) ++ (cond b xs' [] ++ cond c ys' []) ≡ cond b (xs ++ xs') [] ++ cond c (ys ++ ys') []
-tests_then true true xs ys xs' ys' apart = absurd (cc (apart refl))
-tests_then true false xs ys xs' ys' apart = simp append-nil
-tests_then false true xs ys xs' ys' apart = refl
-tests_then false false xs ys xs' ys' apart = refl
-
--- two blocks of edges that are not one, and more of both
-pub blocks_then : (e f g : ℕ) (xs ys xs' ys' : List Signal) → f ≢ g → (cond (eqb e f) xs [] ++ cond (eqb e g) ys [])
-    ++ (cond (eqb e f) xs' [] ++ cond (eqb e g) ys' []) ≡ cond (eqb e f) (xs ++ xs') [] ++ cond (eqb e g) (ys ++ ys') []
-blocks_then e f g xs ys xs' ys' apart = tests_then (eqb e f) (eqb e g) xs ys xs' ys' (apart_tests e f g apart)
 
 -- blocks that have not ended
 pub ended_none : ended [] ≡ false
@@ -200,17 +182,6 @@ module _ (inputs outputs : List ℕ) where
           coming = λ e none. prefix_then (v.coming e) (u.coming e) (w.coming e) (made.coming e none) (put_all_coming u w g e ms put);
           room = λ e none. omega (arith, made.room e none, put.room e (not_at outputs e q none there));
         }
-
-    -- the same messages, told otherwise
-    pub shifted_as : (reads' writes' : ℕ → List Signal) → ((e : ℕ) → reads e ≡ reads' e) → ((e : ℕ) → writes e ≡ writes' e) → Shifted reads' writes' v u
-    shifted_as reads' writes' same_reads same_writes = record {
-      ends = made.ends;
-      received = λ e. made.received e ∙ ap (λ l. v.received e ++ l) (same_reads e);
-      sent = λ e. made.sent e ∙ ap (λ l. cond (ended (v.sent e)) (v.sent e) (v.sent e ++ l)) (same_writes e);
-      no_end = λ e. ap ended (sym (same_writes e)) ∙ made.no_end e;
-      coming = made.coming;
-      room = made.room;
-    }
 
   module _ {S : Type 0} (b : Behaviour S) where
     -- whole rounds from s to t, which read and write just these messages, in so many steps; no end is written

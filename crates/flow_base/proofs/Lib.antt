@@ -7,3 +7,4 @@ pub mod Visits
 pub mod Along
 pub mod OverSlices
 pub mod Walks
+pub mod Visiting

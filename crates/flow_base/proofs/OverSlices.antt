@@ -241,18 +241,6 @@ took_nothing v e = record {
   coming_here = prefix_same (v.coming e) (v.coming e) refl;
 }
 
-pub put_nothing : (v : View) (e : ℕ) → PutAll v e [] v
-put_nothing v e = record {
-  ends = same_ends_refl v;
-  sent = after_none (v.sent e);
-  others = λ k ne. refl;
-  received = λ k. refl;
-  coming = λ k ne. refl;
-  coming_here = prefix_same (v.coming e) (v.coming e) refl;
-  room = λ k ne. refl;
-  room_here = omega arith;
-}
-
 module _ (outputs : List ℕ) (ms : ℕ → List Signal) where
   -- nothing is put yet
   pub put_on_none : (v : View) → PutOnEach outputs 0 ms v v
@@ -362,11 +350,11 @@ pub prefix_long : (ms c : List Signal) → IsPrefix ms c → length ms ≤ lengt
 prefix_long ms c (more, is) = omega (arith, length-append ms more, ap length is)
 
 -- the same ends are there
-pub reads_still : (a v : View) (edges : List ℕ) → SameEnds a v → All (λ e. a.reads e ≡ true) edges → All (λ e. v.reads e ≡ true) edges
-reads_still a v edges same all = All-weaker (λ e. a.reads e ≡ true) (λ e. v.reads e ≡ true) (λ e is. same.reads e ∙ is) edges all
+pub reads_still : {a v : View} (edges : List ℕ) → SameEnds a v → All (λ e. a.reads e ≡ true) edges → All (λ e. v.reads e ≡ true) edges
+reads_still {a = a} {v = v} edges same all = All-weaker (λ e. a.reads e ≡ true) (λ e. v.reads e ≡ true) (λ e is. same.reads e ∙ is) edges all
 
-pub writes_still : (a v : View) (edges : List ℕ) → SameEnds a v → All (λ e. a.writes e ≡ true) edges → All (λ e. v.writes e ≡ true) edges
-writes_still a v edges same all = All-weaker (λ e. a.writes e ≡ true) (λ e. v.writes e ≡ true) (λ e is. same.writes e ∙ is) edges all
+pub writes_still : {a v : View} (edges : List ℕ) → SameEnds a v → All (λ e. a.writes e ≡ true) edges → All (λ e. v.writes e ≡ true) edges
+writes_still {a = a} {v = v} edges same all = All-weaker (λ e. a.writes e ≡ true) (λ e. v.writes e ≡ true) (λ e is. same.writes e ∙ is) edges all
 
 pub kinds_still : (a v : View) (outputs : List ℕ) (kind_out : ℕ → Kind) → SameEnds a v → TakeKinds outputs kind_out a → TakeKinds outputs kind_out v
 kinds_still a v outputs kind_out same all = λ q there. takes_still a v (edge_of outputs q) (kind_out q) same (all q there)
@@ -396,13 +384,3 @@ port_there inputs p k ms within none some = elim (cases_lt p (length inputs)) [
 -- edges that rise are apart
 pub risen_apart : (edges : List ℕ) → ((p q : ℕ) → p < q → q < length edges → edge_of edges p < edge_of edges q) → AreApart edges
 risen_apart edges rises = λ p q lt there same. omega (arith, same, rises p q lt there)
-
--- of one edge, or of two
-pub few_apart : (edges : List ℕ) → length edges < 2 → AreApart edges
-few_apart edges few = λ p q lt there same. omega (arith, few, lt, there)
-
-pub two_apart : (edges : List ℕ) → length edges ≡ 2 → edge_of edges 0 ≢ edge_of edges 1 → AreApart edges
-two_apart edges two apart = λ p q lt there same.
-    let first : p ≡ 0 = omega (arith, two, lt, there) in
-    let second : q ≡ 1 = omega (arith, two, lt, there) in
-    apart (ap (edge_of edges) (sym first) ∙ same ∙ ap (edge_of edges) second)

@@ -2,7 +2,7 @@
 use Rattle.std.specs.Prelude.{◌≡◌, ◌≢◌, ℕ, zero, suc, ◌<◌, ◌≤◌, cond, eqb, nat_lt, List, [], ◌++◌, length, take}
 use mathlib.Core.List.{IsPrefix}
 use Rattle.kahn.specs.Processes.{Event, Does, reads, writes}
-use Rattle.flow_messages.specs.Blocks.{unit_signals, flag_signals, int_signals}
+use Rattle.flow_messages.specs.Blocks.{unit_signals, flag_signals, int_signals, item_signals}
 use Rattle.flow_messages.specs.Ends.{View, SameEnds}
 use Rattle.flow_messages.specs.Signals.{Signal, ended}
 use Rattle.flow_messages.specs.declared.message.Kind.{Kind}
@@ -12,16 +12,8 @@ use Rattle.flow_base.specs.Nodes.{behaviour_of, node_state}
 use Rattle.flow_base.specs.Visits.{edge_of, IsNone}
 use Rattle.flow_base.specs.declared.node.Phase.TheVariants.{Working}
 use Rattle.flow_base.specs.declared.slices.Moved.{Moved}
-use Rattle.flow_base.specs.declared.slices.Shown.{Shown}
-use Rattle.flow_base.specs.declared.slices.Shown.TheVariants.{Nothing, Units, Flags, Ints}
+use Rattle.flow_messages.specs.declared.items.Items.{Items}
 use Rattle.flow_base.specs.declared.slices.Written.{Written}
-
--- what these items say, in order
-abbrev pub shown_signals : Shown → List Signal
-shown_signals Nothing = []
-shown_signals (Units n) = unit_signals n
-shown_signals (Flags bs) = flag_signals bs.now
-shown_signals (Ints ns) = int_signals ns.now
 
 -- what was written to each output of the kind
 abbrev pub written_signals : Written → Moved → Kind → List Signal
@@ -31,9 +23,9 @@ written_signals block moved IntKind = int_signals (take moved.ints block.ints)
 written_signals block moved VecKind = []
 
 -- it read no more than it was shown, wrote no more than there is room for, and made no more steps than it may
-pub record IsWithin (at_first at_second : Shown) (space most : ℕ) (moved : Moved) : Type 0 where
-  pub first : moved.first ≤ length (shown_signals at_first)
-  pub second : moved.second ≤ length (shown_signals at_second)
+pub record IsWithin (at_first at_second : Items) (space most : ℕ) (moved : Moved) : Type 0 where
+  pub first : moved.first ≤ length (item_signals at_first)
+  pub second : moved.second ≤ length (item_signals at_second)
   pub units : moved.units ≤ space
   pub flags : moved.flags ≤ space
   pub ints : moved.ints ≤ space
@@ -57,9 +49,9 @@ module _ {P S : Type 0} (m : Machine P S) where
 
   -- What a worker did along what it was shown: within what it may, steps that read the first of the items and wrote what
   -- lies in the block.
-  pub record MovesAlong (old new : P × S) (first second : Shown) (space most : ℕ) (block : Written) (moved : Moved) : Type 0 where
+  pub record MovesAlong (old new : P × S) (first second : Items) (space most : ℕ) (block : Written) (moved : Moved) : Type 0 where
     pub within : IsWithin first second space most moved
-    pub ran : RunsAlong old new (take moved.first (shown_signals first)) (take moved.second (shown_signals second)) (written_at old.0 block moved) moved.steps
+    pub ran : RunsAlong old new (take moved.first (item_signals first)) (take moved.second (item_signals second)) (written_at old.0 block moved) moved.steps
 
 -- each of these edges is another
 abbrev pub AreApart : List ℕ → Type 0

@@ -1,5 +1,5 @@
 -- Where a node stands, and what its calls leave.
-use Rattle.std.specs.Prelude.{◌≡◌, ℕ, Bool, Result, IfOk, OnErr, cond, nat_lt, List, [], ◌∷◌, ◌++◌, length}
+use Rattle.std.specs.Prelude.{◌≡◌, ℕ, Bool, Result, Ok, Err, IfOk, OnErr, cond, nat_lt, List, [], ◌∷◌, ◌++◌, length}
 use Rattle.std.specs.declared.alloc.AllocError.{AllocError}
 use Rattle.flow_messages.specs.Ends.{View, SameEnds}
 use Rattle.flow_messages.specs.declared.ends.Ends.{Ghosts as EndsGhosts}
@@ -11,12 +11,19 @@ use Rattle.flow_messages.specs.declared.message.Msg.{Msg}
 use Rattle.flow_base.specs.Along.{PutOnEach, written_signals}
 use Rattle.flow_base.specs.Nodes.{NodeState, behaviour_of, node_state}
 use Rattle.flow_base.specs.Passing.{MayCome, PassedOn}
-use Rattle.flow_base.specs.Visits.{BrokeOff, IsPlaced, Visited}
+use Rattle.flow_base.specs.Visits.{BrokeOff, IsPlaced, WentOn}
+use Rattle.flow_base.specs.Walks.{Visit, Walk}
 use Rattle.flow_base.specs.declared.node.Node.{Node}
+use Rattle.flow_base.specs.declared.node.NodeEdges.{NodeEdges}
 use Rattle.flow_base.specs.declared.node.Phase.TheVariants.{Ending}
 use Rattle.flow_base.specs.declared.slices.Moved.{Moved}
 use Rattle.flow_base.specs.declared.slices.Written.{Written}
 use Rattle.flow_base.specs.declared.worker.Worker.{Ghosts}
+
+-- whether a step was made, where steps were counted
+abbrev pub any_step : Result ℕ AllocError → Result Bool AllocError
+any_step (Ok made) = Ok (nat_lt 0 made)
+any_step (Err refused) = Err refused
 
 module _ {W : Type 0} (w : Ghosts W) where
   -- what the laws of the node see of it
@@ -24,8 +31,8 @@ module _ {W : Type 0} (w : Ghosts W) where
   standing n = node_state (w.state n.worker) n.phase n.at
 
   -- these are the edges at the ports of the node, and their ends are there
-  abbrev pub NodeIsPlaced : List ℕ → List ℕ → Node W → View → Type 0
-  NodeIsPlaced inputs outputs n v = IsPlaced (behaviour_of w.machine) inputs outputs (standing n) v
+  abbrev pub NodeIsPlaced : NodeEdges → Node W → View → Type 0
+  NodeIsPlaced edges n v = IsPlaced (behaviour_of w.machine) edges.inputs.now edges.outputs.now (standing n) v
 
   -- what the worker wrote was put on the edge of each output
   abbrev pub PutsWritten : {E : Type 0} → W → (E → View) → List ℕ → Written → Moved → E → E → Type 0
@@ -33,11 +40,23 @@ module _ {W : Type 0} (w : Ghosts W) where
       PutOnEach outputs (length outputs) (λ q. written_signals block moved (w.machine.kind_out (w.state worker).0 q)) (view a) (view v)
 
   -- what a visit of the node answers and leaves, over the same ends: some steps, or none, or steps until memory was refused
-  pub record Visits {E : Type 0} (e : EndsGhosts E) (inputs outputs : List ℕ) (n : Node W) (a : E) (t : Node W) (v : E) (result : Result Bool AllocError) : Type 0 where
+  abbrev pub Visits : {E : Type 0} → EndsGhosts E → NodeEdges → Node W → E → Node W → E → Result Bool AllocError → Type 0
+  Visits e edges n a t v result = Visit e.view e.same edges.inputs.now edges.outputs.now (behaviour_of w.machine) (standing n) a (standing t) v result
+
+  -- the same of a part of a visit that counts its steps
+  abbrev pub VisitsBySteps : {E : Type 0} → EndsGhosts E → NodeEdges → Node W → E → Node W → E → Result ℕ AllocError → Type 0
+  VisitsBySteps e edges n a t v result = Visits e edges n a t v (any_step result)
+
+  -- what a try at some steps answers and leaves, over the same ends: so many steps, or steps until memory was refused
+  pub record WalksOn {E : Type 0} (e : EndsGhosts E) (edges : NodeEdges) (n : Node W) (a : E) (t : Node W) (v : E) (result : Result ℕ AllocError) : Type 0 where
     pub same : e.same a v
     pub ends : SameEnds (e.view a) (e.view v)
-    pub visited : IfOk result (λ any. Visited inputs outputs (behaviour_of w.machine) (standing n) (e.view a) (standing t) (e.view v) any)
-    pub broke : OnErr result (BrokeOff inputs outputs (behaviour_of w.machine) (standing n) (e.view a) (standing t) (e.view v))
+    pub went : IfOk result (λ made. WentOn edges.inputs.now edges.outputs.now (behaviour_of w.machine) (standing n) (e.view a) (standing t) (e.view v) (nat_lt 0 made))
+    pub broke : OnErr result (BrokeOff edges.inputs.now edges.outputs.now (behaviour_of w.machine) (standing n) (e.view a) (standing t) (e.view v))
+
+  -- so many steps got the node there, over the same ends
+  abbrev pub Walks : {E : Type 0} → EndsGhosts E → NodeEdges → Node W → E → Node W → E → ℕ → Type 0
+  Walks e edges n a t v steps = Walk e.view e.same edges.inputs.now edges.outputs.now (behaviour_of w.machine) (standing n) a (standing t) v steps
 
   -- the node is where it was
   abbrev pub StandsStill : Node W → Node W → Type 0

@@ -16,6 +16,6 @@ mod worker;
 pub use certain::{put_in_space, take_front};
 pub use node::{Node, Phase};
 pub use printing::Printing;
-pub use slices::{Moved, PLACES, Shown, Written};
+pub use slices::{Moved, PLACES, Written};
 pub use transducer::{Port, Side, Transducer, keeps_laws};
 pub use worker::{Ask, BLOCK, SHORT_BLOCK, Stop, Worker, computes_row};

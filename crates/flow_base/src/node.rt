@@ -3,16 +3,13 @@
 ghost use Rattle.std.specs.Prelude.{◌≡◌, ◌+◌, ◌<◌, ◌≤◌, true, false, cond, nat_lt, IfOk, OnErr, IsOk, IsTrue, List, [], ◌∷◌, ◌++◌, length};
 ghost use Rattle.flow_messages.specs.Signals.{Signal, stop, signal_of};
 ghost use Rattle.flow_messages.specs.Flats.{flat_signals};
-ghost use Rattle.flow_messages.specs.Ends.{SameEnds};
 ghost use Rattle.flow_base.specs.Machines.{move_of, ask_of};
 ghost use Rattle.flow_base.specs.Workers.{IsReading};
 ghost use Rattle.flow_base.specs.Nodes.{behaviour_of, closing, node_state, opened, want_for};
 ghost use Rattle.flow_base.specs.Passing.{MayCome, PassedOn};
 ghost use Rattle.flow_base.specs.Following.{node_passes};
 ghost use Rattle.flow_base.specs.Along.{AreApart};
-ghost use Rattle.flow_base.specs.Visits.{WentOn, Visited, BrokeOff};
-ghost use Rattle.flow_base.specs.Walks.{Walk};
-ghost use Rattle.flow_base.specs.Standing.{EndsAll, MayComeTo, NodeIsPlaced, NodeReads, PassesAll, PassesOn, PassesToEnd, StandsStill, Visits, end_written, standing};
+ghost use Rattle.flow_base.specs.Standing.{VisitsBySteps, EndsAll, Walks, MayComeTo, NodeIsPlaced, NodeReads, PassesAll, PassesOn, PassesToEnd, StandsStill, WalksOn, Visits, end_written, standing};
 ghost use Rattle.flow_base.specs.declared.node.Phase.TheVariants.{Working, Ending};
 
 use crate::certain::{look_for_messages, put_in_space};
@@ -59,6 +56,13 @@ impl Phase {
             Phase::Ending(0)
         }
     }
+}
+
+// The edges at the ports of a node.
+#[derive(Drop)]
+struct NodeEdges<'a> {
+    inputs: &'a [usize],
+    outputs: &'a [usize],
 }
 
 /// A transducer that lets a worker do one instance after another, until the stream at its first port ends where an
@@ -139,27 +143,22 @@ impl<W: Worker> Node<W> {
 
     // One step, or none where it can make none.
     #[inline(never)]
-    fn step<E: Ends>(
-        &mut self,
-        inputs: &[usize],
-        outputs: &[usize],
-        ends: &mut E,
-    ) -> Result<bool, AllocError>
-        requires placed { NodeIsPlaced W.Worker inputs.now outputs.now self.old (E.view ends.old) }
-        ensures { Visits W.Worker E.Ends inputs.now outputs.now self.old ends.old self.new ends.new result }
+    fn step<E: Ends>(&mut self, edges: &NodeEdges<'_>, ends: &mut E) -> Result<bool, AllocError>
+        requires placed { NodeIsPlaced W.Worker edges.now self.old (E.view ends.old) }
+        ensures { Visits W.Worker E.Ends edges.now self.old ends.old self.new ends.new result }
     {
         match self.want() {
             Want::Read(port) => {
-                prove!(port < inputs.len());
-                let Some(message) = ends.take(inputs[port]) else {
+                prove!(port < edges.inputs.len());
+                let Some(message) = ends.take(edges.inputs[port]) else {
                     return Ok(false);
                 };
                 self.give(port, message)?;
                 Ok(true)
             }
             Want::Write(port) => {
-                prove!(port < outputs.len());
-                let edge = outputs[port];
+                prove!(port < edges.outputs.len());
+                let edge = edges.outputs[port];
                 if !ends.room(edge) {
                     return Ok(false);
                 }
@@ -176,28 +175,19 @@ impl<W: Worker> Node<W> {
     #[inline(always)]
     fn finish<E: Ends>(
         &mut self,
-        inputs: &[usize],
-        outputs: &[usize],
+        edges: &NodeEdges<'_>,
         ends: &mut E,
         chunk: usize,
     ) -> Result<usize, AllocError>
-        requires placed { NodeIsPlaced W.Worker inputs.now outputs.now self.old (E.view ends.old) }
-        ensures same { E.same ends.old ends.new }
-        ensures ends { SameEnds (E.view ends.old) (E.view ends.new) }
+        requires placed { NodeIsPlaced W.Worker edges.now self.old (E.view ends.old) }
         ensures within { IfOk result (λ made. made ≤ chunk) }
-        ensures went { IfOk result (λ made. WentOn inputs.now outputs.now
-            ⟦<Node<W> as Transducer>⟧.behaviour (⟦<Node<W> as Transducer>⟧.state self.old)
-            (E.view ends.old) (⟦<Node<W> as Transducer>⟧.state self.new) (E.view ends.new)
-            (nat_lt 0 made)) }
-        ensures broke { OnErr result (BrokeOff inputs.now outputs.now
-            ⟦<Node<W> as Transducer>⟧.behaviour (⟦<Node<W> as Transducer>⟧.state self.old)
-            (E.view ends.old) (⟦<Node<W> as Transducer>⟧.state self.new) (E.view ends.new)) }
+        ensures visit { WalksOn W.Worker E.Ends edges.now self.old ends.old self.new ends.new result }
     {
         for made in 0..chunk {
             if self.worker.is_between() {
                 return Ok(made);
             }
-            if !self.step(inputs, outputs, ends)? {
+            if !self.step(edges, ends)? {
                 return Ok(made);
             }
         }
@@ -206,25 +196,18 @@ impl<W: Worker> Node<W> {
 
     // Goes once along the slices that its ends show, at most `most` steps. How many it made.
     #[inline(always)]
-    fn go_along<E: Ends>(
-        &mut self,
-        inputs: &[usize],
-        outputs: &[usize],
-        ends: &mut E,
-        most: usize,
-    ) -> usize
+    fn go_along<E: Ends>(&mut self, edges: &NodeEdges<'_>, ends: &mut E, most: usize) -> usize
         requires works { self.old.phase ≡ Working }
-        requires placed { NodeIsPlaced W.Worker inputs.now outputs.now self.old (E.view ends.old) }
-        requires inputs { AreApart inputs.now }
-        requires outputs { AreApart outputs.now }
+        requires placed { NodeIsPlaced W.Worker edges.now self.old (E.view ends.old) }
+        requires inputs { AreApart edges.now.inputs.now }
+        requires outputs { AreApart edges.now.outputs.now }
         ensures works { self.new.phase ≡ Working }
-        ensures walk { Walk E.view E.same inputs.now outputs.now
-            ⟦<Node<W> as Transducer>⟧.behaviour (⟦<Node<W> as Transducer>⟧.state self.old) ends.old
-            (⟦<Node<W> as Transducer>⟧.state self.new) ends.new most result }
+        ensures within { result ≤ most }
+        ensures visit { Walks W.Worker E.Ends edges.now self.old ends.old self.new ends.new result }
     {
-        let space = least_space(ends, outputs).min(PLACES);
-        let first = shown_at(ends, inputs, 0, self.worker.kind_in(0));
-        let second = shown_at(ends, inputs, 1, self.worker.kind_in(1));
+        let space = least_space(ends, edges.outputs).min(PLACES);
+        let first = shown_at(ends, edges.inputs, 0);
+        let second = shown_at(ends, edges.inputs, 1);
         let moved = self
             .worker
             .along(first, second, &mut self.block, space, most);
@@ -232,39 +215,32 @@ impl<W: Worker> Node<W> {
         if steps == 0 {
             return 0;
         }
-        skip_at(ends, inputs, 0, moved.first);
-        skip_at(ends, inputs, 1, moved.second);
-        put_on_each(&self.worker, ends, outputs, &self.block, moved);
+        skip_at(ends, edges.inputs, 0, moved.first);
+        skip_at(ends, edges.inputs, 1, moved.second);
+        put_on_each(&self.worker, ends, edges.outputs, &self.block, moved);
         steps
     }
 
     // Goes along the slices that its ends show, at most `most` steps. How many it made.
     #[inline(always)]
-    fn over_slices<E: Ends>(
-        &mut self,
-        inputs: &[usize],
-        outputs: &[usize],
-        ends: &mut E,
-        most: usize,
-    ) -> usize
+    fn over_slices<E: Ends>(&mut self, edges: &NodeEdges<'_>, ends: &mut E, most: usize) -> usize
         requires works { self.old.phase ≡ Working }
-        requires placed { NodeIsPlaced W.Worker inputs.now outputs.now self.old (E.view ends.old) }
+        requires placed { NodeIsPlaced W.Worker edges.now self.old (E.view ends.old) }
         ensures works { self.new.phase ≡ Working }
-        ensures walk { Walk E.view E.same inputs.now outputs.now
-            ⟦<Node<W> as Transducer>⟧.behaviour (⟦<Node<W> as Transducer>⟧.state self.old) ends.old
-            (⟦<Node<W> as Transducer>⟧.state self.new) ends.new most result }
+        ensures within { result ≤ most }
+        ensures visit { Walks W.Worker E.Ends edges.now self.old ends.old self.new ends.new result }
     {
         // Slices of one edge are not seen at once.
-        if !at_most_two_apart(inputs) {
+        if !at_most_two_apart(edges.inputs) {
             return 0;
         }
         // The room of an edge is certain for one output alone.
-        if !rise(outputs) {
+        if !rise(edges.outputs) {
             return 0;
         }
         let mut made = 0;
         'rounds: loop {
-            let steps = self.go_along(inputs, outputs, ends, most - made);
+            let steps = self.go_along(edges, ends, most - made);
             // Where it filled no block, another round would find next to nothing, and cost as much.
             if steps < PLACES {
                 return made + steps;
@@ -275,25 +251,20 @@ impl<W: Worker> Node<W> {
 
     // The same, and then what a worker does that goes over slices by itself.
     #[inline(always)]
-    fn blocks<E: Ends>(
-        &mut self,
-        inputs: &[usize],
-        outputs: &[usize],
-        ends: &mut E,
-        most: usize,
-    ) -> usize
+    fn blocks<E: Ends>(&mut self, edges: &NodeEdges<'_>, ends: &mut E, most: usize) -> usize
         requires works { self.old.phase ≡ Working }
-        requires placed { NodeIsPlaced W.Worker inputs.now outputs.now self.old (E.view ends.old) }
-        ensures walk { Walk E.view E.same inputs.now outputs.now
-            ⟦<Node<W> as Transducer>⟧.behaviour (⟦<Node<W> as Transducer>⟧.state self.old) ends.old
-            (⟦<Node<W> as Transducer>⟧.state self.new) ends.new most result }
+        requires placed { NodeIsPlaced W.Worker edges.now self.old (E.view ends.old) }
+        ensures within { result ≤ most }
+        ensures visit { Walks W.Worker E.Ends edges.now self.old ends.old self.new ends.new result }
     {
-        let along = self.over_slices(inputs, outputs, ends, most);
+        let along = self.over_slices(edges, ends, most);
         // What is left of a visit that went along slices would begin an instance that the next has to end by single steps.
         if along > 0 {
             return along;
         }
-        let whole = self.worker.blocks(inputs, outputs, ends, most - along);
+        let whole = self
+            .worker
+            .blocks(edges.inputs, edges.outputs, ends, most - along);
         along + whole
     }
 
@@ -301,27 +272,18 @@ impl<W: Worker> Node<W> {
     #[inline(always)]
     fn whole_blocks<E: Ends>(
         &mut self,
-        inputs: &[usize],
-        outputs: &[usize],
+        edges: &NodeEdges<'_>,
         ends: &mut E,
         chunk: usize,
     ) -> Result<usize, AllocError>
-        requires placed { NodeIsPlaced W.Worker inputs.now outputs.now self.old (E.view ends.old) }
-        ensures same { E.same ends.old ends.new }
-        ensures ends { SameEnds (E.view ends.old) (E.view ends.new) }
+        requires placed { NodeIsPlaced W.Worker edges.now self.old (E.view ends.old) }
         ensures within { IfOk result (λ made. made ≤ chunk) }
-        ensures went { IfOk result (λ made. WentOn inputs.now outputs.now
-            ⟦<Node<W> as Transducer>⟧.behaviour (⟦<Node<W> as Transducer>⟧.state self.old)
-            (E.view ends.old) (⟦<Node<W> as Transducer>⟧.state self.new) (E.view ends.new)
-            (nat_lt 0 made)) }
-        ensures broke { OnErr result (BrokeOff inputs.now outputs.now
-            ⟦<Node<W> as Transducer>⟧.behaviour (⟦<Node<W> as Transducer>⟧.state self.old)
-            (E.view ends.old) (⟦<Node<W> as Transducer>⟧.state self.new) (E.view ends.new)) }
+        ensures visit { WalksOn W.Worker E.Ends edges.now self.old ends.old self.new ends.new result }
     {
-        let first = self.finish(inputs, outputs, ends, chunk)?;
+        let first = self.finish(edges, ends, chunk)?;
         if let Phase::Working = self.phase {
-            look_for_messages(ends, inputs);
-            let whole = self.blocks(inputs, outputs, ends, chunk - first);
+            look_for_messages(ends, edges.inputs);
+            let whole = self.blocks(edges, ends, chunk - first);
             return Ok(first + whole);
         }
         Ok(first)
@@ -331,63 +293,45 @@ impl<W: Worker> Node<W> {
     #[inline(always)]
     fn many<E: Ends>(
         &mut self,
-        inputs: &[usize],
-        outputs: &[usize],
+        edges: &NodeEdges<'_>,
         ends: &mut E,
         chunk: usize,
     ) -> Result<usize, AllocError>
         requires works { self.old.phase ≡ Working }
-        requires placed { NodeIsPlaced W.Worker inputs.now outputs.now self.old (E.view ends.old) }
-        ensures same { E.same ends.old ends.new }
-        ensures ends { SameEnds (E.view ends.old) (E.view ends.new) }
+        requires placed { NodeIsPlaced W.Worker edges.now self.old (E.view ends.old) }
         ensures within { IfOk result (λ made. made ≤ chunk) }
-        ensures went { IfOk result (λ made. WentOn inputs.now outputs.now
-            ⟦<Node<W> as Transducer>⟧.behaviour (⟦<Node<W> as Transducer>⟧.state self.old)
-            (E.view ends.old) (⟦<Node<W> as Transducer>⟧.state self.new) (E.view ends.new)
-            (nat_lt 0 made)) }
-        ensures broke { OnErr result (BrokeOff inputs.now outputs.now
-            ⟦<Node<W> as Transducer>⟧.behaviour (⟦<Node<W> as Transducer>⟧.state self.old)
-            (E.view ends.old) (⟦<Node<W> as Transducer>⟧.state self.new) (E.view ends.new)) }
+        ensures visit { WalksOn W.Worker E.Ends edges.now self.old ends.old self.new ends.new result }
     {
         if chunk < LEAST_FOR_BLOCKS {
             return Ok(0);
         }
         // Where hardly an instance fits, the worker goes on from within one, if it can.
-        if chunk / 2 <= outputs.len() {
-            look_for_messages(ends, inputs);
-            return Ok(self.blocks(inputs, outputs, ends, chunk));
+        if chunk / 2 <= edges.outputs.len() {
+            look_for_messages(ends, edges.inputs);
+            return Ok(self.blocks(edges, ends, chunk));
         }
-        self.whole_blocks(inputs, outputs, ends, chunk)
+        self.whole_blocks(edges, ends, chunk)
     }
 
     // Single steps while it works, at most `chunk`. How many it made.
     #[inline(always)]
     fn work<E: Ends>(
         &mut self,
-        inputs: &[usize],
-        outputs: &[usize],
+        edges: &NodeEdges<'_>,
         ends: &mut E,
         chunk: usize,
     ) -> Result<usize, AllocError>
         requires some { 0 < chunk }
         requires works { self.old.phase ≡ Working }
-        requires placed { NodeIsPlaced W.Worker inputs.now outputs.now self.old (E.view ends.old) }
-        ensures same { E.same ends.old ends.new }
-        ensures ends { SameEnds (E.view ends.old) (E.view ends.new) }
+        requires placed { NodeIsPlaced W.Worker edges.now self.old (E.view ends.old) }
         ensures within { IfOk result (λ made. made ≤ chunk) }
-        ensures visited { IfOk result (λ made. Visited inputs.now outputs.now
-            ⟦<Node<W> as Transducer>⟧.behaviour (⟦<Node<W> as Transducer>⟧.state self.old)
-            (E.view ends.old) (⟦<Node<W> as Transducer>⟧.state self.new) (E.view ends.new)
-            (nat_lt 0 made)) }
-        ensures broke { OnErr result (BrokeOff inputs.now outputs.now
-            ⟦<Node<W> as Transducer>⟧.behaviour (⟦<Node<W> as Transducer>⟧.state self.old)
-            (E.view ends.old) (⟦<Node<W> as Transducer>⟧.state self.new) (E.view ends.new)) }
+        ensures visit { VisitsBySteps W.Worker E.Ends edges.now self.old ends.old self.new ends.new result }
     {
         for made in 0..chunk {
             match self.want_on() {
                 Want::Read(port) => {
-                    prove!(port < inputs.len());
-                    let Some(message) = ends.take(inputs[port]) else {
+                    prove!(port < edges.inputs.len());
+                    let Some(message) = ends.take(edges.inputs[port]) else {
                         return Ok(made);
                     };
                     if !self.read_on(message)? {
@@ -395,8 +339,8 @@ impl<W: Worker> Node<W> {
                     }
                 }
                 Want::Write(port) => {
-                    prove!(port < outputs.len());
-                    let edge = outputs[port];
+                    prove!(port < edges.outputs.len());
+                    let edge = edges.outputs[port];
                     if !ends.room(edge) {
                         return Ok(made);
                     }
@@ -413,18 +357,17 @@ impl<W: Worker> Node<W> {
     #[inline(never)]
     fn close<E: Ends>(
         &mut self,
-        inputs: &[usize],
-        outputs: &[usize],
+        edges: &NodeEdges<'_>,
         ends: &mut E,
         left: usize,
     ) -> Result<bool, AllocError>
         requires some { 0 < left }
-        requires placed { NodeIsPlaced W.Worker inputs.now outputs.now self.old (E.view ends.old) }
-        ensures { Visits W.Worker E.Ends inputs.now outputs.now self.old ends.old self.new ends.new result }
+        requires placed { NodeIsPlaced W.Worker edges.now self.old (E.view ends.old) }
+        ensures { Visits W.Worker E.Ends edges.now self.old ends.old self.new ends.new result }
     {
         let mut moved = false;
         for _ in 0..left {
-            if !self.step(inputs, outputs, ends)? {
+            if !self.step(edges, ends)? {
                 break;
             }
             moved = true;
@@ -436,25 +379,24 @@ impl<W: Worker> Node<W> {
     #[inline(never)]
     fn visit_by_steps<E: Ends>(
         &mut self,
-        inputs: &[usize],
-        outputs: &[usize],
+        edges: &NodeEdges<'_>,
         ends: &mut E,
         chunk: usize,
     ) -> Result<bool, AllocError>
         requires some { 0 < chunk }
-        requires placed { NodeIsPlaced W.Worker inputs.now outputs.now self.old (E.view ends.old) }
-        ensures { Visits W.Worker E.Ends inputs.now outputs.now self.old ends.old self.new ends.new result }
+        requires placed { NodeIsPlaced W.Worker edges.now self.old (E.view ends.old) }
+        ensures { Visits W.Worker E.Ends edges.now self.old ends.old self.new ends.new result }
     {
         if !matches!(self.phase, Phase::Working) {
-            return self.close(inputs, outputs, ends, chunk);
+            return self.close(edges, ends, chunk);
         }
-        let made = self.work(inputs, outputs, ends, chunk)?;
+        let made = self.work(edges, ends, chunk)?;
         self.is_busy = made >= LEAST_WHEN_BUSY;
         if made == chunk || matches!(self.phase, Phase::Working) {
             return Ok(made > 0);
         }
         // It has made the step that ended its work.
-        self.close(inputs, outputs, ends, chunk - made)?;
+        self.close(edges, ends, chunk - made)?;
         Ok(true)
     }
 
@@ -462,21 +404,20 @@ impl<W: Worker> Node<W> {
     #[inline(never)]
     fn visit_over_slices<E: Ends>(
         &mut self,
-        inputs: &[usize],
-        outputs: &[usize],
+        edges: &NodeEdges<'_>,
         ends: &mut E,
         chunk: usize,
     ) -> Result<bool, AllocError>
         requires some { 0 < chunk }
-        requires placed { NodeIsPlaced W.Worker inputs.now outputs.now self.old (E.view ends.old) }
-        ensures { Visits W.Worker E.Ends inputs.now outputs.now self.old ends.old self.new ends.new result }
+        requires placed { NodeIsPlaced W.Worker edges.now self.old (E.view ends.old) }
+        ensures { Visits W.Worker E.Ends edges.now self.old ends.old self.new ends.new result }
     {
         if !matches!(self.phase, Phase::Working) {
-            return self.close(inputs, outputs, ends, chunk);
+            return self.close(edges, ends, chunk);
         }
-        let whole = self.many(inputs, outputs, ends, chunk)?;
+        let whole = self.many(edges, ends, chunk)?;
         if whole == 0 {
-            return self.visit_by_steps(inputs, outputs, ends, chunk);
+            return self.visit_by_steps(edges, ends, chunk);
         }
         // The steps that are left would open an instance, or find nothing.
         self.is_busy = whole >= LEAST_WHEN_BUSY;
@@ -633,9 +574,10 @@ impl<W: Worker> Transducer for Node<W> {
         ends: &mut E,
         chunk: usize,
     ) -> Result<bool, AllocError> {
+        let edges = NodeEdges { inputs, outputs };
         if self.is_busy {
-            return self.visit_over_slices(inputs, outputs, ends, chunk);
+            return self.visit_over_slices(&edges, ends, chunk);
         }
-        self.visit_by_steps(inputs, outputs, ends, chunk.min(MOST_SINGLE))
+        self.visit_by_steps(&edges, ends, chunk.min(MOST_SINGLE))
     }
 }

@@ -3,68 +3,20 @@
 ghost use Rattle.std.specs.Prelude.{◌≡◌, ◌<◌, ◌≤◌, ℕ, true, List, [], length};
 ghost use Rattle.std.specs.List.{All};
 ghost use mathlib.Core.List.{IsPrefix};
-ghost use Rattle.flow_messages.specs.Blocks.{unit_signals, flag_signals, int_signals};
+ghost use Rattle.flow_messages.specs.Blocks.{item_signals};
 ghost use Rattle.flow_messages.specs.Ends.{SameEnds, held};
 ghost use Rattle.flow_messages.specs.Kinds.{TakesKind};
-ghost use Rattle.flow_base.specs.Along.{AreApart, HasRoom, shown_signals, written_signals};
+ghost use Rattle.flow_base.specs.Along.{AreApart, HasRoom};
 ghost use Rattle.flow_base.specs.Visits.{edge_of, LeavesAlone};
 ghost use Rattle.flow_base.specs.Standing.{PutsWritten};
 ghost use Rattle.flow_base.specs.OnPorts.{FitsAt, IsLower, PutFrom, SkippedAt, TakeKindsOf, coming_at, room_at};
 
 use crate::worker::Worker;
-use flow_messages::{Ends, Kind};
+use flow_messages::{Ends, Items, Kind};
 
 /// How many places there are for what a worker writes in one call. A slice borrows the ends that show it, and a put changes
 /// them, so nothing is written straight to an edge.
 pub const PLACES: usize = 256;
-
-/// What a worker is shown of an input: items that the next takes are certain to give, side by side, or the first of them.
-#[derive(Clone, Copy)]
-pub enum Shown<'a> {
-    /// No item.
-    Nothing,
-    /// So many units.
-    Units(usize),
-    /// These truth values.
-    Flags(&'a [bool]),
-    /// These integers of 64 bits.
-    Ints(&'a [i64]),
-}
-
-impl<'a> Shown<'a> {
-    /// How many units it shows.
-    #[inline(always)]
-    pub fn units(self) -> usize
-        ensures { IsPrefix (unit_signals result) (shown_signals self.entry) }
-    {
-        match self {
-            Shown::Units(count) => count,
-            _ => 0,
-        }
-    }
-
-    /// The truth values that it shows.
-    #[inline(always)]
-    pub fn flags(self) -> &'a [bool]
-        ensures { IsPrefix (flag_signals result.now) (shown_signals self.entry) }
-    {
-        match self {
-            Shown::Flags(flags) => flags,
-            _ => &[],
-        }
-    }
-
-    /// The integers that it shows.
-    #[inline(always)]
-    pub fn ints(self) -> &'a [i64]
-        ensures { IsPrefix (int_signals result.now) (shown_signals self.entry) }
-    {
-        match self {
-            Shown::Ints(ints) => ints,
-            _ => &[],
-        }
-    }
-}
 
 /// Where a worker puts what it writes. Each output gets what is there of its kind. It is lent, and what it held before is
 /// nobody's.
@@ -118,36 +70,17 @@ impl Moved {
     }
 }
 
-// What these ends show of an edge with items of this kind.
+// What these ends show of this port, where there is such a port.
 #[inline(always)]
-fn shown_on<E: Ends>(ends: &E, edge: usize, kind: Kind) -> Shown<'_>
-    requires { (E.view ends.now).reads edge ≡ true }
-    ensures { IsPrefix (shown_signals result) ((E.view ends.now).coming edge) }
-{
-    match kind {
-        Kind::Unit => Shown::Units(ends.units(edge)),
-        Kind::Bool => Shown::Flags(ends.flags(edge)),
-        Kind::Int => Shown::Ints(ends.ints(edge)),
-        Kind::Vec => Shown::Nothing,
-    }
-}
-
-// What these ends show of this port, with items of this kind, where there is such a port.
-#[inline(always)]
-pub(crate) fn shown_at<'e, E: Ends>(
-    ends: &'e E,
-    inputs: &[usize],
-    port: usize,
-    kind: Kind,
-) -> Shown<'e>
+pub(crate) fn shown_at<'e, E: Ends>(ends: &'e E, inputs: &[usize], port: usize) -> Items<'e>
     requires { All (λ e. (E.view ends.now).reads e ≡ true) inputs.now }
-    ensures shown { IsPrefix (shown_signals result) (coming_at (E.view ends.now) inputs.now port) }
-    ensures none { length inputs.now ≤ port → shown_signals result ≡ [] }
+    ensures shown { IsPrefix (item_signals result) (coming_at (E.view ends.now) inputs.now port) }
+    ensures none { length inputs.now ≤ port → item_signals result ≡ [] }
 {
     if port >= inputs.len() {
-        return Shown::Nothing;
+        return Items::Nothing;
     }
-    shown_on(ends, inputs[port], kind)
+    ends.shown(inputs[port])
 }
 
 // Takes so many of the messages that are certain at this port, and drops them.
@@ -175,9 +108,9 @@ fn put_on<E: Ends>(ends: &mut E, edge: usize, kind: Kind, block: &Written, moved
     ensures put { PutFrom block.now moved kind edge (E.view ends.old) (E.view ends.new) }
 {
     match kind {
-        Kind::Unit => ends.put_units(edge, moved.units),
-        Kind::Bool => ends.put_flags(edge, &block.flags[..moved.flags]),
-        Kind::Int => ends.put_ints(edge, &block.ints[..moved.ints]),
+        Kind::Unit => ends.put_all(edge, Items::Units(moved.units)),
+        Kind::Bool => ends.put_all(edge, Items::Flags(&block.flags[..moved.flags])),
+        Kind::Int => ends.put_all(edge, Items::Ints(&block.ints[..moved.ints])),
         Kind::Vec => {}
     }
 }

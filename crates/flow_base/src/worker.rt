@@ -3,8 +3,8 @@
 ghost use Rattle.std.specs.Prelude.{◌≡◌, false, IfOk, OnErr, IsOk};
 ghost use Rattle.flow_base.specs.Computed.{ComputesRow};
 
-use crate::slices::{Moved, Shown, Written};
-use flow_messages::{Ends, Flat, Item, Kind};
+use crate::slices::{Moved, Written};
+use flow_messages::{Ends, Flat, Item, Items, Kind};
 use snesl_data::FaultKind;
 use std::alloc::AllocError;
 
@@ -151,8 +151,8 @@ pub trait Worker {
     /// It reads only items that it goes on with: a fault and a want of memory are left to single steps.
     fn along(
         &mut self,
-        first: Shown<'_>,
-        second: Shown<'_>,
+        first: Items<'_>,
+        second: Items<'_>,
         block: &mut Written,
         space: usize,
         most: usize,

@@ -6,7 +6,7 @@ ghost use Rattle.flow_boxes.specs.Rounds.{KeepsRound, HasNone, OpensWriter, Open
 use crate::boxes::Boxes;
 use crate::inbox::Inbox;
 use crate::outbox::Outbox;
-use flow_messages::{CountedEnds, Ends, Kind, Msg, Refused};
+use flow_messages::{CountedEnds, Ends, Items, Kind, Msg, Refused};
 use std::alloc::{AllocError, Global};
 
 impl Boxes {
@@ -136,25 +136,9 @@ impl Ends for Boxes {
     }
 
     #[inline(always)]
-    fn units(&self, edge: usize) -> usize {
+    fn shown(&self, edge: usize) -> Items<'_> {
         match &self.inboxes[edge] {
-            Some(inbox) => inbox.store.units(),
-            None => unreachable!(),
-        }
-    }
-
-    #[inline(always)]
-    fn flags(&self, edge: usize) -> &[bool] {
-        match &self.inboxes[edge] {
-            Some(inbox) => inbox.store.flags(),
-            None => unreachable!(),
-        }
-    }
-
-    #[inline(always)]
-    fn ints(&self, edge: usize) -> &[i64] {
-        match &self.inboxes[edge] {
-            Some(inbox) => inbox.store.ints(),
+            Some(inbox) => inbox.store.shown(),
             None => unreachable!(),
         }
     }
@@ -168,25 +152,9 @@ impl Ends for Boxes {
     }
 
     #[inline(always)]
-    fn put_units(&mut self, edge: usize, count: usize) {
+    fn put_all(&mut self, edge: usize, items: Items<'_>) {
         match &mut self.outboxes[edge] {
-            Some(outbox) => outbox.put_units(count),
-            None => unreachable!(),
-        }
-    }
-
-    #[inline(always)]
-    fn put_flags(&mut self, edge: usize, flags: &[bool]) {
-        match &mut self.outboxes[edge] {
-            Some(outbox) => outbox.put_flags(flags),
-            None => unreachable!(),
-        }
-    }
-
-    #[inline(always)]
-    fn put_ints(&mut self, edge: usize, ints: &[i64]) {
-        match &mut self.outboxes[edge] {
-            Some(outbox) => outbox.put_ints(ints),
+            Some(outbox) => outbox.put_all(items),
             None => unreachable!(),
         }
     }

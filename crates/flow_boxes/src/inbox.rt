@@ -1,12 +1,12 @@
 // The reader's box of an edge.
 ghost use Rattle.std.specs.Prelude.{◌≡◌, ◌+◌, ◌<◌, ◌≤◌, [], ◌∷◌, ◌++◌, length, IfOk, IfSome, IfNone};
 ghost use Rattle.std.specs.Io.Iter.{u64_saturate};
-ghost use Rattle.flow_messages.specs.Stores.{content_of};
+ghost use Rattle.flow_messages.specs.Stores.{content_of, StoreHasRoomFor};
 ghost use Rattle.flow_messages.specs.Lines.{gone};
-ghost use Rattle.flow_messages.specs.Contents.{unit_messages, flag_messages, int_messages};
+ghost use Rattle.flow_messages.specs.Contents.{item_messages};
 
-use flow_history::History;
-use flow_messages::{Msg, Store, with_flags, with_ints, with_units};
+use flow_messages::history::History;
+use flow_messages::{Items, Msg, Store, with_items};
 use std::alloc::{AllocError, Global};
 use std::mem::replace;
 
@@ -52,36 +52,14 @@ impl Inbox {
         self.arrived = arrived;
     }
 
-    /// Holds so many units more, after all others.
+    /// Holds these items more, after all others.
     #[inline(always)]
-    pub fn push_units(&mut self, count: usize)
-        requires { length (content_of self.old.store) + count ≤ self.old.store.capacity }
-        ensures { HasCome (unit_messages count) self.old self.new }
+    pub fn push_all(&mut self, items: Items<'_>)
+        requires { StoreHasRoomFor self.old.store items }
+        ensures { HasCome (item_messages items.entry) self.old self.new }
     {
-        self.arrived = with_units(replace(&mut self.arrived, History::new()), count);
-        self.store.put_units(count);
-    }
-
-    /// Holds these truth values more, after all others.
-    #[inline(always)]
-    pub fn push_flags(&mut self, flags: &[bool])
-        requires { length (content_of self.old.store) + length flags.now ≤
-            self.old.store.capacity }
-        ensures { HasCome (flag_messages flags.now) self.old self.new }
-    {
-        self.arrived = with_flags(replace(&mut self.arrived, History::new()), flags);
-        self.store.put_flags(flags);
-    }
-
-    /// Holds these integers more, after all others.
-    #[inline(always)]
-    pub fn push_ints(&mut self, ints: &[i64])
-        requires { length (content_of self.old.store) + length ints.now ≤
-            self.old.store.capacity }
-        ensures { HasCome (int_messages ints.now) self.old self.new }
-    {
-        self.arrived = with_ints(replace(&mut self.arrived, History::new()), ints);
-        self.store.put_ints(ints);
+        self.arrived = with_items(replace(&mut self.arrived, History::new()), items);
+        self.store.put_all(items);
     }
 
     /// Takes the oldest message.

@@ -3,12 +3,12 @@ ghost use Rattle.std.specs.Prelude.{◌≡◌, ◌+◌, ◌<◌, ◌≤◌, ◌�
 ghost use Rattle.std.specs.Io.Iter.{u64_saturate};
 ghost use Rattle.flow_messages.specs.Signals.{signals, ended, orderly, has_end};
 ghost use Rattle.flow_messages.specs.Stores.{content_of};
-ghost use Rattle.flow_messages.specs.Contents.{unit_messages, flag_messages, int_messages};
+ghost use Rattle.flow_messages.specs.Contents.{item_messages};
 ghost use Rattle.flow_messages.specs.declared.ends.Why.TheVariants.{Full, Closed};
 
 use crate::inbox::Inbox;
-use flow_history::History;
-use flow_messages::{Msg, Refused, Store, Why, with_flags, with_ints, with_units};
+use flow_messages::history::History;
+use flow_messages::{Items, Msg, Refused, Store, Why, with_items};
 use std::alloc::{AllocError, Global};
 use std::mem::{replace, swap};
 
@@ -101,52 +101,20 @@ impl Outbox {
         self.closed
     }
 
-    /// Puts so many units after all others, unless `End` was put before.
+    /// Puts these items after all others, unless `End` was put before.
     #[inline(always)]
-    pub fn put_units(&mut self, count: usize)
-        requires { count ≤ self.old.room }
-        ensures put { PutsBlock (unit_messages count) self.old self.new }
+    pub fn put_all(&mut self, items: Items<'_>)
+        requires { length (item_messages items) ≤ self.old.room }
+        ensures put { PutsBlock (item_messages items.entry) self.old self.new }
     {
         if self.is_closed() {
             return;
         }
-        self.sent = with_units(replace(&mut self.sent, History::new()), count);
-        self.waiting = with_units(replace(&mut self.waiting, History::new()), count);
-        self.store.put_units(count);
-        self.room -= count;
-        self.put = self.put.saturating_add(count as u64);
-    }
-
-    /// Puts these truth values after all others, unless `End` was put before.
-    #[inline(always)]
-    pub fn put_flags(&mut self, flags: &[bool])
-        requires { length flags.now ≤ self.old.room }
-        ensures put { PutsBlock (flag_messages flags.now) self.old self.new }
-    {
-        if self.is_closed() {
-            return;
-        }
-        self.sent = with_flags(replace(&mut self.sent, History::new()), flags);
-        self.waiting = with_flags(replace(&mut self.waiting, History::new()), flags);
-        self.store.put_flags(flags);
-        self.room -= flags.len();
-        self.put = self.put.saturating_add(flags.len() as u64);
-    }
-
-    /// Puts these integers after all others, unless `End` was put before.
-    #[inline(always)]
-    pub fn put_ints(&mut self, ints: &[i64])
-        requires { length ints.now ≤ self.old.room }
-        ensures put { PutsBlock (int_messages ints.now) self.old self.new }
-    {
-        if self.is_closed() {
-            return;
-        }
-        self.sent = with_ints(replace(&mut self.sent, History::new()), ints);
-        self.waiting = with_ints(replace(&mut self.waiting, History::new()), ints);
-        self.store.put_ints(ints);
-        self.room -= ints.len();
-        self.put = self.put.saturating_add(ints.len() as u64);
+        self.sent = with_items(replace(&mut self.sent, History::new()), items);
+        self.waiting = with_items(replace(&mut self.waiting, History::new()), items);
+        self.store.put_all(items);
+        self.room -= items.len();
+        self.put = self.put.saturating_add(items.len() as u64);
     }
 
     /// Moves all messages to the reader's box, in order. What that box does not hold is then room.

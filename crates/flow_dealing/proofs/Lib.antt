@@ -1,3 +1,4 @@
+pub mod OfCut
 pub mod Lists
 pub mod Runs
 pub mod Work

@@ -2,7 +2,7 @@
 use Rattle.std.specs.Prelude.{◌≡◌, ℕ, ◌*◌, ◌&&◌, Bool, List, cond, length, nat_le, nat_lt}
 use Rattle.std.specs.List.{sum}
 use Rattle.std.specs.Io.Iter.{u64_saturate}
-use Rattle.flow_cut.specs.Loads.{IsDealing, greatest_load}
+use Rattle.flow_dealing.specs.cut.Loads.{IsDealing, greatest_load}
 use Rattle.flow_dealing.specs.declared.choice.Choice.{Choice}
 use Rattle.flow_dealing.specs.declared.tried.Tried.{Tried}
 
@@ -22,6 +22,10 @@ pays alone beside = is_sooner alone beside && nat_lt ten_milliseconds alone
 abbrev pub threads_for : (most alone two four : ℕ) → ℕ
 threads_for most alone two four =
     cond (nat_le 4 most && pays alone four && nat_lt four two) 4 (cond (nat_le 2 most && pays alone two) 2 1)
+
+-- the nodes that were tried have each a share, below the number of threads that are chosen
+abbrev pub DealsTried : Tried → Choice → Type 0
+DealsTried tried choice = IsDealing (length tried.rings.items) choice.threads choice.share.items
 
 -- The nodes are dealt so to so many threads, and the greatest load is foretold.
 pub record IsForetold (tried : Tried) (threads : ℕ) (share : List ℕ) (time : ℕ) : Type 0 where

@@ -1,3 +1,4 @@
+pub mod cut
 pub mod Choices
 pub mod Counts
 pub mod Weights

@@ -1,10 +1,10 @@
 // How many threads a graph is worth.
 ghost use Rattle.std.specs.Prelude.{◌≡◌, ◌<◌, ◌≤◌, ◌⊎◌, IfOk, length};
-ghost use Rattle.flow_cut.specs.Loads.{AreBetween, IsDealing};
-ghost use Rattle.flow_dealing.specs.Choices.{IsChosen, is_sooner, pays, threads_for};
+ghost use Rattle.flow_dealing.specs.cut.Loads.{AreBetween};
+ghost use Rattle.flow_dealing.specs.Choices.{DealsTried, IsChosen, is_sooner, pays, threads_for};
 
+use crate::cut::{by_turns, deal_by_cut, greatest_load};
 use crate::tried::{Tried, sum};
-use flow_cut::{by_turns, deal_by_cut, greatest_load};
 use std::alloc::{AllocError, Global};
 
 /// How long a run has to take in one thread so that threads are chosen: ten milliseconds, in picoseconds.
@@ -31,8 +31,7 @@ pub struct Choice {
 /// Its only error is that memory was refused.
 pub fn choose_threads(alloc: Global, tried: &Tried, most: usize) -> Result<Choice, AllocError>
     requires { AreBetween (length tried.now.rings.items) tried.now.links.items }
-    ensures dealing { IfOk result (λ choice.
-        IsDealing (length tried.now.rings.items) choice.threads choice.share.items) }
+    ensures dealing { IfOk result (DealsTried tried.now) }
     ensures few { IfOk result (λ choice. (choice.threads ≡ 1) ⊎ (choice.threads ≤ most)) }
     ensures chosen { IfOk result (IsChosen most tried.now) }
 {

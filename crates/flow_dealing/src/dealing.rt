@@ -1,17 +1,16 @@
 // Dealing by a trial.
 ghost use Rattle.std.specs.Prelude.{◌<◌, ◌≤◌, IfOk, length};
 ghost use Rattle.flow_messages.specs.Limits.{greatest_capacity};
-ghost use Rattle.flow_networks.specs.Graphs.{edges_of, states_of};
+ghost use Rattle.flow_networks.specs.Graphs.{states_of};
 ghost use Rattle.flow_networks.specs.Networks.{AreOpened};
 ghost use Rattle.flow_nodes.specs.StreamNodes.{node_behaviour};
-ghost use Rattle.flow_cut.specs.Loads.{IsDealing};
-ghost use Rattle.flow_dealing.specs.Weights.{IsWeighed};
+ghost use Rattle.flow_dealing.specs.Weights.{DealsNodes, IsWeighed};
 
+use crate::cut::{by_turns, deal_by_cut, greatest_load};
 use crate::prices::over_rings;
 use crate::trial::run_trial;
 use crate::tried::{SHORT, sum};
 use crate::weights::weights;
-use flow_cut::{by_turns, deal_by_cut, greatest_load};
 use flow_networks::Graph;
 use flow_nodes::StreamNode;
 use std::alloc::{AllocError, Global};
@@ -44,10 +43,8 @@ pub fn deal_by_trial(
     requires limit { capacity ≤ greatest_capacity }
     requires threads { 0 < threads }
     requires few { threads ≤ 256 }
-    ensures dealing { IfOk result
-        (λ dealing. IsDealing (length (states_of graph)) threads dealing.share.items) }
-    ensures weighed { IfOk result
-        (IsWeighed node_behaviour capacity threads (states_of graph) (edges_of graph)) }
+    ensures dealing { IfOk result (DealsNodes (length (states_of graph)) threads) }
+    ensures weighed { IfOk result (IsWeighed capacity threads graph) }
     ensures load { IfOk result (λ dealing. dealing.load ≤ dealing.by_turns) }
 {
     let mut graph = graph;

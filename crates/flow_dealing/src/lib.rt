@@ -2,6 +2,7 @@
 #![tactic(auto)]
 
 mod choice;
+pub mod cut;
 mod dealing;
 mod prices;
 mod trial;

@@ -4,9 +4,9 @@ ghost use Rattle.flow_messages.specs.Limits.{greatest_capacity};
 ghost use Rattle.flow_networks.specs.Graphs.{edges_of, states_of};
 ghost use Rattle.flow_networks.specs.MaximalRuns.{RunReaches};
 ghost use Rattle.flow_networks.specs.Networks.{AreOpened};
-ghost use Rattle.flow_networks.specs.Shapes.{IsSameNetwork, KeepsShape};
+ghost use Rattle.flow_networks.specs.Shapes.{KeepsShape};
 ghost use Rattle.flow_networks.specs.Visits.{HasAllEnds};
-ghost use Rattle.flow_dealing.specs.Counts.{AreOfARun};
+ghost use Rattle.flow_dealing.specs.Counts.{AreOfItsRun, MakesSameNetwork};
 
 use flow_base::Transducer;
 use flow_messages::{CountedEnds, Table, WholeEnds};
@@ -32,10 +32,8 @@ pub fn run_trial<T: Transducer>(
     requires opened { AreOpened T.behaviour (states_of graph.old) }
     requires some { 0 < capacity }
     requires limit { capacity ≤ greatest_capacity }
-    ensures network { IsSameNetwork T.behaviour (states_of graph.old) (edges_of graph.old)
-        (states_of graph.new) (edges_of graph.new) }
-    ensures counts { IfOk result (λ counts. AreOfARun T.behaviour capacity (states_of graph.old)
-        (edges_of graph.old) counts.items) }
+    ensures network { MakesSameNetwork graph.old graph.new }
+    ensures counts { IfOk result (λ counts. AreOfItsRun capacity graph.old counts.items) }
 {
     let mut ends = Table::new(alloc, graph.edges(), capacity)?;
     for _ in 0..MAX_PASSES {
@@ -54,10 +52,9 @@ pub fn run_trial<T: Transducer>(
 // Visits all nodes. Whether one made a step.
 fn pass<T: Transducer, E: WholeEnds>(graph: &mut Graph<T>, ends: &mut E) -> Result<bool, AllocError>
     requires ends { HasAllEnds (length (edges_of graph.old)) (E.view ends.old) }
-    requires reached { RunReaches (E.capacity ends.old) graph.old graph.old (E.view ends.old) }
+    requires run { RunReaches (E.capacity ends.old) graph.old graph.old (E.view ends.old) }
     ensures shape { KeepsShape E.same E.view graph.old ends.old graph.new ends.new }
-    ensures reached { OnOk result (RunReaches (E.capacity ends.old) graph.old graph.new
-        (E.view ends.new)) }
+    ensures run { OnOk result (RunReaches (E.capacity ends.old) graph.old graph.new (E.view ends.new)) }
 {
     let mut moved = false;
     for node in 0..graph.nodes() {

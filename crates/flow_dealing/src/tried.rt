@@ -3,16 +3,16 @@ ghost use Rattle.std.specs.Prelude.{◌≡◌, ◌<◌, ◌≤◌, IfOk, length}
 ghost use Rattle.std.specs.Io.Iter.{u64_saturate};
 ghost use Rattle.std.specs.List.{sum};
 ghost use Rattle.flow_messages.specs.Limits.{greatest_capacity};
-ghost use Rattle.flow_networks.specs.Graphs.{edges_of, states_of};
+ghost use Rattle.flow_networks.specs.Graphs.{states_of};
 ghost use Rattle.flow_networks.specs.Networks.{AreOpened};
 ghost use Rattle.flow_nodes.specs.StreamNodes.{node_behaviour};
-ghost use Rattle.flow_cut.specs.Loads.{AreBetween};
+ghost use Rattle.flow_dealing.specs.cut.Loads.{AreBetween};
 ghost use Rattle.flow_dealing.specs.Weights.{IsTrialOf};
 
+use crate::cut::Link;
 use crate::prices::{Driven, over_rings};
 use crate::trial::run_trial;
 use crate::weights::weights;
-use flow_cut::Link;
 use flow_networks::Graph;
 use flow_nodes::StreamNode;
 use std::alloc::{AllocError, Global};
@@ -46,8 +46,7 @@ pub fn try_out(
     requires opened { AreOpened node_behaviour (states_of graph) }
     requires some { 0 < capacity }
     requires limit { capacity ≤ greatest_capacity }
-    ensures found { IfOk result
-        (IsTrialOf node_behaviour capacity (states_of graph) (edges_of graph)) }
+    ensures found { IfOk result (IsTrialOf capacity graph) }
     ensures between { IfOk result (λ tried.
         AreBetween (length tried.rings.items) tried.links.items) }
 {

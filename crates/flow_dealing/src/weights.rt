@@ -2,12 +2,12 @@
 ghost use Rattle.std.specs.Prelude.{◌≡◌, ◌<◌, ◌≤◌, ℕ, IfOk, length, slice_index};
 ghost use Rattle.flow_networks.specs.Edges.{edge_at};
 ghost use Rattle.flow_networks.specs.Graphs.{edges_of, states_of};
-ghost use Rattle.flow_cut.specs.Loads.{AreBetween};
-ghost use Rattle.flow_dealing.specs.Weights.{CostFor, HaveWork, JoinAs};
+ghost use Rattle.flow_dealing.specs.cut.Loads.{AreBetween};
+ghost use Rattle.flow_dealing.specs.Weights.{AllHaveWork, CostFor, JoinAs};
 
+use crate::cut::Link;
 use crate::prices::{Driven, crossing_price, price};
 use flow_base::Transducer;
-use flow_cut::Link;
 use flow_messages::Kind;
 use flow_networks::{Edge, Graph, graph_is_a_network};
 use flow_nodes::StreamNode;
@@ -22,8 +22,7 @@ pub fn weights(
 ) -> Result<(Vec<u64>, Vec<Link>), AllocError>
     requires each { length counts.now ≡ length (edges_of graph.now) }
     ensures work { IfOk result (λ r. length r.0.items ≡ length (states_of graph.now)) }
-    ensures busy { IfOk result (λ r. (e : ℕ) → e < length (edges_of graph.now) →
-        HaveWork counts.now (edges_of graph.now) r.0.items e) }
+    ensures busy { IfOk result (λ r. AllHaveWork counts.now (edges_of graph.now) r.0.items) }
     ensures between { IfOk result (λ r. AreBetween (length (states_of graph.now)) r.1.items) }
     ensures joins { IfOk result (λ r. JoinAs (edges_of graph.now) r.1.items) }
     ensures costs { IfOk result (λ r. CostFor counts.now r.1.items) }

@@ -2,7 +2,7 @@
 ghost use Rattle.std.specs.Prelude.{◌≡◌, ◌↔◌, ◌⊎◌, Err, IfOk, IfErr};
 ghost use Rattle.flow_networks.specs.Graphs.{states_of};
 ghost use Rattle.flow_networks.specs.Networks.{AreOpened};
-ghost use Rattle.flow_meetings.specs.SharedNetworks.{AreFed};
+ghost use Rattle.flow_shares.specs.meetings.SharedNetworks.{AreFed};
 ghost use Rattle.flow_nodes.specs.StreamNodes.{node_behaviour};
 ghost use Rattle.flow_drives.specs.Configs.{IsLawful};
 ghost use Rattle.flow_drives.specs.Dealings.{AreDealtOverBoxes, AreDealtOverRings, AreSharesOf};
@@ -11,8 +11,8 @@ ghost use Rattle.flow_drives.specs.declared.driver.DriveError.TheVariants.{BadCo
 use crate::shares::Share;
 use flow_boxes::Boxes;
 use flow_drives::{Config, DriveError};
+use flow_edges::lanes::Rings;
 use flow_graph::Graph;
-use flow_lanes::Rings;
 use std::alloc::Global;
 
 /// Deals a graph, as it was built, out to shares over boxes: one share for each of the threads of the configuration, and

@@ -13,8 +13,8 @@ ghost use Rattle.flow_drives.specs.declared.driver.DriveError.TheVariants.{BadCo
 use crate::shares::Rested;
 use flow_boxes::Boxes;
 use flow_drives::{Config, DriveError};
+use flow_edges::lanes::Rings as RingEnds;
 use flow_graph::Graph;
-use flow_lanes::Rings as RingEnds;
 use flow_messages::Ends;
 use flow_shares::{Gate, Start};
 use std::alloc::Global;

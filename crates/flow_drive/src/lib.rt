@@ -18,15 +18,15 @@ pub use dealing::{deal, deal_rings};
 pub use driving::{drive, drive_with};
 pub use flow_base::Transducer;
 pub use flow_boxes::Boxes;
+pub use flow_drives::loops::epochs_are_few;
 pub use flow_drives::{
     Config, Drive, DriveError, MAX_CHUNK, MAX_IDLE_TURNS, MAX_SHARE, MAX_THREADS, epoch,
     epoch_with, runs_rest_alike,
 };
-pub use flow_history::History;
-pub use flow_lanes::Rings;
-pub use flow_meetings::are_fed;
+pub use flow_edges::lanes::Rings;
 pub use flow_messages::Ends;
-pub use flow_rounds::epochs_are_few;
+pub use flow_messages::history::History;
+pub use flow_shares::meetings::are_fed;
 pub use flow_shares::{AlwaysStart, Gate, Lender, MAX_TURNS, NoGate, Start, WorkError};
 pub use kahn::Outcome;
 pub use pumping::pump;

@@ -17,18 +17,18 @@ use Rattle.flow_networks.specs.Networks.{state_at, configuration_of}
 use Rattle.flow_networks.specs.Places.{placed_state, states_in}
 use Rattle.flow_networks.specs.Shapes.{IsSameNetwork}
 use Rattle.flow_networks.proofs.Reached.{same_length, same_network, built_openings}
-use Rattle.flow_lanes.specs.declared.rings.Rings.{Rings}
-use Rattle.flow_lanes.specs.Rings.{ends_of}
+use Rattle.flow_edges.specs.declared.lanes.rings.Rings.{Rings}
+use Rattle.flow_edges.specs.lanes.Rings.{ends_of}
 use Rattle.flow_shares.specs.Deals.{share_of, AreDealt}
 use Rattle.flow_shares.specs.declared.share.Share.{Share}
-use Rattle.flow_meetings.specs.Joints.{nodes_at, no_ends, AreStates}
-use Rattle.flow_meetings.proofs.Parts.{any_of}
-use Rattle.flow_meetings.specs.Deals.{nodes_in, ends_in}
-use Rattle.flow_meetings.specs.SharedNetworks.{SharedNetwork, view_at, moves_by, AreFed}
-use Rattle.flow_meetings.proofs.Lists.{mapped_twice}
-use Rattle.flow_rounds.specs.Epochs.{AreOfOneGraph, SharesHaveMet, StandSound, StandAtRest}
-use Rattle.flow_rounds.proofs.EpochGathers.{HaveRested, have_rested}
-use Rattle.flow_rounds.proofs.ShareLists.{ends_are}
+use Rattle.flow_shares.specs.meetings.Joints.{nodes_at, no_ends, AreStates}
+use Rattle.flow_shares.proofs.OfMeetings.Parts.{any_of}
+use Rattle.flow_shares.specs.meetings.Deals.{nodes_in, ends_in}
+use Rattle.flow_shares.specs.meetings.SharedNetworks.{SharedNetwork, view_at, moves_by, AreFed}
+use Rattle.flow_shares.proofs.OfMeetings.Lists.{mapped_twice}
+use Rattle.flow_drives.specs.loops.Epochs.{AreOfOneGraph, SharesHaveMet, StandSound, StandAtRest}
+use Rattle.flow_drives.proofs.OfLoops.EpochGathers.{HaveRested, have_rested}
+use Rattle.flow_drives.proofs.OfLoops.ShareLists.{ends_are}
 use Rattle.flow_drives.specs.Apart.{AreItsPlaces, AreThePlaces, HavePlaces, state_in_place, states_in_places, states_apart, traffic_apart, RestApart}
 use Rattle.flow_drives.specs.Edges.{seen_by, moves_over}
 use Rattle.flow_drives.proofs.Gathered.{of_lines}

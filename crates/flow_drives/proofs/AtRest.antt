@@ -11,9 +11,9 @@ use Rattle.flow_networks.specs.Graphs.{edges_of}
 use Rattle.flow_networks.specs.Skeletons.{edges_in}
 use Rattle.flow_networks.specs.Networks.{network_of}
 use Rattle.flow_networks.proofs.Nets.{graph_wired}
-use Rattle.flow_lanes.specs.Rings.{ends_of}
-use Rattle.flow_meetings.specs.RingMeetings.{RingsJoin}
-use Rattle.flow_meetings.specs.Deals.{nodes_in, ends_in}
+use Rattle.flow_edges.specs.lanes.Rings.{ends_of}
+use Rattle.flow_shares.specs.meetings.RingMeetings.{RingsJoin}
+use Rattle.flow_shares.specs.meetings.Deals.{nodes_in, ends_in}
 use Rattle.flow_drives.specs.declared.parts.Parts.{Parts}
 use Rattle.flow_drives.specs.declared.parts.Parts.TheVariants.{Together, Apart}
 use Rattle.flow_drives.specs.declared.rested.Rested.{Rested}

@@ -3,8 +3,8 @@ use Rattle.std.proofs.Common.{ℕ}
 use Rattle.flow_messages.specs.declared.ends.Ends.{Ghosts as EndsGhosts}
 use Rattle.flow_base.specs.declared.transducer.Transducer.{Ghosts}
 use Rattle.flow_networks.specs.declared.graph.Graph.{Graph}
-use Rattle.flow_meetings.specs.declared.dealt.Dealt.{Dealt}
-use Rattle.flow_meetings.specs.SharedNetworks.{AreFed}
+use Rattle.flow_shares.specs.declared.meetings.dealt.Dealt.{Dealt}
+use Rattle.flow_shares.specs.meetings.SharedNetworks.{AreFed}
 use Rattle.flow_drives.specs.declared.config.Config.{Config}
 use Rattle.flow_drives.specs.Configs.{IsLawful}
 use Rattle.flow_drives.specs.Dealings.{IsDealtUnder, AreDealtOut}

@@ -10,14 +10,14 @@ use Rattle.flow_networks.specs.declared.placed.Placed.{Placed}
 use Rattle.flow_networks.specs.Edges.{edge_at}
 use Rattle.flow_networks.specs.Networks.{state_at}
 use Rattle.flow_networks.specs.Places.{placed_state}
-use Rattle.flow_lanes.specs.declared.rings.Rings.{Rings}
-use Rattle.flow_lanes.specs.Rings.{ends_of}
-use Rattle.flow_meetings.specs.RingMeetings.{RingsJoin, rings_join_ends}
+use Rattle.flow_edges.specs.declared.lanes.rings.Rings.{Rings}
+use Rattle.flow_edges.specs.lanes.Rings.{ends_of}
+use Rattle.flow_shares.specs.meetings.RingMeetings.{RingsJoin, rings_join_ends}
 use Rattle.flow_shares.specs.Deals.{share_of}
 use Rattle.flow_shares.specs.declared.share.Share.{Share}
-use Rattle.flow_meetings.specs.Joints.{nodes_at}
-use Rattle.flow_meetings.specs.Deals.{nodes_in, ends_in}
-use Rattle.flow_rounds.proofs.ShareLists.{count_dealt, count_ends}
+use Rattle.flow_shares.specs.meetings.Joints.{nodes_at}
+use Rattle.flow_shares.specs.meetings.Deals.{nodes_in, ends_in}
+use Rattle.flow_drives.proofs.OfLoops.ShareLists.{count_dealt, count_ends}
 use Rattle.flow_drives.specs.Apart.{states_apart, traffic_apart, RestApart}
 use Rattle.flow_drives.proofs.Apart.{state_found, ends_found}
 use Rattle.flow_drives.proofs.Holding.{ends_there, sent_counted, received_counted}

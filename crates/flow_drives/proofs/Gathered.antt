@@ -15,14 +15,14 @@ use Rattle.flow_networks.specs.Shapes.{IsSameNetwork}
 use Rattle.flow_boxes.specs.declared.boxes.Boxes.{Boxes}
 use Rattle.flow_boxes.specs.Contents.{Contents, contents, view_of}
 use Rattle.flow_boxes.specs.Rounds.{IsLinked}
-use Rattle.flow_meetings.specs.BoxMeetings.{BoxesJoin}
+use Rattle.flow_shares.specs.meetings.BoxMeetings.{BoxesJoin}
 use Rattle.flow_shares.specs.Deals.{share_of}
-use Rattle.flow_meetings.specs.Joints.{no_contents, boxes_at, views_of, writer_boxes, end_view, BoxesHaveMet}
-use Rattle.flow_meetings.specs.EndTheorems.{EdgesHaveMet}
-use Rattle.flow_meetings.specs.SharedNetworks.{SharedNetwork, moves_by}
-use Rattle.flow_meetings.proofs.Calm.{all_met}
-use Rattle.flow_rounds.specs.Standing.{boxes_seen}
-use Rattle.flow_rounds.proofs.RoundGathers.{HaveComeToRest}
+use Rattle.flow_shares.specs.meetings.Joints.{no_contents, boxes_at, views_of, writer_boxes, end_view, BoxesHaveMet}
+use Rattle.flow_shares.specs.meetings.EndTheorems.{EdgesHaveMet}
+use Rattle.flow_shares.specs.meetings.SharedNetworks.{SharedNetwork, moves_by}
+use Rattle.flow_shares.proofs.OfMeetings.Calm.{all_met}
+use Rattle.flow_drives.specs.loops.Standing.{boxes_seen}
+use Rattle.flow_drives.proofs.OfLoops.RoundGathers.{HaveComeToRest}
 use Rattle.flow_drives.specs.declared.all_ends.SharedEnds.{SharedEnds}
 use Rattle.flow_drives.specs.declared.all_ends.AllEnds.{AllEnds}
 use Rattle.flow_drives.specs.declared.all_ends.AllEnds.TheVariants.{Whole, Shared}

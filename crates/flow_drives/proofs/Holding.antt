@@ -15,10 +15,10 @@ use Rattle.flow_networks.specs.declared.edge.Edge.{Edge}
 use Rattle.flow_networks.specs.Edges.{edge_at}
 use Rattle.flow_boxes.specs.Contents.{view_of}
 use Rattle.flow_shares.specs.Deals.{share_of}
-use Rattle.flow_meetings.specs.Joints.{no_ends}
-use Rattle.flow_meetings.specs.EndTheorems.{EdgesHaveMet}
-use Rattle.flow_meetings.proofs.Parts.{any_of}
-use Rattle.flow_meetings.proofs.Views.{sent_at, received_at, none_sent}
+use Rattle.flow_shares.specs.meetings.Joints.{no_ends}
+use Rattle.flow_shares.specs.meetings.EndTheorems.{EdgesHaveMet}
+use Rattle.flow_shares.proofs.OfMeetings.Parts.{any_of}
+use Rattle.flow_shares.proofs.OfMeetings.Views.{sent_at, received_at, none_sent}
 use Rattle.flow_drives.specs.declared.all_ends.AllEnds.{AllEnds}
 use Rattle.flow_drives.specs.declared.all_ends.AllEnds.TheVariants.{Whole, Shared}
 use Rattle.flow_drives.specs.Edges.{seen_by, traffic_by, AreJoined, traffic_in, capacity_in, AreThere}

@@ -7,15 +7,15 @@ use Rattle.flow_networks.specs.Graphs.{states_of, edges_of}
 use Rattle.flow_networks.specs.Places.{states_in}
 use Rattle.flow_networks.specs.Shapes.{IsSameNetwork}
 use Rattle.flow_boxes.specs.declared.boxes.Boxes.{Boxes}
-use Rattle.flow_lanes.specs.declared.rings.Rings.{Rings}
+use Rattle.flow_edges.specs.declared.lanes.rings.Rings.{Rings}
 use Rattle.flow_shares.specs.Deals.{AreDealt}
 use Rattle.flow_shares.specs.declared.share.Share.{Share}
-use Rattle.flow_meetings.specs.BoxMeetings.{BoxesJoin, box_slots}
-use Rattle.flow_meetings.specs.RingMeetings.{RingsJoin, ring_slots}
-use Rattle.flow_meetings.specs.Deals.{nodes_in, IsDealt}
-use Rattle.flow_meetings.specs.Joints.{AreStates}
-use Rattle.flow_meetings.specs.SharedNetworks.{SharedNetwork, shared_network}
-use Rattle.flow_meetings.specs.declared.dealt.Dealt.{Dealt}
+use Rattle.flow_shares.specs.meetings.BoxMeetings.{BoxesJoin, box_slots}
+use Rattle.flow_shares.specs.meetings.RingMeetings.{RingsJoin, ring_slots}
+use Rattle.flow_shares.specs.meetings.Deals.{nodes_in, IsDealt}
+use Rattle.flow_shares.specs.meetings.Joints.{AreStates}
+use Rattle.flow_shares.specs.meetings.SharedNetworks.{SharedNetwork, shared_network}
+use Rattle.flow_shares.specs.declared.meetings.dealt.Dealt.{Dealt}
 use Rattle.flow_drives.specs.declared.all_ends.SharedEnds.{SharedEnds}
 use Rattle.flow_drives.specs.declared.config.Config.{Config}
 use Rattle.flow_drives.specs.declared.rested.Rested.{Rested}

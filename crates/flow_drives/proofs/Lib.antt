@@ -1,3 +1,4 @@
+pub mod OfLoops
 pub mod Refused
 pub mod Rests
 pub mod Texts

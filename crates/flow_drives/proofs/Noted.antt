@@ -8,11 +8,11 @@ use Rattle.flow_networks.specs.declared.placed.Placed.{Placed}
 use Rattle.flow_networks.specs.Skeletons.{FitTogether}
 use Rattle.flow_shares.specs.Deals.{share_of, AreDealt}
 use Rattle.flow_shares.specs.declared.share.Share.{Share}
-use Rattle.flow_meetings.specs.Joints.{nodes_at}
-use Rattle.flow_meetings.proofs.Seats.{number_is}
-use Rattle.flow_meetings.specs.Deals.{nodes_in}
-use Rattle.flow_meetings.specs.SharedNetworks.{SharedNetwork}
-use Rattle.flow_rounds.proofs.ShareLists.{count_dealt, nodes_are}
+use Rattle.flow_shares.specs.meetings.Joints.{nodes_at}
+use Rattle.flow_shares.proofs.OfMeetings.Seats.{number_is}
+use Rattle.flow_shares.specs.meetings.Deals.{nodes_in}
+use Rattle.flow_shares.specs.meetings.SharedNetworks.{SharedNetwork}
+use Rattle.flow_drives.proofs.OfLoops.ShareLists.{count_dealt, nodes_are}
 use Rattle.flow_drives.specs.Apart.{AreItsPlaces}
 
 -- the nodes of a share that was found

@@ -1,12 +1,7 @@
 -- What a result says of a configuration that is lawful.
-use Rattle.std.proofs.Common.{◌≡◌, ◌↔◌, Result, Ok, Err, IfOk, IsErrAnd}
+use Rattle.std.proofs.Common.{◌≡◌, ◌↔◌, Result, Ok, Err, IsErrAnd}
 use Rattle.flow_drives.specs.declared.driver.DriveError.{DriveError}
 use Rattle.flow_drives.specs.declared.driver.DriveError.TheVariants.{BadConfig}
-
--- a refusal promises nothing of what is made
-pub nothing_made : {A E : Type 0} (r : Result A E) (Is : E → Type 0) (P : A → Type 0) → IsErrAnd r Is → IfOk r P
-nothing_made (Ok x) Is P h = absurd h
-nothing_made (Err e) Is P h = tt
 
 module _ {A : Type 0} where
   is_refused : (r : Result A DriveError) (e f : DriveError) → IsErrAnd r (λ g. g ≡ e) → r ≡ Err f → e ≡ f

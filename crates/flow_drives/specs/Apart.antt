@@ -11,14 +11,14 @@ use Rattle.flow_networks.specs.Kept.{IsBuilt}
 use Rattle.flow_networks.specs.Skeletons.{FitTogether}
 use Rattle.flow_networks.specs.Networks.{state_at}
 use Rattle.flow_networks.specs.Places.{states_in}
-use Rattle.flow_lanes.specs.declared.rings.Rings.{Rings}
-use Rattle.flow_lanes.specs.Rings.{ends_of}
-use Rattle.flow_meetings.specs.RingMeetings.{RingsJoin, ring_slots}
+use Rattle.flow_edges.specs.declared.lanes.rings.Rings.{Rings}
+use Rattle.flow_edges.specs.lanes.Rings.{ends_of}
+use Rattle.flow_shares.specs.meetings.RingMeetings.{RingsJoin, ring_slots}
 use Rattle.flow_shares.specs.Deals.{share_of, AreDealt}
 use Rattle.flow_shares.specs.declared.share.Share.{Share}
-use Rattle.flow_meetings.specs.Joints.{nodes_at, AreStates}
-use Rattle.flow_meetings.specs.Deals.{nodes_in, ends_in}
-use Rattle.flow_meetings.specs.SharedNetworks.{SharedNetwork, AreFed}
+use Rattle.flow_shares.specs.meetings.Joints.{nodes_at, AreStates}
+use Rattle.flow_shares.specs.meetings.Deals.{nodes_in, ends_in}
+use Rattle.flow_shares.specs.meetings.SharedNetworks.{SharedNetwork, AreFed}
 use Rattle.flow_drives.specs.Drives.{IsSoundAt, RestsAt}
 use Rattle.flow_drives.specs.Edges.{traffic_by, AreJoined}
 

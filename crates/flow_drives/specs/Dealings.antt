@@ -6,17 +6,17 @@ use Rattle.flow_networks.specs.declared.graph.Graph.{Graph}
 use Rattle.flow_networks.specs.Graphs.{states_of, edges_of}
 use Rattle.flow_networks.specs.Skeletons.{nodes_of}
 use Rattle.flow_boxes.specs.declared.boxes.Boxes.{Boxes}
-use Rattle.flow_lanes.specs.declared.rings.Rings.{Rings}
-use Rattle.flow_meetings.specs.declared.owners.EdgeOwners.{EdgeOwners}
-use Rattle.flow_meetings.specs.BoxMeetings.{BoxesJoin, box_slots}
-use Rattle.flow_meetings.specs.RingMeetings.{RingsJoin, ring_slots}
+use Rattle.flow_edges.specs.declared.lanes.rings.Rings.{Rings}
+use Rattle.flow_shares.specs.declared.meetings.owners.EdgeOwners.{EdgeOwners}
+use Rattle.flow_shares.specs.meetings.BoxMeetings.{BoxesJoin, box_slots}
+use Rattle.flow_shares.specs.meetings.RingMeetings.{RingsJoin, ring_slots}
 use Rattle.flow_shares.specs.Deals.{AreJustDealt}
 use Rattle.flow_shares.specs.declared.share.Share.{Share}
-use Rattle.flow_meetings.specs.Open.{edge_kinds, AreOwners, AreFreshEnds}
-use Rattle.flow_meetings.specs.declared.dealt.Dealt.{Dealt}
-use Rattle.flow_meetings.specs.Deals.{nodes_in, ends_in, AreNew, IsDealt}
-use Rattle.flow_meetings.specs.SharedNetworks.{SharedNetwork, shared_network}
-use Rattle.flow_rounds.specs.Epochs.{AreOfOneGraph}
+use Rattle.flow_shares.specs.meetings.Open.{edge_kinds, AreOwners, AreFreshEnds}
+use Rattle.flow_shares.specs.declared.meetings.dealt.Dealt.{Dealt}
+use Rattle.flow_shares.specs.meetings.Deals.{nodes_in, ends_in, AreNew, IsDealt}
+use Rattle.flow_shares.specs.meetings.SharedNetworks.{SharedNetwork, shared_network}
+use Rattle.flow_drives.specs.loops.Epochs.{AreOfOneGraph}
 use Rattle.flow_drives.specs.Configs.{IsLawful}
 use Rattle.flow_drives.specs.declared.config.Config.{Config}
 

@@ -2,13 +2,13 @@
 use Rattle.std.specs.Prelude.{◌≡◌}
 use Rattle.flow_messages.specs.declared.ends.Ends.{Ghosts as EndsGhosts}
 use Rattle.flow_boxes.specs.declared.boxes.Boxes.{Boxes}
-use Rattle.flow_lanes.specs.declared.rings.Rings.{Rings as RingEnds}
+use Rattle.flow_edges.specs.declared.lanes.rings.Rings.{Rings as RingEnds}
 use Rattle.flow_base.specs.declared.transducer.Transducer.{Ghosts}
 use Rattle.flow_networks.specs.declared.graph.Graph.{Graph}
 use Rattle.flow_networks.specs.Graphs.{states_of, edges_of}
 use Rattle.flow_networks.specs.Places.{states_in}
 use Rattle.flow_networks.specs.Shapes.{IsSameNetwork}
-use Rattle.flow_meetings.specs.SharedNetworks.{SharedNetwork}
+use Rattle.flow_shares.specs.meetings.SharedNetworks.{SharedNetwork}
 use Rattle.flow_drives.specs.declared.config.Config.{Config}
 use Rattle.flow_drives.specs.declared.config.Drive.{Drive}
 use Rattle.flow_drives.specs.declared.rested.Rested.{Rested}

@@ -9,10 +9,10 @@ use Rattle.flow_networks.specs.Edges.{edge_at}
 use Rattle.flow_networks.specs.Visits.{HasAllEnds}
 use Rattle.flow_boxes.specs.declared.boxes.Boxes.{Boxes}
 use Rattle.flow_boxes.specs.Contents.{view_of}
-use Rattle.flow_meetings.specs.BoxMeetings.{BoxesJoin}
+use Rattle.flow_shares.specs.meetings.BoxMeetings.{BoxesJoin}
 use Rattle.flow_shares.specs.Deals.{share_of}
-use Rattle.flow_meetings.specs.Joints.{no_ends, end_view}
-use Rattle.flow_meetings.specs.EndTheorems.{EdgesHaveMet}
+use Rattle.flow_shares.specs.meetings.Joints.{no_ends, end_view}
+use Rattle.flow_shares.specs.meetings.EndTheorems.{EdgesHaveMet}
 use Rattle.flow_drives.specs.declared.all_ends.AllEnds.{AllEnds}
 use Rattle.flow_drives.specs.declared.all_ends.AllEnds.TheVariants.{Whole, Shared}
 use Rattle.flow_drives.specs.declared.all_ends.SharedEnds.{SharedEnds}

@@ -3,14 +3,14 @@ use Rattle.std.specs.Prelude.{◌≡◌, List}
 use Rattle.flow_messages.specs.declared.ends.Ends.{Ghosts as EndsGhosts}
 use Rattle.flow_boxes.specs.Contents.{view_of}
 use Rattle.flow_boxes.specs.declared.boxes.Boxes.{Boxes}
-use Rattle.flow_lanes.specs.declared.rings.Rings.{Rings as RingEnds}
+use Rattle.flow_edges.specs.declared.lanes.rings.Rings.{Rings as RingEnds}
 use Rattle.flow_base.specs.declared.transducer.Transducer.{Ghosts}
 use Rattle.flow_networks.specs.declared.graph.Graph.{Graph}
 use Rattle.flow_shares.specs.declared.share.Share.{Share}
-use Rattle.flow_meetings.specs.Deals.{nodes_in, ends_in}
-use Rattle.flow_meetings.specs.SharedNetworks.{SharedNetwork}
-use Rattle.flow_rounds.specs.Rounds.{RoundsLead}
-use Rattle.flow_rounds.specs.Few.{EpochsLead}
+use Rattle.flow_shares.specs.meetings.Deals.{nodes_in, ends_in}
+use Rattle.flow_shares.specs.meetings.SharedNetworks.{SharedNetwork}
+use Rattle.flow_drives.specs.loops.Rounds.{RoundsLead}
+use Rattle.flow_drives.specs.loops.Few.{EpochsLead}
 use Rattle.flow_drives.specs.declared.config.Config.{Config}
 use Rattle.flow_drives.specs.declared.config.Drive.{Drive}
 use Rattle.flow_drives.specs.declared.config.Drive.TheVariants.{Serial, Rounds, Rings}

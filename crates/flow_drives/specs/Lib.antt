@@ -1,3 +1,4 @@
+pub mod loops
 pub mod Limits
 pub mod Configs
 pub mod Drives
@@ -31,13 +32,13 @@ pub use Rattle.flow_networks.specs.MaximalRuns
 pub use Rattle.flow_networks.specs.Networks
 pub use Rattle.flow_networks.specs.Shapes
 -- of shares, and of the ends that they have
-pub use Rattle.flow_lanes.specs.declared.rings.Rings as RingEnds
-pub use Rattle.flow_lanes.specs.Rings
+pub use Rattle.flow_edges.specs.declared.lanes.rings.Rings as RingEnds
+pub use Rattle.flow_edges.specs.lanes.Rings
 pub use Rattle.flow_boxes.specs.declared.boxes.Boxes
-pub use Rattle.flow_meetings.specs.declared.owners.EdgeOwners
-pub use Rattle.flow_meetings.specs.BoxMeetings
-pub use Rattle.flow_meetings.specs.Met
-pub use Rattle.flow_meetings.specs.RingMeetings
+pub use Rattle.flow_shares.specs.declared.meetings.owners.EdgeOwners
+pub use Rattle.flow_shares.specs.meetings.BoxMeetings
+pub use Rattle.flow_shares.specs.meetings.Met
+pub use Rattle.flow_shares.specs.meetings.RingMeetings
 pub use Rattle.flow_shares.specs.Deals
 pub use Rattle.flow_shares.specs.declared.share.Share
 pub use Rattle.flow_shares.specs.Lending
@@ -45,14 +46,15 @@ pub use Rattle.flow_shares.specs.Looks
 pub use Rattle.flow_shares.specs.Pumps
 pub use Rattle.flow_shares.specs.Shares
 pub use Rattle.flow_shares.specs.declared.error.WorkError
-pub use Rattle.flow_meetings.specs.Joints
-pub use Rattle.flow_meetings.specs.EndTheorems
-pub use Rattle.flow_meetings.specs.Deals as ShareDeals
-pub use Rattle.flow_meetings.specs.Open
-pub use Rattle.flow_meetings.specs.SharedNetworks
-pub use Rattle.flow_rounds.specs.Epochs as ShareEpochs
-pub use Rattle.flow_rounds.specs.Few
-pub use Rattle.flow_rounds.specs.Rounds
+pub use Rattle.flow_shares.specs.meetings.Joints
+pub use Rattle.flow_shares.specs.meetings.EndTheorems
+pub use Rattle.flow_shares.specs.meetings.Deals as ShareDeals
+pub use Rattle.flow_shares.specs.meetings.Open
+pub use Rattle.flow_shares.specs.meetings.SharedNetworks
+pub use Rattle.flow_drives.specs.loops.Epochs as ShareEpochs
+pub use Rattle.flow_drives.specs.loops.Few
+pub use Rattle.flow_drives.specs.loops.Follow
+pub use Rattle.flow_drives.specs.loops.Rounds
 pub use Rattle.flow_base.specs.Visits as NodeVisits
 pub use Rattle.flow_boxes.specs.Reserved
 pub use Rattle.flow_networks.specs.FlowTheorems

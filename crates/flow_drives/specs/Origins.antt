@@ -2,9 +2,9 @@
 use Rattle.std.specs.Prelude.{◌≡◌, ℕ, ◌<◌, length}
 use Rattle.flow_base.specs.declared.transducer.Transducer.{Ghosts}
 use Rattle.flow_messages.specs.declared.ends.Ends.{Ghosts as EndsGhosts}
-use Rattle.flow_meetings.specs.declared.dealt.Dealt.{Dealt}
-use Rattle.flow_meetings.specs.Deals.{IsDealt}
-use Rattle.flow_meetings.specs.SharedNetworks.{SharedNetwork, shared_network}
+use Rattle.flow_shares.specs.declared.meetings.dealt.Dealt.{Dealt}
+use Rattle.flow_shares.specs.meetings.Deals.{IsDealt}
+use Rattle.flow_shares.specs.meetings.SharedNetworks.{SharedNetwork, shared_network}
 use Rattle.flow_drives.specs.declared.origin.Origin.{Origin}
 
 module _ {X : Type 0} {t : Ghosts X} where

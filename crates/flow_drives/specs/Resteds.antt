@@ -2,14 +2,14 @@
 use Rattle.std.specs.Prelude.{◌≡◌, ℕ, List, length}
 use Rattle.flow_messages.specs.Ends.{View}
 use Rattle.flow_messages.specs.declared.ends.Ends.{Ghosts as EndsGhosts}
-use Rattle.flow_lanes.specs.declared.rings.Rings.{Rings}
-use Rattle.flow_lanes.specs.Rings.{ends_of}
-use Rattle.flow_meetings.specs.RingMeetings.{RingsJoin}
+use Rattle.flow_edges.specs.declared.lanes.rings.Rings.{Rings}
+use Rattle.flow_edges.specs.lanes.Rings.{ends_of}
+use Rattle.flow_shares.specs.meetings.RingMeetings.{RingsJoin}
 use Rattle.flow_base.specs.declared.transducer.Transducer.{Ghosts}
 use Rattle.flow_networks.specs.declared.edge.Edge.{Edge}
 use Rattle.flow_shares.specs.declared.share.Share.{Share}
-use Rattle.flow_meetings.specs.Deals.{nodes_in, ends_in}
-use Rattle.flow_meetings.specs.SharedNetworks.{AreFed}
+use Rattle.flow_shares.specs.meetings.Deals.{nodes_in, ends_in}
+use Rattle.flow_shares.specs.meetings.SharedNetworks.{AreFed}
 use Rattle.flow_drives.specs.Apart.{HaveSlots, HaveStates, traffic_apart}
 use Rattle.flow_drives.specs.Edges.{AreJoined, moves_over}
 use Rattle.flow_drives.specs.Parts.{states_at, edges_at, traffic_at, capacity_at, share_at, shares_at, StayInShares}

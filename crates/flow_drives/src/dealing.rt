@@ -2,7 +2,7 @@
 ghost use Rattle.std.specs.Prelude.{◌≡◌, ◌↔◌, ◌⊎◌, Err, IfOk, IfErr};
 ghost use Rattle.flow_networks.specs.Graphs.{states_of};
 ghost use Rattle.flow_networks.specs.Networks.{AreOpened};
-ghost use Rattle.flow_meetings.specs.SharedNetworks.{AreFed};
+ghost use Rattle.flow_shares.specs.meetings.SharedNetworks.{AreFed};
 ghost use Rattle.flow_drives.specs.Configs.{IsLawful};
 ghost use Rattle.flow_drives.specs.Dealings.{IsDealtUnder, AreDealtOverBoxes, AreDealtOverRings, AreSharesOf};
 ghost use Rattle.flow_drives.specs.declared.driver.DriveError.TheVariants.{BadConfig, NoMemory};
@@ -11,10 +11,10 @@ use crate::config::Config;
 use crate::driver::DriveError;
 use flow_base::Transducer;
 use flow_boxes::Boxes;
-use flow_lanes::Rings;
-use flow_meetings::{Dealt, Opening};
+use flow_edges::lanes::Rings;
 use flow_networks::Graph;
-use flow_shares::Share;
+use flow_shares::meetings::{Dealt, Opening};
+use flow_shares::{Share, meetings};
 use std::alloc::Global;
 
 /// Deals a graph, as it was built, out to shares over boxes: one share for each of the threads of the configuration, and
@@ -70,6 +70,6 @@ fn dealt_out<T: Transducer + Drop, E: Opening + Drop>(
     if !config.lawful() {
         return Err(DriveError::BadConfig);
     }
-    let dealt = flow_meetings::deal(alloc, graph, config.threads, &config.share, config.capacity)?;
+    let dealt = meetings::deal(alloc, graph, config.threads, &config.share, config.capacity)?;
     Ok(dealt)
 }

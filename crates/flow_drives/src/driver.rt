@@ -18,7 +18,7 @@ use crate::rested::Rested;
 use crate::rounds::drive_rounds;
 use flow_base::Transducer;
 use flow_boxes::Boxes;
-use flow_lanes::Rings as RingEnds;
+use flow_edges::lanes::Rings as RingEnds;
 use flow_messages::{Ends, Table};
 use flow_networks::{Graph, run_serial};
 use flow_shares::{AlwaysStart, Gate, Start, WorkError};

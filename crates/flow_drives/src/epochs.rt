@@ -1,16 +1,17 @@
 // Epochs as configurations say.
 ghost use Rattle.std.specs.Prelude.{◌≡◌, ◌⊎◌, Err, IfOk, IfErr, OnOk};
 ghost use Rattle.flow_shares.specs.Starts.{AsksForEach};
-ghost use Rattle.flow_meetings.specs.SharedNetworks.{SharedNetwork, AreFed};
-ghost use Rattle.flow_rounds.specs.Epochs.{AreOfOneGraph, IsEpoch};
+ghost use Rattle.flow_shares.specs.meetings.SharedNetworks.{SharedNetwork, AreFed};
+ghost use Rattle.flow_drives.specs.loops.Epochs.{AreOfOneGraph, IsEpoch};
 ghost use Rattle.flow_drives.specs.Configs.{IsLawful};
 ghost use Rattle.flow_drives.specs.declared.driver.DriveError.TheVariants.{NoMemory, NoThread};
 
 use crate::config::Config;
 use crate::driver::DriveError;
+use crate::loops;
+use crate::loops::owners_of_shares;
 use flow_base::Transducer;
-use flow_lanes::Rings;
-use flow_rounds::owners_of_shares;
+use flow_edges::lanes::Rings;
 use flow_shares::{AlwaysStart, Gate, Share, Start};
 use std::alloc::Global;
 use std::sync::Arc;
@@ -66,7 +67,7 @@ pub fn epoch_with<
     ensures start { S.refused start.new → S.refused start.old ⊎ (result ≡ Err NoThread) }
 {
     let owners = owners_of_shares(alloc, &shares)?;
-    let back = flow_rounds::epoch(
+    let back = loops::epoch(
         rt,
         alloc,
         shares,

@@ -13,7 +13,7 @@ use crate::all_ends::AllEnds;
 use crate::parts::Gathered;
 use crate::ring_shares::RingShares;
 use flow_base::Transducer;
-use flow_lanes::Rings;
+use flow_edges::lanes::Rings;
 use flow_messages::CountedEnds;
 use flow_networks::Edge;
 use flow_shares::{Share, share_of};

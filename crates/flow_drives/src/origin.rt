@@ -7,8 +7,8 @@ ghost use Rattle.flow_drives.specs.Origins.{network_in, IsOriginOf, IsDealtFrom}
 
 use crate::config::Config;
 use flow_base::Transducer;
-use flow_meetings::{Dealt, Opening, deal};
 use flow_networks::Graph;
+use flow_shares::meetings::{Dealt, Opening, deal};
 use std::alloc::{AllocError, Global};
 use std::snapshot::Snapshot;
 

@@ -1,8 +1,8 @@
 // Where nodes lie in their shares.
 ghost use Rattle.std.specs.Prelude.{◌≡◌, ◌<◌, length, IfOk};
 ghost use Rattle.flow_shares.specs.Deals.{AreDealt};
-ghost use Rattle.flow_meetings.specs.Deals.{nodes_in};
-ghost use Rattle.flow_meetings.specs.SharedNetworks.{SharedNetwork};
+ghost use Rattle.flow_shares.specs.meetings.Deals.{nodes_in};
+ghost use Rattle.flow_shares.specs.meetings.SharedNetworks.{SharedNetwork};
 ghost use Rattle.flow_drives.specs.Apart.{AreThePlaces};
 
 use flow_base::Transducer;

@@ -11,7 +11,7 @@ use crate::outcome::{first_to_write, standing_fault};
 use crate::parts::Parts;
 use crate::rested::Rested;
 use flow_base::{Printing, Transducer};
-use flow_lanes::Rings;
+use flow_edges::lanes::Rings;
 use flow_networks::Edge;
 use flow_shares::Share;
 use kahn::Outcome;

@@ -3,7 +3,7 @@ ghost use Rattle.flow_networks.specs.Skeletons.{edges_in};
 ghost use Rattle.flow_drives.specs.Apart.{RestApart};
 
 use flow_base::Transducer;
-use flow_lanes::Rings;
+use flow_edges::lanes::Rings;
 use flow_networks::Skeleton;
 use flow_shares::Share;
 

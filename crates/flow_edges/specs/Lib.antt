@@ -1,6 +1,8 @@
+pub mod lanes
 -- what the contracts cite: of messages, and of the ends of edges
 pub use Rattle.snesl_data.specs.Values
 pub use Rattle.flow_messages.specs.declared.message.Item
+pub use Rattle.flow_messages.specs.declared.items.Items
 pub use Rattle.flow_messages.specs.declared.message.Kind
 pub use Rattle.flow_messages.specs.declared.message.Msg
 pub use Rattle.flow_messages.specs.declared.typed.Typed
@@ -22,11 +24,11 @@ pub use Rattle.flow_rings.specs.declared.ring.EdgeWriter
 pub use Rattle.flow_rings.specs.declared.ring.EdgeReader
 pub use Rattle.flow_rings.specs.declared.ring.FinishedMark
 pub use Rattle.flow_rings.specs.declared.ring.Held
-pub use Rattle.flow_lanes.specs.declared.rings.Rings as RingEnds
+pub use Rattle.flow_edges.specs.declared.lanes.rings.Rings as RingEnds
 pub use Rattle.flow_messages.specs.Flats
 pub use Rattle.arrayvec.specs.ArrayVec
 pub use Rattle.flow_rings.specs.Edge
-pub use Rattle.flow_lanes.specs.Rings
+pub use Rattle.flow_edges.specs.lanes.Rings
 -- of boxes
 pub use Rattle.flow_boxes.specs.declared.boxes.Boxes
 pub use Rattle.flow_boxes.specs.Contents
@@ -36,10 +38,10 @@ pub use Rattle.flow_messages.specs.Kinds
 pub use Rattle.flow_rings.specs.Ring
 pub use Rattle.flow_boxes.specs.Reserved
 -- of lanes, whose ends a share owns
-pub use Rattle.flow_lanes.specs.declared.ends.LaneWriter
-pub use Rattle.flow_lanes.specs.declared.ends.LaneReader
-pub use Rattle.flow_lanes.specs.Lane
-pub use Rattle.flow_lanes.specs.Taken
-pub use Rattle.flow_lanes.specs.Followed
-pub use Rattle.flow_lanes.specs.Credits
-pub use Rattle.flow_lanes.specs.SameLanes
+pub use Rattle.flow_edges.specs.declared.lanes.ends.LaneWriter
+pub use Rattle.flow_edges.specs.declared.lanes.ends.LaneReader
+pub use Rattle.flow_edges.specs.lanes.Lane
+pub use Rattle.flow_edges.specs.lanes.Taken
+pub use Rattle.flow_edges.specs.lanes.Followed
+pub use Rattle.flow_edges.specs.lanes.Credits
+pub use Rattle.flow_edges.specs.lanes.SameLanes

@@ -20,16 +20,18 @@
 //! No call waits, and only what makes ends takes memory. The theorems at the end of the list are
 //! functions that do nothing: their contracts say what follows over several calls.
 //!
-//! Everything here is passed on from the crates flow_messages, flow_rings, flow_boxes and flow_lanes, with the
-//! words of its contracts (`specs/Lib.antt`).
+//! Everything here is passed on from [`lanes`] and from the crates flow_messages, flow_rings and flow_boxes, with
+//! the words of its contracts (`specs/Lib.antt`).
 #![tactic(auto)]
 
+pub mod lanes;
+
+pub use crate::lanes::{LaneReader, LaneWriter, Rings, lane, meet_lane, rings_stay_joined};
 pub use flow_boxes::{
     Boxes, carry, carry_own, fresh_boxes_are_linked, fresh_boxes_stay_fresh, links_stay,
 };
-pub use flow_lanes::{LaneReader, LaneWriter, Rings, lane, meet_lane, rings_stay_joined};
 pub use flow_messages::{
-    CountedEnds, Ends, Item, Kind, MAX_CAPACITY, Msg, Refused, Table, Typed, WholeEnds, Why,
+    CountedEnds, Ends, Item, Items, Kind, MAX_CAPACITY, Msg, Refused, Table, Typed, WholeEnds, Why,
     counts_are_exact, nothing_after_stop, put_adds_one, take_gives_oldest,
     take_gives_what_was_certain,
 };

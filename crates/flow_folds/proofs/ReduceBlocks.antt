@@ -12,12 +12,12 @@ use Rattle.snesl_data.specs.declared.fault.FaultKind.{FaultKind}
 use Rattle.snesl_data.specs.declared.dialect.Dialect.TheVariants.{One, Two}
 use Rattle.snesl_data.specs.declared.fault.FaultKind.TheVariants.{Overflow}
 use Rattle.snesl_data.specs.Integers.{is_integer}
-use Rattle.snesl_operators.specs.Operators.{ranged, an_integer}
-use Rattle.snesl_operators.specs.Reductions.{some_of, and_then, reduced_more}
-use Rattle.snesl_operators.specs.declared.operator.Reduction.{Reduction}
-use Rattle.snesl_operators.specs.declared.operator.Reduction.TheVariants.{Sum}
-use Rattle.snesl_operators.specs.declared.scalar.Scalar.{Scalar}
-use Rattle.snesl_operators.specs.declared.scalar.Scalar.TheVariants.{Int}
+use Rattle.snesl_data.specs.operators.Operators.{ranged, an_integer}
+use Rattle.snesl_data.specs.operators.Reductions.{some_of, and_then, reduced_more}
+use Rattle.snesl_data.specs.declared.operators.operator.Reduction.{Reduction}
+use Rattle.snesl_data.specs.declared.operators.operator.Reduction.TheVariants.{Sum}
+use Rattle.snesl_data.specs.declared.operators.scalar.Scalar.{Scalar}
+use Rattle.snesl_data.specs.declared.operators.scalar.Scalar.TheVariants.{Int}
 use Rattle.flow_messages.specs.Cells.{Cell, flag, int}
 use Rattle.flow_messages.specs.Blocks.{flag_signals, int_signals}
 use Rattle.flow_messages.specs.Signals.{carry}

@@ -2,11 +2,11 @@
 use Rattle.std.specs.Prelude.{◌≡◌, ◌*◌, ℤ, eqb, cond, Bool, true, false, List, [], ◌∷◌, length, Option, Some, Result, Ok}
 use Rattle.snesl_data.specs.declared.dialect.Dialect.{Dialect}
 use Rattle.snesl_data.specs.declared.fault.FaultKind.{FaultKind}
-use Rattle.snesl_operators.specs.Reductions.{and_then, reduced_nothing, reduced_more}
-use Rattle.snesl_operators.specs.declared.operator.Reduction.{Reduction}
-use Rattle.snesl_operators.specs.declared.operator.Reduction.TheVariants.{Sum}
-use Rattle.snesl_operators.specs.declared.scalar.Scalar.{Scalar}
-use Rattle.snesl_operators.specs.declared.scalar.Scalar.TheVariants.{Int}
+use Rattle.snesl_data.specs.operators.Reductions.{and_then, reduced_nothing, reduced_more}
+use Rattle.snesl_data.specs.declared.operators.operator.Reduction.{Reduction}
+use Rattle.snesl_data.specs.declared.operators.operator.Reduction.TheVariants.{Sum}
+use Rattle.snesl_data.specs.declared.operators.scalar.Scalar.{Scalar}
+use Rattle.snesl_data.specs.declared.operators.scalar.Scalar.TheVariants.{Int}
 use Rattle.flow_messages.specs.Blocks.{flag_signals, int_signals}
 use Rattle.flow_base.specs.Along.{RunsAlong}
 use Rattle.flow_folds.specs.ReduceMachine.{reduce_machine}

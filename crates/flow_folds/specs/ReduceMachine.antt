@@ -4,11 +4,11 @@ use Rattle.snesl_data.specs.declared.dialect.Dialect.{Dialect}
 use Rattle.snesl_data.specs.declared.dialect.Dialect.TheVariants.{One}
 use Rattle.snesl_data.specs.declared.fault.FaultKind.{FaultKind}
 use Rattle.snesl_data.specs.declared.fault.FaultKind.TheVariants.{Shape}
-use Rattle.snesl_operators.specs.Operators.{type_of, ScalarInRange}
-use Rattle.snesl_operators.specs.Reductions.{and_then, reduction_type, reduced_nothing, reduced_more, reduced_all}
-use Rattle.snesl_operators.specs.declared.scalar.Scalar.{Scalar}
-use Rattle.snesl_operators.specs.declared.operator.Reduction.{Reduction}
-use Rattle.snesl_operators.specs.declared.operator.Reduction.TheVariants.{Sum}
+use Rattle.snesl_data.specs.operators.Operators.{type_of, ScalarInRange}
+use Rattle.snesl_data.specs.operators.Reductions.{and_then, reduction_type, reduced_nothing, reduced_more, reduced_all}
+use Rattle.snesl_data.specs.declared.operators.scalar.Scalar.{Scalar}
+use Rattle.snesl_data.specs.declared.operators.operator.Reduction.{Reduction}
+use Rattle.snesl_data.specs.declared.operators.operator.Reduction.TheVariants.{Sum}
 use Rattle.flow_messages.specs.declared.message.Kind.{Kind}
 use Rattle.flow_messages.specs.declared.message.Kind.TheVariants.{Bool as BoolKind}
 use Rattle.flow_base.specs.Machines.{Taking, on_flag, on_kind, Move, begins, takes, gives, one_write, Machine}

@@ -1,9 +1,9 @@
 -- How Reduce goes along blocks, as it stands in memory.
 use Rattle.std.specs.Prelude.{◌≡◌, ℕ, ℤ, Bool, List, [], take, Option, Some, Ok}
 use Rattle.snesl_data.specs.declared.dialect.Dialect.{Dialect}
-use Rattle.snesl_operators.specs.declared.operator.Reduction.TheVariants.{Sum, Max}
-use Rattle.snesl_operators.specs.declared.scalar.Scalar.{Scalar}
-use Rattle.snesl_operators.specs.declared.scalar.Scalar.TheVariants.{Int}
+use Rattle.snesl_data.specs.declared.operators.operator.Reduction.TheVariants.{Sum, Max}
+use Rattle.snesl_data.specs.declared.operators.scalar.Scalar.{Scalar}
+use Rattle.snesl_data.specs.declared.operators.scalar.Scalar.TheVariants.{Int}
 use Rattle.flow_folds.specs.ReduceBlocks.{AwaitsFlag, Reduces, SumsOfSegments, reduction_of_ints}
 use Rattle.flow_folds.specs.declared.reduce.Reached.{Reached}
 use Rattle.flow_folds.specs.declared.reduce.Reduce.{Reduce}

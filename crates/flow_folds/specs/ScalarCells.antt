@@ -2,10 +2,10 @@
 use Rattle.std.specs.Prelude.{◌≡◌, true, Some, IfSome, refl}
 use Rattle.std.proofs.Common.{ap, subst}
 use Rattle.snesl_data.specs.declared.dialect.Dialect.{Dialect}
-use Rattle.snesl_operators.specs.Operators.{type_of, ScalarInRange}
-use Rattle.snesl_operators.specs.declared.scalar.Scalar.{Scalar}
-use Rattle.snesl_operators.specs.declared.scalar.Scalar.TheVariants.{Int, Bool as Truth}
-use Rattle.snesl_operators.specs.declared.scalar.ScalarType.{ScalarType}
+use Rattle.snesl_data.specs.operators.Operators.{type_of, ScalarInRange}
+use Rattle.snesl_data.specs.declared.operators.scalar.Scalar.{Scalar}
+use Rattle.snesl_data.specs.declared.operators.scalar.Scalar.TheVariants.{Int, Bool as Truth}
+use Rattle.snesl_data.specs.declared.operators.scalar.ScalarType.{ScalarType}
 use Rattle.flow_messages.specs.Cells.{Cell, unit, int, flag, datum, is_of}
 use Rattle.flow_base.specs.Ranges.{CellInRange}
 use Rattle.flow_folds.specs.Scalars.{kind_of_type, cell_of_scalar, scalar_in}

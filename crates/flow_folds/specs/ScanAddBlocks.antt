@@ -1,7 +1,7 @@
 -- What ScanAdd makes of blocks of flags and elements.
 use Rattle.std.specs.Prelude.{◌≡◌, ℤ, pos, ◌+ℤ◌, Bool, true, false, List, [], ◌∷◌, Ok}
 use Rattle.snesl_data.specs.declared.dialect.Dialect.{Dialect}
-use Rattle.snesl_operators.specs.Operators.{ranged}
+use Rattle.snesl_data.specs.operators.Operators.{ranged}
 use Rattle.flow_folds.specs.declared.scan_add.Stage.{Stage}
 use Rattle.flow_folds.specs.declared.scan_add.Stage.TheVariants.{Start, Flag}
 

@@ -4,8 +4,8 @@ use Rattle.snesl_data.specs.declared.dialect.Dialect.{Dialect}
 use Rattle.snesl_data.specs.declared.dialect.Dialect.TheVariants.{One}
 use Rattle.snesl_data.specs.declared.fault.FaultKind.{FaultKind}
 use Rattle.snesl_data.specs.Integers.{IsInteger}
-use Rattle.snesl_operators.specs.Operators.{ranged}
-use Rattle.snesl_operators.specs.Reductions.{and_then}
+use Rattle.snesl_data.specs.operators.Operators.{ranged}
+use Rattle.snesl_data.specs.operators.Reductions.{and_then}
 use Rattle.flow_messages.specs.Cells.{int}
 use Rattle.flow_messages.specs.declared.message.Kind.{Kind}
 use Rattle.flow_messages.specs.declared.message.Kind.TheVariants.{Bool as BoolKind, Int as IntKind}

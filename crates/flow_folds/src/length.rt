@@ -5,8 +5,8 @@ ghost use Rattle.snesl_data.specs.Integers.{greatest_integer};
 ghost use Rattle.flow_folds.specs.LengthMachine.{one_element_more, length_at_end};
 ghost use Rattle.flow_folds.specs.LengthBlocks.{LengthsAlong};
 
-use flow_base::{Ask, Moved, Shown, Stop, Worker, Written};
-use flow_messages::{Flat, Item, Kind};
+use flow_base::{Ask, Moved, Stop, Worker, Written};
+use flow_messages::{Flat, Item, Items, Kind};
 use snesl_data::{Dialect, FaultKind};
 use std::alloc::AllocError;
 
@@ -194,8 +194,8 @@ impl Worker for Length {
     #[inline(always)]
     fn along(
         &mut self,
-        first: Shown<'_>,
-        second: Shown<'_>,
+        first: Items<'_>,
+        second: Items<'_>,
         block: &mut Written,
         space: usize,
         most: usize,

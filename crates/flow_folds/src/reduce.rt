@@ -6,14 +6,14 @@ ghost use Rattle.flow_folds.specs.ReduceMachine.{reduced_kind};
 ghost use Rattle.flow_folds.specs.ReduceBlocks.{stage_of_sum, AwaitsFlag};
 ghost use Rattle.flow_folds.specs.ReduceSteps.{AddsUpTo, ElementsReduce, HoldsSum, IsGreatest, ReducesFirst, ReducesOn, ReducesTo, SumsFirst};
 ghost use Rattle.snesl_data.specs.declared.dialect.Dialect.{Dialect};
-ghost use Rattle.snesl_operators.specs.declared.operator.Reduction.TheVariants.{Sum as SumOf, Max as MaxOf};
-ghost use Rattle.snesl_operators.specs.declared.scalar.Scalar.TheVariants.{Int as IntScalar};
+ghost use Rattle.snesl_data.specs.declared.operators.operator.Reduction.TheVariants.{Sum as SumOf, Max as MaxOf};
+ghost use Rattle.snesl_data.specs.declared.operators.scalar.Scalar.TheVariants.{Int as IntScalar};
 
 use crate::scalars::{item_of, kind_of, scalar_of, wide};
-use flow_base::{Ask, Moved, Shown, Stop, Worker, Written};
-use flow_messages::{Flat, Item, Kind};
+use flow_base::{Ask, Moved, Stop, Worker, Written};
+use flow_messages::{Flat, Item, Items, Kind};
+use snesl_data::operators::{Reduction, Scalar, sum};
 use snesl_data::{Dialect, FaultKind};
-use snesl_operators::{Reduction, Scalar, sum};
 use std::alloc::AllocError;
 
 /// Writes for each segment what its elements reduce to. Each segment is an instance.
@@ -409,7 +409,7 @@ impl Reduce {
 
 impl Worker for Reduce {
     ghost use Rattle.snesl_data.specs.declared.dialect.Dialect.{Dialect};
-    ghost use Rattle.snesl_operators.specs.declared.operator.Reduction.{Reduction};
+    ghost use Rattle.snesl_data.specs.declared.operators.operator.Reduction.{Reduction};
     ghost use Rattle.flow_folds.specs.ReduceMachine.{reduce_machine, reduce_view};
     ghost use Rattle.flow_folds.specs.laws.Reduce.{reduce_laws};
     ghost use Rattle.flow_folds.specs.declared.reduce.Stage.{Stage};
@@ -490,8 +490,8 @@ impl Worker for Reduce {
     #[inline(always)]
     fn along(
         &mut self,
-        first: Shown<'_>,
-        second: Shown<'_>,
+        first: Items<'_>,
+        second: Items<'_>,
         block: &mut Written,
         space: usize,
         most: usize,

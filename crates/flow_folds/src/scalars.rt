@@ -5,7 +5,7 @@ ghost use Rattle.flow_messages.specs.Cells.{cell_of};
 ghost use Rattle.flow_folds.specs.Scalars.{kind_of_type, scalar_in, cell_of_scalar};
 
 use flow_messages::{Item, Kind};
-use snesl_operators::{Scalar, ScalarType};
+use snesl_data::operators::{Scalar, ScalarType};
 
 /// The kind of the items that carry scalars of this type.
 pub fn kind_of(scalar_type: ScalarType) -> Kind

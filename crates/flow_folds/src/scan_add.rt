@@ -7,10 +7,10 @@ ghost use Rattle.flow_folds.specs.ScanAddMachine.{scan_add_move};
 ghost use Rattle.flow_folds.specs.ScanAddSteps.{HoldsLast, SumsFirstAlong};
 ghost use Rattle.flow_folds.specs.declared.scan_add.Stage.TheVariants.{Element};
 
-use flow_base::{Ask, Moved, Shown, Stop, Worker, Written};
-use flow_messages::{Flat, Item, Kind};
+use flow_base::{Ask, Moved, Stop, Worker, Written};
+use flow_messages::{Flat, Item, Items, Kind};
+use snesl_data::operators::sum;
 use snesl_data::{Dialect, FaultKind};
-use snesl_operators::sum;
 use std::alloc::AllocError;
 
 /// Writes for each element of a segment the sum of those before it. Each segment is an instance.
@@ -217,8 +217,8 @@ impl Worker for ScanAdd {
     #[inline(always)]
     fn along(
         &mut self,
-        first: Shown<'_>,
-        second: Shown<'_>,
+        first: Items<'_>,
+        second: Items<'_>,
         block: &mut Written,
         space: usize,
         most: usize,

@@ -1,11 +1,14 @@
+pub mod OfHistory
 pub mod Signals
 pub mod Fitting
 pub mod Counts
 pub mod Tables
 pub mod Waiting
 pub mod Blocks
+pub mod SideBySide
 pub mod Lines
 pub mod Contents
+pub mod Stores
 pub mod Widened
 pub mod Scalars
 pub mod Sends

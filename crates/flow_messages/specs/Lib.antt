@@ -1,3 +1,4 @@
+pub mod history
 pub mod Shapes
 pub mod Cells
 pub mod Signals

@@ -1,6 +1,7 @@
 // The ends of a set of edges.
 use crate::flat::{Block, Flat};
-use crate::message::{Item, Kind, Msg};
+use crate::items::Items;
+use crate::message::{Kind, Msg};
 
 /// Why a message was not put on an edge.
 #[derive(Clone, Copy, Debug, PartialEq, Eq)]
@@ -27,11 +28,10 @@ pub trait Ends {
     ghost use mathlib.Core.List.{IsPrefix};
     ghost use Rattle.flow_messages.specs.Signals.{signal_of, orderly};
     ghost use Rattle.flow_messages.specs.Flats.{flat_signals, flats_appended, scalar_first, BlockFitsEdge, HasPlace};
-    ghost use Rattle.flow_messages.specs.Kinds.{FitsEdge, TakesKind};
-    ghost use Rattle.flow_messages.specs.declared.message.Kind.TheVariants.{Unit as UnitKind, Bool as BoolKind, Int as IntKind};
+    ghost use Rattle.flow_messages.specs.Kinds.{FitsEdge, TakesItems, TakesKind};
     ghost use Rattle.flow_messages.specs.Ends.{View, held, LookedForRoom, LookedForMessages, Put, Taken, PutAll};
     ghost use Rattle.flow_messages.specs.Ends.{HasEnded, HasNotEnded, CanPut, GivesBack, FoundNone, TakenFirst, TakenInto, PutFlats, SentFlats, ScalarIsNext, NoScalarIsNext};
-    ghost use Rattle.flow_messages.specs.Blocks.{unit_signals, flag_signals, int_signals};
+    ghost use Rattle.flow_messages.specs.Blocks.{item_signals};
     ghost use Rattle.flow_messages.specs.declared.ends.Why.TheVariants.{Full, Closed};
 
     /// What was put and taken on each edge, and what is certain.
@@ -129,31 +129,14 @@ pub trait Ends {
         ensures none { IfNone result (FoundNone (view self.old) edge (view self.new)) }
         ensures succeeds { 0 < held (view self.old) edge → IsSome result };
 
-    /// How many units the next takes are certain to give, where these ends count them, or fewer.
-    fn units(&self, edge: usize) -> usize
+    /// Items of one kind that the next takes are certain to give, where these ends show them side by side, or the first of
+    /// them.
+    fn shown(&self, edge: usize) -> Items<'_>
         requires { (view self.now).reads edge ≡ true }
-        ensures { IsPrefix (unit_signals result) ((view self.now).coming edge) }
+        ensures { IsPrefix (item_signals result) ((view self.now).coming edge) }
     {
         let _ = edge;
-        0
-    }
-
-    /// The truth values that the next takes are certain to give, where these ends show them, or the first of them.
-    fn flags(&self, edge: usize) -> &[bool]
-        requires { (view self.now).reads edge ≡ true }
-        ensures { IsPrefix (flag_signals result.now) ((view self.now).coming edge) }
-    {
-        let _ = edge;
-        &[]
-    }
-
-    /// The integers of 64 bits that the next takes are certain to give, where these ends show them, or the first of them.
-    fn ints(&self, edge: usize) -> &[i64]
-        requires { (view self.now).reads edge ≡ true }
-        ensures { IsPrefix (int_signals result.now) ((view self.now).coming edge) }
-    {
-        let _ = edge;
-        &[]
+        Items::Nothing
     }
 
     /// Takes so many of the messages that are certain, and drops them.
@@ -168,42 +151,16 @@ pub trait Ends {
         }
     }
 
-    /// Puts so many units where room is certain. They are dropped where `End` was put on the edge before.
-    fn put_units(&mut self, edge: usize, count: usize)
+    /// Puts these items where room is certain. They are dropped where `End` was put on the edge before.
+    fn put_all(&mut self, edge: usize, items: Items<'_>)
         requires writes { (view self.old).writes edge ≡ true }
-        requires kind { TakesKind ((view self.old).kind edge) UnitKind }
-        requires certain { count ≤ (view self.old).room edge }
+        requires kind { TakesItems ((view self.old).kind edge) items }
+        requires certain { length (item_signals items) ≤ (view self.old).room edge }
         ensures same { same self.old self.new }
-        ensures put { PutAll (view self.old) edge (unit_signals count) (view self.new) }
+        ensures put { PutAll (view self.old) edge (item_signals items.entry) (view self.new) }
     {
-        for _ in 0..count {
-            let _ = self.put(edge, Msg::Item(Item::Unit));
-        }
-    }
-
-    /// Puts these truth values where room is certain. They are dropped where `End` was put on the edge before.
-    fn put_flags(&mut self, edge: usize, flags: &[bool])
-        requires writes { (view self.old).writes edge ≡ true }
-        requires kind { TakesKind ((view self.old).kind edge) BoolKind }
-        requires certain { length flags.now ≤ (view self.old).room edge }
-        ensures same { same self.old self.new }
-        ensures put { PutAll (view self.old) edge (flag_signals flags.now) (view self.new) }
-    {
-        for flag in flags {
-            let _ = self.put(edge, Msg::Item(Item::Bool(*flag)));
-        }
-    }
-
-    /// Puts these integers of 64 bits where room is certain. They are dropped where `End` was put on the edge before.
-    fn put_ints(&mut self, edge: usize, ints: &[i64])
-        requires writes { (view self.old).writes edge ≡ true }
-        requires kind { TakesKind ((view self.old).kind edge) IntKind }
-        requires certain { length ints.now ≤ (view self.old).room edge }
-        ensures same { same self.old self.new }
-        ensures put { PutAll (view self.old) edge (int_signals ints.now) (view self.new) }
-    {
-        for int in ints {
-            let _ = self.put(edge, Msg::Item(Item::Int(*int as i128)));
+        for at in 0..items.len() {
+            let _ = self.put(edge, items.message(at));
         }
     }
 

@@ -3,16 +3,17 @@ ghost use Rattle.std.specs.Prelude.{◌≡◌, ◌+◌, ◌-◌, ◌<◌, ◌≤
 ghost use Rattle.std.specs.Io.Iter.{u64_saturate};
 ghost use mathlib.Core.List.{IsPrefix};
 ghost use Rattle.flow_messages.specs.Signals.{signals, ended, orderly, has_end};
-ghost use Rattle.flow_messages.specs.Contents.{unit_messages, flag_messages, int_messages};
-ghost use Rattle.flow_messages.specs.Stores.{content_of, StoreHasRoom, StoreIsFull};
+ghost use Rattle.flow_messages.specs.Contents.{item_messages};
+ghost use Rattle.flow_messages.specs.Stores.{content_of, StoreHasRoom, StoreHasRoomFor, StoreIsFull};
 ghost use Rattle.flow_messages.specs.Lines.{gone};
 ghost use Rattle.flow_messages.specs.declared.ends.Why.TheVariants.{Full, Closed};
 
 use crate::ends::{Refused, Why};
-use crate::histories::{with_flags, with_ints, with_units};
+use crate::histories::with_items;
+use crate::history::History;
+use crate::items::Items;
 use crate::message::Msg;
 use crate::store::Store;
-use flow_history::History;
 use std::alloc::{AllocError, Global};
 use std::mem::replace;
 
@@ -148,45 +149,17 @@ impl Line {
         self.closed
     }
 
-    /// Puts so many units after all others, unless `End` was put on it.
+    /// Puts these items after all others, in order, unless `End` was put on it.
     #[inline(always)]
-    pub fn put_units(&mut self, count: usize)
-        requires { length (content_of self.old.store) + count ≤ self.old.store.capacity }
-        ensures { SendsBlock (unit_messages count) self.old self.new }
+    pub fn put_all(&mut self, items: Items<'_>)
+        requires { StoreHasRoomFor self.old.store items }
+        ensures { SendsBlock (item_messages items.entry) self.old self.new }
     {
         if self.is_closed() {
             return;
         }
-        self.sent = with_units(replace(&mut self.sent, History::new()), count);
-        self.store.put_units(count);
-    }
-
-    /// Puts these truth values after all others, unless `End` was put on it.
-    #[inline(always)]
-    pub fn put_flags(&mut self, flags: &[bool])
-        requires { length (content_of self.old.store) + length flags.now ≤
-            self.old.store.capacity }
-        ensures { SendsBlock (flag_messages flags.now) self.old self.new }
-    {
-        if self.is_closed() {
-            return;
-        }
-        self.sent = with_flags(replace(&mut self.sent, History::new()), flags);
-        self.store.put_flags(flags);
-    }
-
-    /// Puts these integers after all others, unless `End` was put on it.
-    #[inline(always)]
-    pub fn put_ints(&mut self, ints: &[i64])
-        requires { length (content_of self.old.store) + length ints.now ≤
-            self.old.store.capacity }
-        ensures { SendsBlock (int_messages ints.now) self.old self.new }
-    {
-        if self.is_closed() {
-            return;
-        }
-        self.sent = with_ints(replace(&mut self.sent, History::new()), ints);
-        self.store.put_ints(ints);
+        self.sent = with_items(replace(&mut self.sent, History::new()), items);
+        self.store.put_all(items);
     }
 
     /// How many messages were put on it. The count stays at `u64::MAX`.

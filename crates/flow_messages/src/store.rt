@@ -5,8 +5,9 @@ ghost use mathlib.Core.List.{IsPrefix};
 ghost use Rattle.flow_messages.specs.Runs.{run_items};
 ghost use Rattle.flow_messages.specs.Signals.{signals};
 ghost use Rattle.flow_messages.specs.Flats.{scalar_first};
-ghost use Rattle.flow_messages.specs.Contents.{content, unit_messages, flag_messages, int_messages};
+ghost use Rattle.flow_messages.specs.Contents.{content, item_messages};
 
+use crate::items::Items;
 use crate::message::{Item, Msg};
 use crate::run::Run;
 use std::alloc::{AllocError, Global};
@@ -33,7 +34,7 @@ pub struct Store {
 }
 
 impl Store {
-    ghost use Rattle.flow_messages.specs.Stores.{content_of, StoreBecomes, SameTogether};
+    ghost use Rattle.flow_messages.specs.Stores.{content_of, SameTogether, StoreBecomes, StoreHasRoomFor};
 
     /// An empty store, with its room reserved. Its only error is that memory was refused.
     pub fn new(alloc: Global, capacity: usize) -> Result<Store, AllocError>
@@ -60,34 +61,18 @@ impl Store {
         self.held
     }
 
-    /// How many units come first.
+    /// The items of one kind that come first, where they lie side by side.
     #[inline(always)]
-    pub fn units(&self) -> usize
-        ensures { IsPrefix (unit_messages result) (content_of self.now) }
-    {
-        self.units
-    }
-
-    /// The truth values that come first, where no unit does.
-    #[inline(always)]
-    pub fn flags(&self) -> &[bool]
-        ensures { IsPrefix (flag_messages result.now) (content_of self.now) }
+    pub fn shown(&self) -> Items<'_>
+        ensures { IsPrefix (item_messages result) (content_of self.now) }
     {
         if self.units > 0 {
-            return &[];
+            return Items::Units(self.units);
         }
-        self.flags.held()
-    }
-
-    /// The integers of 64 bits that come first, where no unit or truth value does.
-    #[inline(always)]
-    pub fn ints(&self) -> &[i64]
-        ensures { IsPrefix (int_messages result.now) (content_of self.now) }
-    {
-        if self.units > 0 || !self.flags.is_empty() {
-            return &[];
+        if !self.flags.is_empty() {
+            return Items::Flags(self.flags.held());
         }
-        self.ints.held()
+        Items::Ints(self.ints.held())
     }
 
     /// The oldest message, where it does not lie beside others of its kind.
@@ -204,49 +189,32 @@ impl Store {
         self.held -= count;
     }
 
-    /// Puts this many units after all others.
+    /// Puts these items after all others, in order.
     #[inline(always)]
-    pub fn put_units(&mut self, count: usize)
-        requires room { length (content_of self.old) + count ≤ self.old.capacity }
-        ensures { StoreBecomes (content_of self.old ++ unit_messages count) self.old self.new }
+    pub fn put_all(&mut self, items: Items<'_>)
+        requires room { StoreHasRoomFor self.old items }
+        ensures { StoreBecomes (content_of self.old ++ item_messages items.entry) self.old self.new }
     {
-        if self.units == self.held {
-            self.units += count;
-            self.held += count;
-            return;
+        match items {
+            Items::Units(count) if self.units == self.held => {
+                self.units += count;
+                self.held += count;
+                return;
+            }
+            Items::Flags(flags) if self.queue.is_empty() && self.ints.is_empty() => {
+                self.flags.put_all(flags);
+                self.held += flags.len();
+                return;
+            }
+            Items::Ints(ints) if self.queue.is_empty() => {
+                self.ints.put_all(ints);
+                self.held += ints.len();
+                return;
+            }
+            _ => {}
         }
-        queue_units(&mut self.queue, count);
-        self.held += count;
-    }
-
-    /// Puts these truth values after all others, in order.
-    #[inline(always)]
-    pub fn put_flags(&mut self, flags: &[bool])
-        requires room { length (content_of self.old) + length flags.now ≤ self.old.capacity }
-        ensures { StoreBecomes (content_of self.old ++ flag_messages flags.now) self.old self.new }
-    {
-        if self.queue.is_empty() && self.ints.is_empty() {
-            self.flags.put_all(flags);
-            self.held += flags.len();
-            return;
-        }
-        queue_flags(&mut self.queue, flags);
-        self.held += flags.len();
-    }
-
-    /// Puts these integers after all others, in order.
-    #[inline(always)]
-    pub fn put_ints(&mut self, ints: &[i64])
-        requires room { length (content_of self.old) + length ints.now ≤ self.old.capacity }
-        ensures { StoreBecomes (content_of self.old ++ int_messages ints.now) self.old self.new }
-    {
-        if self.queue.is_empty() {
-            self.ints.put_all(ints);
-            self.held += ints.len();
-            return;
-        }
-        queue_ints(&mut self.queue, ints);
-        self.held += ints.len();
+        queue_items(&mut self.queue, items);
+        self.held += items.len();
     }
 
     /// Moves all messages of another store after its own, in order.
@@ -258,46 +226,24 @@ impl Store {
         ensures capacity { self.new.capacity ≡ self.old.capacity }
         ensures other_capacity { other.new.capacity ≡ other.old.capacity }
     {
-        self.append_units(other);
-        self.append_flags(other);
-        self.append_ints(other);
+        // Units come first, then truth values, then integers.
+        for _ in 0..3 {
+            self.append_shown(other);
+        }
         while let Some(message) = other.pop() {
             self.push(message);
         }
     }
 
-    // Moves the units that come first in another store.
-    fn append_units(&mut self, other: &mut Store)
+    // Moves the items of one kind that come first in another store.
+    fn append_shown(&mut self, other: &mut Store)
         requires room { length (content_of self.old) + length (content_of other.old) ≤
             self.old.capacity }
         ensures { SameTogether self.old other.old self.new other.new }
     {
-        let count = other.units();
-        self.put_units(count);
-        other.skip(count);
-    }
-
-    // Moves the truth values that come first in another store.
-    fn append_flags(&mut self, other: &mut Store)
-        requires room { length (content_of self.old) + length (content_of other.old) ≤
-            self.old.capacity }
-        ensures { SameTogether self.old other.old self.new other.new }
-    {
-        let flags = other.flags();
-        let count = flags.len();
-        self.put_flags(flags);
-        other.skip(count);
-    }
-
-    // Moves the integers that come first in another store.
-    fn append_ints(&mut self, other: &mut Store)
-        requires room { length (content_of self.old) + length (content_of other.old) ≤
-            self.old.capacity }
-        ensures { SameTogether self.old other.old self.new other.new }
-    {
-        let ints = other.ints();
-        let count = ints.len();
-        self.put_ints(ints);
+        let items = other.shown();
+        let count = items.len();
+        self.put_all(items);
         other.skip(count);
     }
 }
@@ -313,35 +259,14 @@ fn drop_front(queue: &mut VecDeque<Msg>, count: usize)
     }
 }
 
-/// Puts this many units after the messages of a queue.
-fn queue_units(queue: &mut VecDeque<Msg>, count: usize)
-    requires room { deque_len queue.old + count ≤ deque_capacity queue.old }
-    ensures items { queue.new.items ≡ queue.old.items ++ unit_messages count }
+/// Puts these items after the messages of a queue.
+fn queue_items(queue: &mut VecDeque<Msg>, items: Items<'_>)
+    requires room { deque_len queue.old + length (item_messages items) ≤
+        deque_capacity queue.old }
+    ensures items { queue.new.items ≡ queue.old.items ++ item_messages items.entry }
     ensures capacity { deque_capacity queue.new ≡ deque_capacity queue.old }
 {
-    for _ in 0..count {
-        queue.push_back_reserved(Msg::Item(Item::Unit));
-    }
-}
-
-/// Puts these truth values after the messages of a queue.
-fn queue_flags(queue: &mut VecDeque<Msg>, flags: &[bool])
-    requires room { deque_len queue.old + length flags.now ≤ deque_capacity queue.old }
-    ensures items { queue.new.items ≡ queue.old.items ++ flag_messages flags.now }
-    ensures capacity { deque_capacity queue.new ≡ deque_capacity queue.old }
-{
-    for truth in flags {
-        queue.push_back_reserved(Msg::Item(Item::Bool(*truth)));
-    }
-}
-
-/// Puts these integers after the messages of a queue.
-fn queue_ints(queue: &mut VecDeque<Msg>, ints: &[i64])
-    requires room { deque_len queue.old + length ints.now ≤ deque_capacity queue.old }
-    ensures items { queue.new.items ≡ queue.old.items ++ int_messages ints.now }
-    ensures capacity { deque_capacity queue.new ≡ deque_capacity queue.old }
-{
-    for number in ints {
-        queue.push_back_reserved(Msg::Item(Item::Int(*number as i128)));
+    for at in 0..items.len() {
+        queue.push_back_reserved(items.message(at));
     }
 }

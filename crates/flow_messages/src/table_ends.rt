@@ -5,6 +5,7 @@ ghost use Rattle.flow_messages.specs.Tables.{ends_of, capacity_of, IsFresh};
 
 use crate::counted::CountedEnds;
 use crate::ends::{Ends, Refused};
+use crate::items::Items;
 use crate::line::Line;
 use crate::message::{Kind, Msg};
 use crate::table::{MAX_CAPACITY, Table};
@@ -96,18 +97,8 @@ impl Ends for Table {
     }
 
     #[inline(always)]
-    fn units(&self, edge: usize) -> usize {
-        self.lines[edge].store.units()
-    }
-
-    #[inline(always)]
-    fn flags(&self, edge: usize) -> &[bool] {
-        self.lines[edge].store.flags()
-    }
-
-    #[inline(always)]
-    fn ints(&self, edge: usize) -> &[i64] {
-        self.lines[edge].store.ints()
+    fn shown(&self, edge: usize) -> Items<'_> {
+        self.lines[edge].store.shown()
     }
 
     #[inline(always)]
@@ -116,18 +107,8 @@ impl Ends for Table {
     }
 
     #[inline(always)]
-    fn put_units(&mut self, edge: usize, count: usize) {
-        self.lines[edge].put_units(count);
-    }
-
-    #[inline(always)]
-    fn put_flags(&mut self, edge: usize, flags: &[bool]) {
-        self.lines[edge].put_flags(flags);
-    }
-
-    #[inline(always)]
-    fn put_ints(&mut self, edge: usize, ints: &[i64]) {
-        self.lines[edge].put_ints(ints);
+    fn put_all(&mut self, edge: usize, items: Items<'_>) {
+        self.lines[edge].put_all(items);
     }
 
     fn put_out(&mut self) {}

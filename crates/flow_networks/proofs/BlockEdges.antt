@@ -1,20 +1,17 @@
 -- What a block makes of the edges at the ports of a node.
-use Rattle.std.proofs.Common.{◌≡◌, ◌≢◌, ℕ, zero, suc, ◌+◌, ◌*◌, ◌<◌, ◌≤◌, Bool, true, false, cond, eqb, List, [], ◌∷◌, ◌++◌, length, ◌⊎◌, inl, inr}
-use Rattle.std.proofs.Common.{refl, sym, ◌∙◌, ap, subst, arith, append-nil, append_assoc, eq-eqb, ne_eqb, IsTrue}
-use Rattle.std.specs.List.{All}
+use Rattle.std.proofs.Common.{◌≡◌, ◌≢◌, ℕ, ◌+◌, ◌<◌, ◌≤◌, Bool, true, false, cond, eqb, List, [], ◌++◌, length, ◌⊎◌, inl, inr}
+use Rattle.std.proofs.Common.{refl, sym, ◌∙◌, ap, subst, arith, append-nil, eq-eqb, ne_eqb, IsTrue}
 use Rattle.std.proofs.lemmas.Bool.{cases_eq, cases_lt, cases_Bool}
 use mathlib.Core.List.{IsPrefix}
-use Rattle.kahn.specs.declared.want.Want.TheVariants.{Write}
-use Rattle.kahn.specs.Processes.{Event, Does, reads, writes}
+use Rattle.kahn.specs.Processes.{writes}
 use Rattle.flow_messages.specs.Signals.{Signal, ended, orderly}
-use Rattle.flow_messages.specs.Ends.{View, SameEnds, LookedForRoom, TakenAll, PutAll}
+use Rattle.flow_messages.specs.Ends.{View, LookedForRoom, TakenAll, PutAll}
 use Rattle.flow_base.specs.Transducers.{Behaviour, BehaviourLaws}
-use Rattle.flow_base.specs.Visits.{read_from, sent_after, edge_of, IsNone, Carried, SparesOthers, LeavesAlone, Went, IsReached, IsPlaced}
+use Rattle.flow_base.specs.Visits.{sent_after, edge_of, IsNone, LeavesAlone, Went, IsReached}
 use Rattle.flow_base.proofs.Carried.{same_ends_refl, same_ends_then, prefix_then, prefix_same, looked_room}
-use Rattle.flow_base.proofs.Reached.{wants_output}
 use Rattle.flow_base.proofs.Visits.{not_at}
 use Rattle.flow_base.proofs.Kernels.{went_none, went_alone, went_further}
-use Rattle.flow_networks.specs.Blocks.{AreApart, MayTake, PutOnFirst, InBlock}
+use Rattle.flow_networks.specs.Blocks.{AreApart, PutOnFirst, InBlock}
 use Rattle.flow_networks.proofs.Blocks.{read_block, at_some, sent_some, sent_other}
 
 -- nothing was put, or a block where room was certain: it is dropped where the end was put before

@@ -1,14 +1,13 @@
 -- What the events of a block carry over the edges at the ports of a node.
-use Rattle.std.proofs.Common.{◌≡◌, ◌≢◌, ℕ, zero, suc, ◌+◌, ◌*◌, ◌<◌, ◌≤◌, Bool, true, false, cond, eqb, List, [], ◌∷◌, ◌++◌, length, Option, ◌⊎◌, inl}
+use Rattle.std.proofs.Common.{◌≡◌, ◌≢◌, ℕ, zero, suc, ◌<◌, Bool, true, false, cond, eqb, List, [], ◌∷◌, ◌++◌, length, Option, ◌⊎◌, inl}
 use Rattle.std.proofs.Common.{inr, refl, sym, ◌∙◌, ap, subst, arith, append-nil, append_assoc, eq-eqb, ne_eqb, eqb-true}
 use Rattle.std.proofs.Props.{props}
 use Rattle.std.specs.List.{All}
 use Rattle.std.proofs.lemmas.Bool.{cases_eq, cases_lt, cases_Bool}
 use Rattle.std.proofs.lemmas.List.Elements.{All-nil, All-cons}
-use mathlib.Core.List.{IsPrefix}
 use mathlib.Core.Logic.{∥∥₁_elim}
-use Rattle.kahn.specs.declared.want.Want.TheVariants.{Read, Write}
-use Rattle.kahn.specs.Processes.{Process, Event, Reads, Writes, Does, HasEnd, IsLawfulProcess, reads, writes}
+use Rattle.kahn.specs.declared.want.Want.TheVariants.{Write}
+use Rattle.kahn.specs.Processes.{Event, Reads, Writes, Does, IsLawfulProcess, reads, writes}
 use Rattle.kahn.proofs.History.{does_then, writes_push, writes_push_other, writes_push_read}
 use Rattle.flow_messages.specs.declared.flat.Flat.{Flat}
 use Rattle.flow_messages.specs.declared.flat.Flat.TheVariants.{Unit as UnitFlat, Bool as BoolFlat, Int as IntFlat, End as EndFlat}
@@ -17,16 +16,12 @@ use Rattle.flow_messages.specs.Cells.{Cell}
 use Rattle.flow_messages.specs.Signals.{Signal, signals, signal_of, carry, stop, ended, orderly}
 use Rattle.flow_messages.specs.Flats.{message_of, flat_signals}
 use Rattle.flow_messages.specs.Kinds.{fits, FitsEdge, TakesKind}
-use Rattle.flow_messages.specs.Ends.{View, SameEnds, TakenAll, PutAll}
 use Rattle.flow_messages.proofs.Fitting.{kind_fits}
 use Rattle.flow_base.specs.Ranges.{SignalsOfKind}
 use Rattle.flow_base.specs.Transducers.{Behaviour, BehaviourLaws}
-use Rattle.flow_base.specs.Visits.{read_from, sent_after, longer, edge_of, IsNone, LeavesAlone, Went, IsReached}
-use Rattle.flow_base.proofs.Carried.{same_ends_then, prefix_then, prefix_same}
+use Rattle.flow_base.specs.Visits.{read_from, sent_after, longer, edge_of, IsReached}
 use Rattle.flow_base.proofs.Reached.{reached_read, reached_wrote, written_fits, wants_output}
-use Rattle.flow_base.proofs.Visits.{not_at}
-use Rattle.flow_base.proofs.Kernels.{went_none, went_alone, went_further}
-use Rattle.flow_networks.specs.Blocks.{AreApart, MayTake, PutOnFirst}
+use Rattle.flow_networks.specs.Blocks.{AreApart}
 use Rattle.flow_networks.proofs.Turns.{ended_has}
 
 -- what was read from the edge at the first port, where nothing was read at another

@@ -1,11 +1,10 @@
 -- Blocks that a node draws, and those that it passes on.
-use Rattle.std.proofs.Common.{◌≡◌, ◌≢◌, ℕ, zero, suc, ◌+◌, ◌*◌, ◌/◌, ◌<◌, ◌≤◌, true, false, cond, eqb, List, [], ◌∷◌, ◌++◌, length, take, refl, sym, ◌∙◌, ap, subst, arith, append-nil, length-append}
-use Rattle.std.specs.List.{All}
+use Rattle.std.proofs.Common.{◌≡◌, ◌≢◌, ℕ, ◌+◌, ◌*◌, ◌/◌, ◌<◌, ◌≤◌, true, List, [], ◌∷◌, ◌++◌, length, take, refl, sym, ◌∙◌, ap, subst, arith, length-append}
 use mathlib.Core.List.{IsPrefix}
 use Rattle.std.proofs.Math.Nat.{mul-le-mul_left, mul-div-le, add-mul}
 use Rattle.std.proofs.lemmas.List.{take_all}
 use Rattle.kahn.specs.declared.want.Want.TheVariants.{Write}
-use Rattle.kahn.specs.Processes.{Event, Writes, Does, reads, writes}
+use Rattle.kahn.specs.Processes.{Event, Writes, Does}
 use Rattle.kahn.proofs.History.{does_then, reads_push_write, writes_push}
 use Rattle.flow_messages.specs.declared.flat.Flat.{Flat}
 use Rattle.flow_messages.specs.declared.message.Msg.{Msg}
@@ -22,7 +21,7 @@ use Rattle.flow_base.specs.Ranges.{SignalsOfKind}
 use Rattle.flow_base.specs.Transducers.{Behaviour, BehaviourLaws, IsWrite}
 use Rattle.flow_base.specs.Passing.{PassedOn}
 use Rattle.flow_messages.proofs.Blocks.{taken_none}
-use Rattle.flow_base.specs.Visits.{edge_of, LeavesAlone, Went, TakeKinds, IsReached, IsPlaced}
+use Rattle.flow_base.specs.Visits.{edge_of, LeavesAlone, Went, IsReached, IsPlaced}
 use Rattle.flow_base.proofs.Batches.{skipped}
 use Rattle.flow_base.proofs.Kernels.{alone_looked}
 use Rattle.flow_base.proofs.Visits.{left_alone, not_at}

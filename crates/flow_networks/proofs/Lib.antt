@@ -4,6 +4,7 @@ pub mod KindTests
 pub mod Kept
 pub mod Reached
 pub mod Seats
+pub mod GraphNodes
 pub mod Nets
 pub mod Looks
 pub mod Turns

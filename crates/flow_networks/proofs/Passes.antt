@@ -1,5 +1,5 @@
 -- Passes over the nodes that still run, until one moves nothing.
-use Rattle.std.proofs.Common.{◌≡◌, ℕ, ◌-◌, ◌<◌, Bool, true, false, List, [], length, Some, ◌⊎◌, inl, inr, refl, sym, ◌∙◌, ap}
+use Rattle.std.proofs.Common.{◌≡◌, ℕ, ◌-◌, ◌<◌, Bool, true, false, List, [], length, Some, ◌⊎◌, inl, inr, refl, sym, ◌∙◌, ap, subst}
 use Rattle.std.specs.List.{Contains}
 use Rattle.kahn.specs.Processes.{Settles}
 use Rattle.kahn.specs.Networks.{IsWired}
@@ -37,6 +37,16 @@ module _ {S : Type 0} (b : Behaviour S) (capacity : ℕ) (states : List S) (edge
     left_of settles view =
         let net = network_of b states edges in
         most_events b.process net wired settles (start net) (λ e inside. ([], refl)) - moved net (configuration_of b states view)
+
+    -- what a pass over the nodes that are running makes of a run
+    pub record GoesOn (running : List ℕ) (states' : List S) (view' : View) (states'' : List S) (view'' : View) (any : Bool) : Type 0 where
+      pub reached : RunLeadsTo b capacity states edges states'' view''
+      -- where nothing moved the run is maximal
+      pub ends : any ≡ false → OthersAreOver states' running → EndsMaximalRun b capacity states edges states'' view''
+      -- those that are over stay so
+      pub others : OthersAreOver states' running → (left : List ℕ) → ((k : ℕ) → Contains running k → Contains left k ⊎ (is_over (b.process.want (state_at b states'' k)) ≡ true)) →
+          OthersAreOver states'' left
+      pub falls : (settles : Settles b.process) → any ≡ true → left_of settles view'' < left_of settles view'
 
     module _ (states' : List S) (edges' : List Edge) (view' : View) (same : IsSameNetwork b states edges states' edges') (capacity' : ℕ)
         (even : capacity' ≡ capacity) (reached : RunLeadsTo b capacity states edges states' view') (nodes : List ℕ) (states'' : List S) (view'' : View)
@@ -88,32 +98,36 @@ module _ {S : Type 0} (b : Behaviour S) (capacity : ℕ) (states : List S) (edge
             visited_falls b.process (network_of b states edges) (Some capacity) wired settles nodes (configuration_of b states' view')
             (configuration_of b states'' view'') reached (visited true visits)
 
+        pub goes_on : (any : Bool) → Visits b capacity' nodes edges' states' view' states'' view'' any → GoesOn nodes states' view' states'' view'' any
+        goes_on any visits = record {
+          reached = reached_then any visits;
+          ends = λ none others. ends_run any none visits others;
+          others = others_then any visits;
+          falls = λ settles some. left_falls settles any some visits;
+        }
+
 -- the same of a graph and its ends, after one pass more
 module _ {X Y : Type 0} {t : Ghosts X} (Same : Y → Y → Type 0) (view : Y → View) (capacity : Y → ℕ)
     (even : (x y : Y) → Same x y → capacity y ≡ capacity x) (g : Graph X t) (e : Y) (g' : Graph X t) (e' : Y) (g'' : Graph X t) (e'' : Y)
     (shape : KeepsShape Same view g e g' e') (reached : RunLeadsTo t.behaviour (capacity e) (states_of g) (edges_of g) (states_of g') (view e'))
     (nodes : List ℕ) (any : Bool)
     (visits : Visits t.behaviour (capacity e') nodes (edges_of g') (states_of g') (view e') (states_of g'') (view e'') any) where
+  pub pass_goes_on : GoesOn t.behaviour (capacity e) (states_of g) (edges_of g) (graph_wired g) nodes (states_of g') (view e') (states_of g'') (view e'') any
+  pass_goes_on =
+      goes_on t.behaviour (capacity e) (states_of g) (edges_of g) (graph_wired g) (states_of g') (edges_of g') (view e') shape.network
+      (capacity e') (even e e' shape.same) reached nodes (states_of g'') (view e'') any visits
+
   pub pass_reached : RunLeadsTo t.behaviour (capacity e) (states_of g) (edges_of g) (states_of g'') (view e'')
-  pass_reached = reached_then t.behaviour (capacity e) (states_of g) (edges_of g) (graph_wired g) (states_of g') (edges_of g') (view e') shape.network
-      (capacity e') (even e e' shape.same) reached nodes (states_of g'') (view e'') any visits
+  pass_reached = pass_goes_on.reached
 
-  pub pass_ends : any ≡ false → OthersAreOver t.behaviour (capacity e) (states_of g) (edges_of g) (states_of g') nodes →
-      EndsMaximalRun t.behaviour (capacity e) (states_of g) (edges_of g) (states_of g'') (view e'')
-  pass_ends none others =
-      ends_run t.behaviour (capacity e) (states_of g) (edges_of g) (graph_wired g) (states_of g') (edges_of g') (view e') shape.network (capacity e')
-      (even e e' shape.same) reached nodes (states_of g'') (view e'') any none visits others
-
-  pub pass_others : OthersAreOver t.behaviour (capacity e) (states_of g) (edges_of g) (states_of g') nodes → (left : List ℕ) →
-      ((k : ℕ) → Contains nodes k → Contains left k ⊎ (is_over (t.behaviour.process.want (state_at t.behaviour (states_of g'') k)) ≡ true))
-      → OthersAreOver t.behaviour (capacity e) (states_of g) (edges_of g) (states_of g'') left
-  pass_others =
-      others_then t.behaviour (capacity e) (states_of g) (edges_of g) (graph_wired g) (states_of g') (edges_of g') (view e') shape.network
-      (capacity e') (even e e' shape.same) reached nodes (states_of g'') (view e'') any visits
-
-  pub pass_falls : (settles : Settles t.behaviour.process) → any ≡ true →
-      left_of t.behaviour (capacity e) (states_of g) (edges_of g) (graph_wired g) settles (view e'') < left_of t.behaviour (capacity e) (states_of g)
-      (edges_of g) (graph_wired g) settles (view e')
-  pass_falls settles some =
-      left_falls t.behaviour (capacity e) (states_of g) (edges_of g) (graph_wired g) (states_of g') (edges_of g') (view e') shape.network
-      (capacity e') (even e e' shape.same) reached nodes (states_of g'') (view e'') settles any some visits
+-- of one that kept the shape too, over a copy of those that are running
+module _ {X Y : Type 0} {t : Ghosts X} {Same : Y → Y → Type 0} {view : Y → View} (capacity : Y → ℕ)
+    (even : (x y : Y) → Same x y → capacity y ≡ capacity x) {g : Graph X t} {e : Y} {g' : Graph X t} {e' : Y} {g'' : Graph X t} {e'' : Y}
+    (shape : KeepsShape Same view g e g' e') (pass : KeepsShape Same view g' e' g'' e'')
+    (reached : RunLeadsTo t.behaviour (capacity e) (states_of g) (edges_of g) (states_of g') (view e')) where
+  pub pass_over_running : {nodes running : List ℕ} → nodes ≡ running → (any : Bool) →
+      Visits t.behaviour (capacity e') nodes (edges_of g') (states_of g') (view e') (states_of g'') (view e'') any →
+      GoesOn t.behaviour (capacity e) (states_of g) (edges_of g) (graph_wired g) running (states_of g') (view e') (states_of g'') (view e'') any
+  pass_over_running is any visits =
+      pass_goes_on Same view capacity even g e g' e' g'' e'' shape reached _ any
+      (subst (λ l. Visits t.behaviour (capacity e') l (edges_of g') (states_of g') (view e') (states_of g'') (view e'') any) is visits)

@@ -1,5 +1,5 @@
 -- Whatever a schedule did first, maximal runs from there end where one from the start ends.
-use Rattle.std.proofs.Common.{◌≡◌, ℕ, Bool, true, false, List, [], ◌∷◌, Some, sym, subst}
+use Rattle.std.proofs.Common.{ℕ, Bool, true, false, List, [], ◌∷◌, Some, sym, subst}
 use Rattle.kahn.specs.Processes.{Event}
 use Rattle.kahn.specs.Networks.{Network}
 use Rattle.kahn.specs.Configurations.{Configuration, start}

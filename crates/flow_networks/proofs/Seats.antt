@@ -1,10 +1,15 @@
 -- Nodes in their places: one of them later, one more of them, and one edge more at them.
-use Rattle.std.proofs.Common.{◌≡◌, ℕ, ◌<◌, ◌≤◌, List, [], ◌∷◌, ◌++◌, length, get_or, set, map, ◌⊎◌, inl, inr, Option, Some, refl, sym, ◌∙◌, ap, arith, get_or-set_same, get_or-set_other}
-use Rattle.std.specs.List.{position_or_len}
+use Rattle.std.proofs.Common.{◌≡◌, ℕ, ◌<◌, ◌≤◌, true, List, [], ◌∷◌, ◌++◌, length, get_or, set, map, ◌⊎◌, inl, inr, Option, Some, refl, sym, ◌∙◌, ap, subst, arith, get_or-set_same, get_or-set_other}
+use Rattle.std.specs.List.{All, position_or_len}
 use Rattle.std.proofs.lemmas.Bool.{cases_eq, cases_lt}
 use Rattle.std.proofs.lemmas.List.{get_or-map, map-set, set-get_or, length-map, length-set, map-append, get_or_append_left, get_or_push, length_push}
+use Rattle.kahn.specs.declared.want.Want.{Want}
+use Rattle.kahn.specs.declared.want.Want.TheVariants.{Read, Write}
 use Rattle.flow_base.specs.Transducers.{BehaviourLaws}
 use Rattle.flow_base.specs.declared.transducer.Transducer.{Ghosts}
+use Rattle.flow_base.specs.Visits.{IsPlaced}
+use Rattle.flow_messages.specs.Ends.{View}
+use Rattle.flow_networks.specs.InPlace.{PlaceTakesKinds}
 use Rattle.flow_networks.specs.declared.edge.Edge.{Edge}
 use Rattle.flow_networks.specs.declared.placed.Placed.{Placed}
 use Rattle.flow_networks.specs.Edges.{edge_at, in_edge, out_edge}
@@ -15,7 +20,23 @@ use Rattle.flow_networks.specs.Places.{number_at, placed_state, states_in, numbe
 use Rattle.flow_networks.specs.Kept.{IsBuilt}
 use Rattle.flow_networks.proofs.Tables.{at_port, entry_is, number_is, node_inside, row_inside}
 use Rattle.flow_networks.proofs.Wirings.{map_set_back, input_side, output_side}
-use Rattle.flow_networks.proofs.Reached.{state_read, built_openings}
+use Rattle.flow_networks.proofs.Reached.{state_read, built_openings, wants_input, wants_output}
+
+-- a port that it wants has its edge
+module _ {X : Type 0} {t : Ghosts X} (laws : BehaviourLaws t.behaviour) (x : Placed X t) (p : ℕ) {w : Want} (told : w ≡ t.behaviour.process.want (placed_state x)) where
+  pub input_inside : w ≡ Read p → p < length x.inputs.items
+  input_inside is = subst (λ n. p < n) (sym x.each_input) (wants_input t.behaviour laws (placed_state x) p (sym told ∙ is) x.reached)
+
+  pub output_inside : w ≡ Write p → p < length x.outputs.items
+  output_inside is = subst (λ n. p < n) (sym x.each_output) (wants_output t.behaviour laws (placed_state x) p (sym told ∙ is) x.reached)
+
+-- the ends are there of the edges at its ports, as the code lists them
+pub is_placed : {X : Type 0} {t : Ghosts X} (x : Placed X t) {v : View} → All (λ e. v.reads e ≡ true) x.inputs.items → All (λ e. v.writes e ≡ true) x.outputs.items →
+    PlaceTakesKinds x v → {inputs outputs : List ℕ} → inputs ≡ x.inputs.items → outputs ≡ x.outputs.items → IsPlaced t.behaviour inputs outputs (placed_state x) v
+is_placed {t = t} x {v} reads writes kinds {inputs} {outputs} ins outs =
+    subst (λ l. IsPlaced t.behaviour l outputs (placed_state x) v) (sym ins)
+    (subst (λ l. IsPlaced t.behaviour x.inputs.items l (placed_state x) v) (sym outs)
+    (record { reached = x.reached; each_input = x.each_input; each_output = x.each_output; reads = reads; writes = writes; kinds = kinds }))
 
 module _ {X : Type 0} {t : Ghosts X} (nodes : List (Placed X t)) (k : ℕ) (x : Placed X t) (inside : k < length nodes) (is : x ≡ get_or nodes k x) where
   states_inside : k < length (states_in nodes)

@@ -1,9 +1,8 @@
 -- A visit of a node over both ends of each edge is a run of the network.
-use Rattle.std.proofs.Common.{◌≡◌, ℕ, ◌-◌, ◌<◌, ◌≤◌, Bool, true, false, cond, eqb, ltb, List, [], ◌∷◌, ◌++◌, length, get_or, set, Some, ◌⊎◌, inl, inr}
+use Rattle.std.proofs.Common.{◌≡◌, ℕ, ◌-◌, ◌<◌, ◌≤◌, Bool, true, false, cond, eqb, ltb, List, [], ◌∷◌, ◌++◌, length, set, Some, ◌⊎◌, inl, inr}
 use Rattle.std.proofs.Common.{refl, sym, ◌∙◌, ap, subst, arith, append-nil, eq-eqb, lt-ltb}
 use Rattle.std.specs.List.{All, Contains}
 use Rattle.std.proofs.lemmas.Bool.{cases_Bool, and_from, and_parts, ltb-true, eqb-true}
-use Rattle.std.proofs.lemmas.List.{length-map}
 use Rattle.std.proofs.lemmas.List.Elements.{Contains-push_cases, All-nil, All-cons}
 use Rattle.kahn.specs.declared.want.Want.{Want}
 use Rattle.kahn.specs.declared.want.Want.TheVariants.{Read, Write, Ended, Faulted}
@@ -24,15 +23,16 @@ use Rattle.flow_base.specs.Transducers.{Behaviour, BehaviourLaws}
 use Rattle.flow_base.specs.declared.transducer.Transducer.{Ghosts}
 use Rattle.flow_base.specs.Visits.{Visited, BrokeOff, IsStuck, edge_of}
 use Rattle.flow_networks.specs.declared.edge.Edge.{Edge}
+use Rattle.flow_networks.specs.declared.graph.Graph.{Graph}
 use Rattle.flow_networks.specs.declared.placed.Placed.{Placed}
 use Rattle.flow_networks.specs.Edges.{in_edge, out_edge}
 use Rattle.flow_networks.specs.Networks.{state_at, inputs_at, outputs_at, SameBut, network_of, configuration_of}
 use Rattle.flow_networks.specs.Visits.{IsVisited, HasAllEnds, Visits, VisitBrokeOff}
-use Rattle.flow_networks.specs.Places.{placed_state, states_in, AreSeated, IsSamePlace}
-use Rattle.flow_networks.specs.Kept.{IsBuilt}
+use Rattle.flow_networks.specs.Graphs.{states_of, edges_of}
+use Rattle.flow_networks.specs.Places.{placed_state, states_in, IsSamePlace}
+use Rattle.flow_networks.specs.Standing.{stand_at}
 use Rattle.flow_networks.proofs.Nets.{lawful_net}
-use Rattle.flow_networks.proofs.Reached.{same_but, state_written}
-use Rattle.flow_networks.proofs.Seats.{state_here, inputs_here, outputs_here, input_here, output_here, states_after, openings_same}
+use Rattle.flow_networks.proofs.GraphNodes.{IsNode, among_states, stands, input_count, output_count, input_is, output_is, later_state, later_others}
 use Rattle.flow_networks.proofs.Carried.{read_own, read_other, sent_own, sent_other}
 
 -- events of one node are events of the nodes of the list that has it alone
@@ -217,53 +217,31 @@ module _ {S : Type 0} (b : Behaviour S) (laws : BehaviourLaws b) (states : List 
   }
 
 -- the same of a placed node, over its own edges
-module _ {X : Type 0} {t : Ghosts X} (laws : BehaviourLaws t.behaviour) (nodes : List (Placed X t)) (edges : List Edge)
-    (built : IsBuilt t.behaviour (states_in nodes) edges) (seated : AreSeated nodes edges)
-    (k : ℕ) (x : Placed X t) (inside : k < length nodes) (is : x ≡ get_or nodes k x) (y : Placed X t) (place : IsSamePlace x y) (capacity : ℕ)
-    (a v : View) (whole_a : IsWhole capacity a) (whole_v : IsWhole capacity v) (ends : SameEnds a v) (all : HasAllEnds (length edges) a) where
-  pub node_visits : (any : Bool) → Visited x.inputs.items x.outputs.items t.behaviour (placed_state x) a (placed_state y) v any →
-      Visits t.behaviour capacity (k ∷ []) edges (states_in nodes) a (states_in (set nodes k y)) v any
-  node_visits any visited sound =
-      visited_run b laws states edges built.wired (lawful_net b states edges laws) k here states' capacity a v others whole_v x.inputs.items x.outputs.items
-      (λ p port. input_here nodes k x inside is edges built.joined seated p port) (λ q port. output_here nodes k x inside is edges built.joined seated q port)
-      (λ q port. ends.writes (out_edge edges k q) ∙ (all (out_edge edges k q) (built.joined.outputs k q port)).0)
-      any (subst (λ s. Visited x.inputs.items x.outputs.items b (state_at b states k) a s v any) (sym after)
-      (subst (λ s. Visited x.inputs.items x.outputs.items b s a (placed_state y) v any) (state_here nodes k x inside is) visited)) sound
-    where
-      b : Behaviour t.State
-      b = t.behaviour
+module _ {X : Type 0} {t : Ghosts X} (laws : BehaviourLaws t.behaviour) {graph : Graph X t} {k : ℕ} {x : Placed X t} (at : IsNode graph k x)
+    (y : Placed X t) (place : IsSamePlace x y) (a v : View) where
+  pub node_visits : (capacity : ℕ) → IsWhole capacity v → SameEnds a v → HasAllEnds (length (edges_of graph)) a → (any : Bool) →
+      Visited x.inputs.items x.outputs.items t.behaviour (placed_state x) a (placed_state y) v any →
+      Visits t.behaviour capacity (k ∷ []) (edges_of graph) (states_of graph) a (states_in (set graph.nodes.items k y)) v any
+  node_visits capacity whole ends all any visited sound =
+      let b = t.behaviour in
+      let edges = edges_of graph in
+      visited_run b laws (states_of graph) edges graph.built.wired (lawful_net b (states_of graph) edges laws) k (among_states at)
+      (states_in (set graph.nodes.items k y)) capacity a v (later_others at y place laws) whole x.inputs.items x.outputs.items (input_is at) (output_is at)
+      (λ q port. ends.writes (out_edge edges k q) ∙ (all (out_edge edges k q) (graph.built.joined.outputs k q port)).0)
+      any (subst (λ s. Visited x.inputs.items x.outputs.items b (stand_at graph k) a s v any) (sym (later_state at y))
+      (subst (λ s. Visited x.inputs.items x.outputs.items b s a (placed_state y) v any) (stands at) visited)) sound
 
-      states : List t.State
-      states = states_in nodes
-
-      states' : List t.State
-      states' = states_in (set nodes k y)
-
-      here : k < length (states_in nodes)
-      here = omega (arith, inside, length-map nodes placed_state)
-
-      after : state_at t.behaviour (states_in (set nodes k y)) k ≡ placed_state y
-      after = state_written t.behaviour (states_in nodes) (states_in (set nodes k y)) k (placed_state y) here (states_after nodes k x inside is y)
-
-      others : SameBut t.behaviour k (states_in nodes) (states_in (set nodes k y))
-      others = same_but t.behaviour laws (states_in nodes) (states_in (set nodes k y)) (openings_same nodes k x inside is y place) k (placed_state y) (states_after nodes k x inside is y)
-
--- a visit that broke off, of a placed node
-module _ {X : Type 0} {t : Ghosts X} (laws : BehaviourLaws t.behaviour) (nodes : List (Placed X t)) (edges : List Edge)
-    (built : IsBuilt t.behaviour (states_in nodes) edges) (seated : AreSeated nodes edges)
-    (k : ℕ) (x : Placed X t) (inside : k < length nodes) (is : x ≡ get_or nodes k x) (y : Placed X t) (place : IsSamePlace x y) (a v : View) where
-  pub node_broke : BrokeOff x.inputs.items x.outputs.items t.behaviour (placed_state x) a (placed_state y) v → VisitBrokeOff t.behaviour k edges (states_in nodes) a (states_in (set nodes k y)) v
+  -- a visit that broke off
+  pub node_broke : BrokeOff x.inputs.items x.outputs.items t.behaviour (placed_state x) a (placed_state y) v →
+      VisitBrokeOff t.behaviour k (edges_of graph) (states_of graph) a (states_in (set graph.nodes.items k y)) v
   node_broke broke = record {
     inputs = x.inputs.items;
     outputs = x.outputs.items;
-    each_input = inputs_here nodes k x inside is;
-    each_output = outputs_here nodes k x inside is;
-    reads = λ p port. input_here nodes k x inside is edges built.joined seated p port;
-    writes = λ q port. output_here nodes k x inside is edges built.joined seated q port;
-    broke = subst (λ s. BrokeOff x.inputs.items x.outputs.items t.behaviour (state_at t.behaviour (states_in nodes) k) a s v) (sym after)
-        (subst (λ s. BrokeOff x.inputs.items x.outputs.items t.behaviour s a (placed_state y) v) (state_here nodes k x inside is) broke);
-    others = same_but t.behaviour laws (states_in nodes) (states_in (set nodes k y)) (openings_same nodes k x inside is y place) k (placed_state y) (states_after nodes k x inside is y);
+    each_input = input_count at;
+    each_output = output_count at;
+    reads = input_is at;
+    writes = output_is at;
+    broke = subst (λ s. BrokeOff x.inputs.items x.outputs.items t.behaviour (stand_at graph k) a s v) (sym (later_state at y))
+        (subst (λ s. BrokeOff x.inputs.items x.outputs.items t.behaviour s a (placed_state y) v) (stands at) broke);
+    others = later_others at y place laws;
   }
-    where
-      after : state_at t.behaviour (states_in (set nodes k y)) k ≡ placed_state y
-      after = state_written t.behaviour (states_in nodes) (states_in (set nodes k y)) k (placed_state y) (omega (arith, inside, length-map nodes placed_state)) (states_after nodes k x inside is y)

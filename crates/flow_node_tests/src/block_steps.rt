@@ -4,12 +4,12 @@ ghost use Rattle.flow_samples.specs.Joined.{AreJoined};
 
 use flow_base::Transducer;
 use flow_boxes::Boxes;
-use flow_lanes::Rings;
-use flow_meetings::{EdgeOwners, Meeting, Opening, meet_all, open_all};
+use flow_edges::lanes::Rings;
 use flow_messages::{Block, Ends, Kind, Table};
 use flow_networks::{Graph, step_block};
 use flow_nodes::StreamNode;
 use flow_samples::{block, graph_of, lone};
+use flow_shares::meetings::{EdgeOwners, Meeting, Opening, meet_all, open_all};
 use std::alloc::{AllocError, Global};
 use std::process::Abort;
 use std::test::Fail;

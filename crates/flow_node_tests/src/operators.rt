@@ -1,7 +1,7 @@
 // Operators on scalars, called directly.
 
+use snesl_data::operators::{BinaryOperator, Scalar, UnaryOperator};
 use snesl_data::{Dialect, FaultKind};
-use snesl_operators::{BinaryOperator, Scalar, UnaryOperator};
 use std::process::Abort;
 
 // Asserts values of operators in a dialect whose integers go from `least` to `greatest`.

@@ -6,35 +6,10 @@ use Rattle.flow_nodes.specs.declared.stream_node.StreamNode.{StreamNode}
 use Rattle.flow_nodes.specs.declared.stream_node.StreamNode.TheVariants as nodes
 use Rattle.flow_nodes.specs.StreamNodes.{node_behaviour, state_of, text_in}
 
--- the same function, by cases of the variant
+-- the same function, by cases of the variant: the second clause stands for each of the others
 abbrev pub by_variant : {R : Type 0} → (StreamNode → R) → StreamNode → R
 by_variant f (nodes.Source n) = f (nodes.Source n)
-by_variant f (nodes.TextSource n) = f (nodes.TextSource n)
-by_variant f (nodes.Const n) = f (nodes.Const n)
-by_variant f (nodes.Unary n) = f (nodes.Unary n)
-by_variant f (nodes.Binary n) = f (nodes.Binary n)
-by_variant f (nodes.Fork n) = f (nodes.Fork n)
-by_variant f (nodes.Sink n) = f (nodes.Sink n)
-by_variant f (nodes.Iota n) = f (nodes.Iota n)
-by_variant f (nodes.UnitsOf n) = f (nodes.UnitsOf n)
-by_variant f (nodes.ScanAdd n) = f (nodes.ScanAdd n)
-by_variant f (nodes.Reduce n) = f (nodes.Reduce n)
-by_variant f (nodes.Length n) = f (nodes.Length n)
-by_variant f (nodes.FlagOfBool n) = f (nodes.FlagOfBool n)
-by_variant f (nodes.TheCheck n) = f (nodes.TheCheck n)
-by_variant f (nodes.SameFlags n) = f (nodes.SameFlags n)
-by_variant f (nodes.ConcatFlags n) = f (nodes.ConcatFlags n)
-by_variant f (nodes.PartFlags n) = f (nodes.PartFlags n)
-by_variant f (nodes.AppendFlags n) = f (nodes.AppendFlags n)
-by_variant f (nodes.Dist n) = f (nodes.Dist n)
-by_variant f (nodes.Pack n) = f (nodes.Pack n)
-by_variant f (nodes.PackGroups n) = f (nodes.PackGroups n)
-by_variant f (nodes.Interleave n) = f (nodes.Interleave n)
-by_variant f (nodes.InterleaveGroups n) = f (nodes.InterleaveGroups n)
-by_variant f (nodes.Print n) = f (nodes.Print n)
-by_variant f (nodes.Tab n) = f (nodes.Tab n)
-by_variant f (nodes.Seq n) = f (nodes.Seq n)
-by_variant f (nodes.Index n) = f (nodes.Index n)
+by_variant f x = f x
 
 pub same_by_variant : {R : Type 0} (f : StreamNode → R) (x : StreamNode) → f x ≡ by_variant f x
 same_by_variant f x = grind arith

@@ -9,7 +9,7 @@ use Rattle.flow_base.specs.Sums.{sum_does, does_sum}
 use Rattle.flow_base.specs.Visits.{IsPlaced, Visited, BrokeOff}
 use Rattle.flow_base.proofs.Reached.{opening_does}
 use Rattle.flow_nodes.specs.StreamNodes.{NodeKind, a_source, member, node_behaviour}
-use Rattle.flow_nodes.specs.KindLaws.{laws_of_kind}
+use Rattle.flow_nodes.specs.KindLaws.{proofs_of_kind}
 
 -- a history from the state in which that of this node opened, which its kind has
 abbrev Comes : (t : NodeKind) × (member t).State → Type 0
@@ -18,7 +18,7 @@ Comes u = (h : List (Event Signal)) × Does (member u.0).behaviour.process ((mem
 comes_kind : (t : NodeKind) (s : (member t).State) (h : List (Event Signal)) → Does node_behaviour.process (node_behaviour.opening (t, s)) h (t, s) → Comes (t, s)
 comes_kind t s h does =
     let b = (member t).behaviour in
-    let laws = laws_of_kind t in
+    let laws = (proofs_of_kind t).laws in
     let first = b.opening s in
     let d = sum_does a_source (λ k. (member k).behaviour) t h first (t, s) does in
     let alike : first ≡ b.opening d.0 = sym (opening_does b laws h first d.0 d.2 ∙ laws.same_opening s) in

@@ -1,5 +1,7 @@
 -- What a transducer of any kind keeps to.
-use Rattle.flow_base.specs.Transducers.{BehaviourLaws}
+use Rattle.flow_base.specs.Machines.{Machine, MachineLaws}
+use Rattle.flow_base.specs.Nodes.{behaviour_of}
+use Rattle.flow_base.specs.Transducers.{Behaviour, BehaviourLaws}
 use Rattle.flow_base.specs.NodeLaws.{behaviour_laws}
 use Rattle.flow_base.specs.Sums.{sum_laws}
 use Rattle.flow_base.specs.RowPorts.{RowsOnPorts}
@@ -35,64 +37,44 @@ use Rattle.flow_nodes.specs.StreamNodes.{a_length, a_flag_of_bool, a_the_check, 
 use Rattle.flow_nodes.specs.StreamNodes.{a_pack, a_pack_groups, an_interleave, an_interleave_groups, a_print, a_tab, a_seq_of_vector, an_index}
 use Rattle.flow_nodes.specs.StreamNodes.{member, node_behaviour}
 
--- the laws of a kind
-abbrev pub laws_of_kind : (t : NodeKind) → BehaviourLaws (member t).behaviour
-laws_of_kind a_source = source_laws
-laws_of_kind a_const = behaviour_laws _ const_laws
-laws_of_kind a_unary = behaviour_laws _ unary_laws
-laws_of_kind a_binary = behaviour_laws _ binary_laws
-laws_of_kind a_fork = behaviour_laws _ fork_laws
-laws_of_kind a_sink = behaviour_laws _ sink_laws
-laws_of_kind an_iota = behaviour_laws _ iota_laws
-laws_of_kind a_units_of = behaviour_laws _ units_of_laws
-laws_of_kind a_scan_add = behaviour_laws _ scan_add_laws
-laws_of_kind a_reduce = behaviour_laws _ reduce_laws
-laws_of_kind a_length = behaviour_laws _ length_laws
-laws_of_kind a_flag_of_bool = behaviour_laws _ flag_of_bool_laws
-laws_of_kind a_the_check = behaviour_laws _ the_check_laws
-laws_of_kind a_same_flags = behaviour_laws _ same_flags_laws
-laws_of_kind a_concat_flags = behaviour_laws _ concat_flags_laws
-laws_of_kind a_part_flags = behaviour_laws _ part_flags_laws
-laws_of_kind an_append_flags = behaviour_laws _ append_flags_laws
-laws_of_kind a_dist = behaviour_laws _ dist_laws
-laws_of_kind a_pack = behaviour_laws _ pack_laws
-laws_of_kind a_pack_groups = behaviour_laws _ pack_groups_laws
-laws_of_kind an_interleave = behaviour_laws _ interleave_laws
-laws_of_kind an_interleave_groups = behaviour_laws _ interleave_groups_laws
-laws_of_kind a_print = print_laws
-laws_of_kind a_tab = behaviour_laws _ tab_laws
-laws_of_kind a_seq_of_vector = behaviour_laws _ seq_laws
-laws_of_kind an_index = behaviour_laws _ index_laws
+-- What is proved of a transducer: it keeps to the laws, and its row speaks of its ports alone.
+pub record KindProofs {S : Type 0} (b : Behaviour S) : Type 0 where
+  pub laws : BehaviourLaws b
+  pub rows : RowsOnPorts b
 
--- that its row speaks of its ports alone
-abbrev pub rows_of_kind : (t : NodeKind) → RowsOnPorts (member t).behaviour
-rows_of_kind a_source = source_rows
-rows_of_kind a_const = worker_rows const_laws
-rows_of_kind a_unary = worker_rows unary_laws
-rows_of_kind a_binary = worker_rows binary_laws
-rows_of_kind a_fork = worker_rows fork_laws
-rows_of_kind a_sink = worker_rows sink_laws
-rows_of_kind an_iota = worker_rows iota_laws
-rows_of_kind a_units_of = worker_rows units_of_laws
-rows_of_kind a_scan_add = worker_rows scan_add_laws
-rows_of_kind a_reduce = worker_rows reduce_laws
-rows_of_kind a_length = worker_rows length_laws
-rows_of_kind a_flag_of_bool = worker_rows flag_of_bool_laws
-rows_of_kind a_the_check = worker_rows the_check_laws
-rows_of_kind a_same_flags = worker_rows same_flags_laws
-rows_of_kind a_concat_flags = worker_rows concat_flags_laws
-rows_of_kind a_part_flags = worker_rows part_flags_laws
-rows_of_kind an_append_flags = worker_rows append_flags_laws
-rows_of_kind a_dist = worker_rows dist_laws
-rows_of_kind a_pack = worker_rows pack_laws
-rows_of_kind a_pack_groups = worker_rows pack_groups_laws
-rows_of_kind an_interleave = worker_rows interleave_laws
-rows_of_kind an_interleave_groups = worker_rows interleave_groups_laws
-rows_of_kind a_print = print_rows
-rows_of_kind a_tab = worker_rows tab_laws
-rows_of_kind a_seq_of_vector = worker_rows seq_laws
-rows_of_kind an_index = worker_rows index_laws
+-- a worker with lawful runs makes such a transducer
+pub worker_proofs : {P S : Type 0} {m : Machine P S} → MachineLaws m → KindProofs (behaviour_of m)
+worker_proofs laws = record { laws = behaviour_laws _ laws; rows = worker_rows laws }
+
+-- what is proved of each kind
+pub proofs_of_kind : (t : NodeKind) → KindProofs (member t).behaviour
+proofs_of_kind a_source = record { laws = source_laws; rows = source_rows }
+proofs_of_kind a_const = worker_proofs const_laws
+proofs_of_kind a_unary = worker_proofs unary_laws
+proofs_of_kind a_binary = worker_proofs binary_laws
+proofs_of_kind a_fork = worker_proofs fork_laws
+proofs_of_kind a_sink = worker_proofs sink_laws
+proofs_of_kind an_iota = worker_proofs iota_laws
+proofs_of_kind a_units_of = worker_proofs units_of_laws
+proofs_of_kind a_scan_add = worker_proofs scan_add_laws
+proofs_of_kind a_reduce = worker_proofs reduce_laws
+proofs_of_kind a_length = worker_proofs length_laws
+proofs_of_kind a_flag_of_bool = worker_proofs flag_of_bool_laws
+proofs_of_kind a_the_check = worker_proofs the_check_laws
+proofs_of_kind a_same_flags = worker_proofs same_flags_laws
+proofs_of_kind a_concat_flags = worker_proofs concat_flags_laws
+proofs_of_kind a_part_flags = worker_proofs part_flags_laws
+proofs_of_kind an_append_flags = worker_proofs append_flags_laws
+proofs_of_kind a_dist = worker_proofs dist_laws
+proofs_of_kind a_pack = worker_proofs pack_laws
+proofs_of_kind a_pack_groups = worker_proofs pack_groups_laws
+proofs_of_kind an_interleave = worker_proofs interleave_laws
+proofs_of_kind an_interleave_groups = worker_proofs interleave_groups_laws
+proofs_of_kind a_print = record { laws = print_laws; rows = print_rows }
+proofs_of_kind a_tab = worker_proofs tab_laws
+proofs_of_kind a_seq_of_vector = worker_proofs seq_laws
+proofs_of_kind an_index = worker_proofs index_laws
 
 -- a transducer of any kind keeps to the laws of its kind
 pub node_laws : BehaviourLaws node_behaviour
-node_laws = sum_laws a_source (λ t. (member t).behaviour) laws_of_kind
+node_laws = sum_laws a_source (λ t. (member t).behaviour) (λ t. (proofs_of_kind t).laws)

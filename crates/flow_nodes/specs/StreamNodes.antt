@@ -8,7 +8,7 @@ use Rattle.flow_scalar.specs.SinkMachine.{sink_machine, sink_node}
 use Rattle.flow_scalar.specs.UnitsOfMachine.{units_of_machine, units_of_node}
 use Rattle.flow_scalar.specs.ForkMachine.{fork_machine, is_scalar_kind}
 use Rattle.flow_scalar.specs.SourceBehaviour.{source_node}
-use Rattle.flow_inputs.specs.TextSources.{text_source_state}
+use Rattle.flow_nodes.specs.inputs.TextSources.{text_source_state}
 use Rattle.flow_scalar.specs.UnaryMachine.{unary_node}
 use Rattle.flow_scalar.specs.BinaryMachine.{binary_node}
 use Rattle.flow_scalar.specs.ForkNode.{fork_node}

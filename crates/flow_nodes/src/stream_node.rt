@@ -5,8 +5,8 @@ ghost use Rattle.flow_base.specs.Passing.{MayCome, PassedOn};
 ghost use Rattle.flow_messages.specs.Flats.{flat_signals};
 ghost use Rattle.flow_nodes.specs.StreamNodes.{node_behaviour, passes_in, state_of};
 
+use crate::inputs::TextSource;
 use flow_base::{Port, Printing, Side, Transducer};
-use flow_inputs::TextSource;
 use flow_messages::{Block, Ends, Msg};
 use flow_scalar::{
     Binary, Const, Fork, Iota, Length, Reduce, ScanAdd, Sink, Source, Unary, UnitsOf,

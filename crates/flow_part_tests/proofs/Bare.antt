@@ -5,13 +5,13 @@ use Rattle.flow_messages.specs.Ends.{View}
 use Rattle.flow_messages.specs.declared.ends.Ends.{Ghosts as EndsGhosts}
 use Rattle.flow_base.specs.declared.transducer.Transducer.{Ghosts}
 use Rattle.flow_networks.specs.Skeletons.{FitTogether}
-use Rattle.flow_lanes.specs.declared.rings.Rings.{Rings}
+use Rattle.flow_edges.specs.declared.lanes.rings.Rings.{Rings}
 use Rattle.flow_shares.specs.declared.share.Share.{Share}
-use Rattle.flow_meetings.proofs.Parts.{any_of}
-use Rattle.flow_meetings.specs.Open.{AreOwners}
-use Rattle.flow_meetings.specs.SharedNetworks.{SharedNetwork}
-use Rattle.flow_rounds.specs.Epochs.{AreOfOneGraph}
-use Rattle.flow_rounds.proofs.ShareLists.{count_dealt, nodes_are, view_is}
+use Rattle.flow_shares.proofs.OfMeetings.Parts.{any_of}
+use Rattle.flow_shares.specs.meetings.Open.{AreOwners}
+use Rattle.flow_shares.specs.meetings.SharedNetworks.{SharedNetwork}
+use Rattle.flow_drives.specs.loops.Epochs.{AreOfOneGraph}
+use Rattle.flow_drives.proofs.OfLoops.ShareLists.{count_dealt, nodes_are, view_is}
 use Rattle.flow_part_tests.specs.NoEnds.{HasNoEnds}
 
 pub none_fit : {X : Type 0} (t : Ghosts X) → FitTogether {t = t} [] []

@@ -1,18 +1,20 @@
 // Courses over edges: what is done at their ends, step by step, and what is to come of it. Each is a row, of boxes or of rings.
-ghost use Rattle.std.specs.Prelude.{◌≡◌, ◌<◌, ◌≤◌, ℕ, true, length, slice_index_or};
+ghost use Rattle.std.specs.Prelude.{◌≡◌, ◌<◌, ◌≤◌, ℕ, true, IsTrue, Option, length, slice_index_or};
+ghost use Rattle.flow_messages.specs.declared.message.Kind.{Kind};
 ghost use Rattle.flow_messages.specs.declared.message.Kind.TheVariants.{Int as IntKind};
 ghost use Rattle.std.specs.List.{All};
 ghost use Rattle.flow_messages.specs.Ends.{SameEnds};
+ghost use Rattle.flow_messages.specs.Kinds.{TakesKind, TakesItems};
 ghost use Rattle.flow_messages.specs.Limits.{greatest_capacity};
 ghost use Rattle.flow_samples.specs.Joined.{AreJoined};
 ghost use Rattle.flow_samples.specs.Taking.{AllTake};
 
 use crate::messages::{is_message, is_refused, message};
 use flow_boxes::Boxes;
-use flow_lanes::Rings;
-use flow_meetings::{EdgeOwners, Meeting, Opening, meet_all, open_all};
-use flow_messages::{Block as Scalars, CountedEnds, Kind, Why};
+use flow_edges::lanes::Rings;
+use flow_messages::{Block as Scalars, CountedEnds, Items, Kind, Why};
 use flow_samples::{alike, block as block_of, own_owner, owners};
+use flow_shares::meetings::{EdgeOwners, Meeting, Opening, meet_all, open_all};
 use std::alloc::{AllocError, Global};
 use std::process::Abort;
 use std::test::Fail;
@@ -37,12 +39,8 @@ pub enum Act {
 /// What is done with many items of one kind at once, and what is to be seen of them.
 #[derive(Clone, Copy)]
 pub enum Block {
-    PutsUnits(usize),
-    PutsFlags(&'static [bool]),
-    PutsInts(&'static [i64]),
-    ShowsUnits(usize),
-    ShowsFlags(&'static [bool]),
-    ShowsInts(&'static [i64]),
+    Puts(Items<'static>),
+    Shows(Items<'static>),
     SkipsOne,
     /// Whether there is room for so many.
     HasRoomFor(usize, bool),
@@ -104,11 +102,11 @@ const INTS_OVER_RINGS: Course = Course {
     kind: Kind::Int,
     capacity: 2,
     steps: &[
-        CourseStep::At(0, 0, Act::Blocks(Block::PutsInts(&[5, 6]))),
+        CourseStep::At(0, 0, Act::Blocks(Block::Puts(Items::Ints(&[5, 6])))),
         CourseStep::Meet,
-        CourseStep::At(0, 0, Act::Blocks(Block::ShowsInts(&[5, 6]))),
+        CourseStep::At(0, 0, Act::Blocks(Block::Shows(Items::Ints(&[5, 6])))),
         CourseStep::At(0, 0, Act::Blocks(Block::SkipsOne)),
-        CourseStep::At(0, 0, Act::Blocks(Block::ShowsInts(&[6]))),
+        CourseStep::At(0, 0, Act::Blocks(Block::Shows(Items::Ints(&[6])))),
         CourseStep::At(0, 0, Act::Takes(Some(6))),
         CourseStep::At(0, 0, Act::Counts(2, 2)),
     ],
@@ -121,10 +119,10 @@ const MANY_INTS_OVER_RINGS: Course = Course {
     kind: Kind::Int,
     capacity: 100,
     steps: &[
-        CourseStep::At(0, 0, Act::Blocks(Block::PutsInts(&[7; 70]))),
+        CourseStep::At(0, 0, Act::Blocks(Block::Puts(Items::Ints(&[7; 70])))),
         CourseStep::Meet,
         CourseStep::At(0, 0, Act::Blocks(Block::SkipsOne)),
-        CourseStep::At(0, 0, Act::Blocks(Block::ShowsInts(&[7; 69]))),
+        CourseStep::At(0, 0, Act::Blocks(Block::Shows(Items::Ints(&[7; 69])))),
         CourseStep::At(0, 0, Act::Counts(70, 1)),
     ],
 };
@@ -135,10 +133,10 @@ const MANY_UNITS_OVER_RINGS: Course = Course {
     kind: Kind::Unit,
     capacity: 100,
     steps: &[
-        CourseStep::At(0, 0, Act::Blocks(Block::PutsUnits(70))),
+        CourseStep::At(0, 0, Act::Blocks(Block::Puts(Items::Units(70)))),
         CourseStep::Meet,
         CourseStep::At(0, 0, Act::Blocks(Block::SkipsOne)),
-        CourseStep::At(0, 0, Act::Blocks(Block::ShowsUnits(69))),
+        CourseStep::At(0, 0, Act::Blocks(Block::Shows(Items::Units(69)))),
         CourseStep::At(0, 0, Act::Counts(70, 1)),
     ],
 };
@@ -149,10 +147,10 @@ const MANY_FLAGS_OVER_RINGS: Course = Course {
     kind: Kind::Bool,
     capacity: 100,
     steps: &[
-        CourseStep::At(0, 0, Act::Blocks(Block::PutsFlags(&[true; 70]))),
+        CourseStep::At(0, 0, Act::Blocks(Block::Puts(Items::Flags(&[true; 70])))),
         CourseStep::Meet,
         CourseStep::At(0, 0, Act::Blocks(Block::SkipsOne)),
-        CourseStep::At(0, 0, Act::Blocks(Block::ShowsFlags(&[true; 69]))),
+        CourseStep::At(0, 0, Act::Blocks(Block::Shows(Items::Flags(&[true; 69])))),
         CourseStep::At(0, 0, Act::Counts(70, 1)),
     ],
 };
@@ -163,9 +161,9 @@ const FLAGS_OVER_RINGS: Course = Course {
     kind: Kind::Bool,
     capacity: 2,
     steps: &[
-        CourseStep::At(0, 0, Act::Blocks(Block::PutsFlags(&[true]))),
+        CourseStep::At(0, 0, Act::Blocks(Block::Puts(Items::Flags(&[true])))),
         CourseStep::Meet,
-        CourseStep::At(0, 0, Act::Blocks(Block::ShowsFlags(&[true]))),
+        CourseStep::At(0, 0, Act::Blocks(Block::Shows(Items::Flags(&[true])))),
         CourseStep::At(0, 0, Act::Blocks(Block::SkipsOne)),
         CourseStep::At(0, 0, Act::Counts(1, 1)),
     ],
@@ -177,9 +175,9 @@ const UNITS_OVER_RINGS: Course = Course {
     kind: Kind::Unit,
     capacity: 2,
     steps: &[
-        CourseStep::At(0, 0, Act::Blocks(Block::PutsUnits(2))),
+        CourseStep::At(0, 0, Act::Blocks(Block::Puts(Items::Units(2)))),
         CourseStep::Meet,
-        CourseStep::At(0, 0, Act::Blocks(Block::ShowsUnits(2))),
+        CourseStep::At(0, 0, Act::Blocks(Block::Shows(Items::Units(2)))),
         CourseStep::At(0, 0, Act::Blocks(Block::SkipsOne)),
         CourseStep::At(0, 0, Act::Blocks(Block::SkipsOne)),
         CourseStep::At(0, 0, Act::Counts(2, 2)),
@@ -193,20 +191,20 @@ const INTS_OVER_BOXES: Course = Course {
     kind: Kind::Int,
     capacity: 2,
     steps: &[
-        CourseStep::At(0, 0, Act::Blocks(Block::PutsInts(&[5, 6]))),
+        CourseStep::At(0, 0, Act::Blocks(Block::Puts(Items::Ints(&[5, 6])))),
         CourseStep::Meet,
-        CourseStep::At(0, 0, Act::Blocks(Block::ShowsInts(&[5, 6]))),
+        CourseStep::At(0, 0, Act::Blocks(Block::Shows(Items::Ints(&[5, 6])))),
         CourseStep::At(0, 0, Act::Blocks(Block::SkipsOne)),
         CourseStep::Meet,
-        CourseStep::At(0, 0, Act::Blocks(Block::PutsInts(&[7]))),
-        CourseStep::At(0, 0, Act::Blocks(Block::ShowsInts(&[6]))),
+        CourseStep::At(0, 0, Act::Blocks(Block::Puts(Items::Ints(&[7])))),
+        CourseStep::At(0, 0, Act::Blocks(Block::Shows(Items::Ints(&[6])))),
         CourseStep::Meet,
-        CourseStep::At(0, 0, Act::Blocks(Block::ShowsInts(&[6, 7]))),
+        CourseStep::At(0, 0, Act::Blocks(Block::Shows(Items::Ints(&[6, 7])))),
         CourseStep::At(0, 0, Act::Blocks(Block::SkipsOne)),
         CourseStep::At(0, 0, Act::Takes(Some(7))),
         CourseStep::Meet,
         CourseStep::At(0, 0, Act::Puts(None)),
-        CourseStep::At(0, 0, Act::Blocks(Block::PutsInts(&[8]))),
+        CourseStep::At(0, 0, Act::Blocks(Block::Puts(Items::Ints(&[8])))),
         CourseStep::At(0, 0, Act::Counts(4, 3)),
     ],
 };
@@ -217,9 +215,9 @@ const FLAGS_OVER_BOXES: Course = Course {
     kind: Kind::Bool,
     capacity: 2,
     steps: &[
-        CourseStep::At(0, 0, Act::Blocks(Block::PutsFlags(&[true]))),
+        CourseStep::At(0, 0, Act::Blocks(Block::Puts(Items::Flags(&[true])))),
         CourseStep::Meet,
-        CourseStep::At(0, 0, Act::Blocks(Block::ShowsFlags(&[true]))),
+        CourseStep::At(0, 0, Act::Blocks(Block::Shows(Items::Flags(&[true])))),
         CourseStep::At(0, 0, Act::Blocks(Block::SkipsOne)),
         CourseStep::At(0, 0, Act::Counts(1, 1)),
     ],
@@ -231,9 +229,9 @@ const UNITS_OVER_BOXES: Course = Course {
     kind: Kind::Unit,
     capacity: 2,
     steps: &[
-        CourseStep::At(0, 0, Act::Blocks(Block::PutsUnits(2))),
+        CourseStep::At(0, 0, Act::Blocks(Block::Puts(Items::Units(2)))),
         CourseStep::Meet,
-        CourseStep::At(0, 0, Act::Blocks(Block::ShowsUnits(2))),
+        CourseStep::At(0, 0, Act::Blocks(Block::Shows(Items::Units(2)))),
         CourseStep::At(0, 0, Act::Counts(2, 0)),
         CourseStep::At(0, 0, Act::Blocks(Block::SkipsOne)),
         CourseStep::At(0, 0, Act::Blocks(Block::SkipsOne)),
@@ -372,8 +370,8 @@ const OVER_RINGS: [Course; 10] = [
 /// The kind of the items that it puts.
 pub fn kind_put(act: Act) -> Kind {
     match act {
-        Act::Blocks(Block::PutsUnits(_)) => Kind::Unit,
-        Act::Blocks(Block::PutsFlags(_)) => Kind::Bool,
+        Act::Blocks(Block::Puts(Items::Units(_))) => Kind::Unit,
+        Act::Blocks(Block::Puts(Items::Flags(_))) => Kind::Bool,
         _ => Kind::Int,
     }
 }
@@ -433,15 +431,8 @@ fn goes_in_blocks<E: CountedEnds>(ends: &mut E, edge: usize, kind: Kind, block: 
 {
     let (writes, reads) = (ends.has_writer(edge), ends.has_reader(edge));
     match block {
-        Block::PutsUnits(count) if writes && kind == Kind::Unit && ends.space(edge) >= count => {
-            ends.put_units(edge, count);
-        }
-        Block::PutsFlags(flags)
-            if writes && kind == Kind::Bool && ends.space(edge) >= flags.len() => {
-            ends.put_flags(edge, flags);
-        }
-        Block::PutsInts(ints) if writes && kind == Kind::Int && ends.space(edge) >= ints.len() => {
-            ends.put_ints(edge, ints);
+        Block::Puts(items) if writes && are_of(items, kind) && ends.space(edge) >= items.len() => {
+            ends.put_all(edge, items);
         }
         Block::SkipsOne if reads && ends.ready(edge) => ends.skip(edge, 1),
         Block::HasRoomFor(count, room) => return writes && ends.room_for(edge, count) == room,
@@ -454,12 +445,27 @@ fn goes_in_blocks<E: CountedEnds>(ends: &mut E, edge: usize, kind: Kind, block: 
             return count == taken.len()
                 && taken.as_slice() == block_of(Kind::Int, numbers, closes).as_slice();
         }
-        Block::ShowsUnits(count) => return reads && ends.units(edge) == count,
-        Block::ShowsFlags(flags) => return reads && ends.flags(edge) == flags,
-        Block::ShowsInts(ints) => return reads && ends.ints(edge) == ints,
+        Block::Shows(items) => return reads && are_same(ends.shown(edge), items),
         _ => return false,
     }
     true
+}
+
+// Whether an edge of items of this kind takes these.
+fn are_of(items: Items<'_>, kind: Kind) -> bool
+    ensures { IsTrue result → (of : Option Kind) → TakesKind of kind → TakesItems of items.entry }
+{
+    match items {
+        Items::Nothing => true,
+        Items::Units(_) => kind == Kind::Unit,
+        Items::Flags(_) => kind == Kind::Bool,
+        Items::Ints(_) => kind == Kind::Int,
+    }
+}
+
+// Whether these are the same.
+fn are_same(one: Items<'_>, other: Items<'_>) -> bool {
+    one.units() == other.units() && one.flags() == other.flags() && one.ints() == other.ints()
 }
 
 // Puts these numbers as a block, and `End` after them where it closes. Whether they are put; if not, the block is as it was.

@@ -3,11 +3,11 @@ ghost use Rattle.std.specs.Prelude.{◌≡◌, true};
 ghost use Rattle.flow_messages.specs.declared.message.Kind.TheVariants.{Int as IntKind};
 ghost use Rattle.flow_messages.specs.Kinds.{fits};
 ghost use Rattle.flow_messages.specs.Signals.{signal_of};
-ghost use Rattle.flow_lanes.specs.Rings.{ends_of, writer_at, reader_at, SameRings, Joins};
+ghost use Rattle.flow_edges.specs.lanes.Rings.{ends_of, writer_at, reader_at, SameRings, Joins};
 ghost use Rattle.flow_samples.specs.Taking.{AllTake};
 
 use crate::messages::{is_message, message};
-use flow_lanes::{Rings, rings_stay_joined};
+use flow_edges::lanes::{Rings, rings_stay_joined};
 use flow_messages::{Ends, Kind, Msg};
 use flow_samples::{crossed, lone};
 use std::alloc::{AllocError, Global};

@@ -1,13 +1,13 @@
 // Shares without nodes that are run in threads, and in epochs.
 ghost use Rattle.std.specs.Prelude.{◌≡◌, false, length, IfOk};
 ghost use Rattle.std.specs.List.{All};
-ghost use Rattle.flow_lanes.specs.Rings.{ends_of};
+ghost use Rattle.flow_edges.specs.lanes.Rings.{ends_of};
 ghost use Rattle.flow_part_tests.specs.NoEnds.{HasNoEnds};
 
 use crate::shares::{numbers_of, two_bare};
 use flow_base::Transducer;
-use flow_lanes::Rings;
-use flow_rounds::run_epochs;
+use flow_drives::loops::run_epochs;
+use flow_edges::lanes::Rings;
 use flow_shares::{AlwaysStart, Gate, NoGate, Share, WorkError, run_all};
 use std::alloc::Global;
 use std::sync::Arc;

@@ -4,14 +4,14 @@ ghost use Rattle.std.specs.List.{All};
 ghost use Rattle.flow_messages.specs.Limits.{greatest_capacity};
 ghost use Rattle.flow_networks.specs.Graphs.{states_of};
 ghost use Rattle.flow_networks.specs.Networks.{AreOpened};
-ghost use Rattle.flow_meetings.specs.SharedNetworks.{SharedNetwork, shared_network};
+ghost use Rattle.flow_shares.specs.meetings.SharedNetworks.{SharedNetwork, shared_network};
 
 use flow_base::Transducer;
 use flow_boxes::Boxes;
-use flow_lanes::Rings;
-use flow_meetings::{Dealt, Opening, are_calm, are_fed, deal, gather_graph};
+use flow_edges::lanes::Rings;
 use flow_networks::{Graph, GraphBuilder};
 use flow_scalar::Source;
+use flow_shares::meetings::{Dealt, Opening, are_calm, are_fed, deal, gather_graph};
 use flow_shares::share_of;
 use std::alloc::{AllocError, Global};
 use std::test::Fail;

@@ -2,11 +2,11 @@
 ghost use Rattle.std.specs.Prelude.{◌≡◌, false, IfOk};
 ghost use Rattle.std.specs.List.{All};
 
-use flow_lanes::Rings;
-use flow_meetings::{Dealt, deal};
+use flow_edges::lanes::Rings;
 use flow_nodes::StreamNode;
 use flow_samples::graph_of;
 use flow_shares::Share;
+use flow_shares::meetings::{Dealt, deal};
 use std::alloc::Global;
 use std::test::Fail;
 

@@ -1,15 +1,15 @@
 // Shares without nodes.
 ghost use Rattle.std.specs.Prelude.{◌≡◌, false, length, IfOk};
 ghost use Rattle.std.specs.List.{All};
-ghost use Rattle.flow_lanes.specs.Rings.{ends_of};
+ghost use Rattle.flow_edges.specs.lanes.Rings.{ends_of};
 ghost use Rattle.flow_part_tests.specs.NoEnds.{HasNoEnds};
 
 use flow_base::Transducer;
-use flow_lanes::Rings;
-use flow_meetings::Opening;
+use flow_edges::lanes::Rings;
 use flow_messages::Table;
 use flow_networks::Placed;
 use flow_scalar::Source;
+use flow_shares::meetings::Opening;
 use flow_shares::{Gate, NoGate, Share, pump};
 use std::alloc::{AllocError, Global};
 use std::cell::Cell;

@@ -1,6 +1,6 @@
 // Edges of one thread.
 use crate::courses::{Act, Block, acts, kind_put};
-use flow_messages::{Ends, Table, WholeEnds, Why};
+use flow_messages::{Ends, Items, Table, WholeEnds, Why};
 use std::process::Abort;
 use std::test::Fail;
 
@@ -62,27 +62,26 @@ fn three_edges(rt: HostRuntime) -> Result<(), Fail> {
 
 // Blocks of each kind are seen on the first edge, and taken in part. On the second, items of other kinds stand in the order of
 // their puts, and no block is put after `End`.
-const IN_BLOCKS: [(usize, Act); 22] = [
-    (0, Act::Blocks(Block::PutsInts(&[7, 8, 9]))),
-    (0, Act::Blocks(Block::ShowsInts(&[7, 8, 9]))),
-    (0, Act::Blocks(Block::ShowsFlags(&[]))),
+const IN_BLOCKS: [(usize, Act); 21] = [
+    (0, Act::Blocks(Block::Puts(Items::Ints(&[7, 8, 9])))),
+    (0, Act::Blocks(Block::Shows(Items::Ints(&[7, 8, 9])))),
     (0, Act::Blocks(Block::SkipsOne)),
     (0, Act::Takes(Some(8))),
-    (0, Act::Blocks(Block::ShowsInts(&[9]))),
+    (0, Act::Blocks(Block::Shows(Items::Ints(&[9])))),
     (0, Act::Takes(Some(9))),
-    (0, Act::Blocks(Block::PutsFlags(&[true, false]))),
-    (0, Act::Blocks(Block::ShowsFlags(&[true, false]))),
+    (0, Act::Blocks(Block::Puts(Items::Flags(&[true, false])))),
+    (0, Act::Blocks(Block::Shows(Items::Flags(&[true, false])))),
     (0, Act::Blocks(Block::SkipsOne)),
     (0, Act::Blocks(Block::SkipsOne)),
-    (0, Act::Blocks(Block::PutsUnits(4))),
+    (0, Act::Blocks(Block::Puts(Items::Units(4)))),
     (0, Act::HasRoom(false)),
     (0, Act::Blocks(Block::SkipsOne)),
-    (0, Act::Blocks(Block::ShowsUnits(3))),
-    (1, Act::Blocks(Block::PutsInts(&[1]))),
-    (1, Act::Blocks(Block::PutsUnits(1))),
-    (1, Act::Blocks(Block::ShowsUnits(0))),
+    (0, Act::Blocks(Block::Shows(Items::Units(3)))),
+    (1, Act::Blocks(Block::Puts(Items::Ints(&[1])))),
+    (1, Act::Blocks(Block::Puts(Items::Units(1)))),
+    (1, Act::Blocks(Block::Shows(Items::Ints(&[1])))),
     (1, Act::Puts(None)),
-    (1, Act::Blocks(Block::PutsInts(&[2]))),
+    (1, Act::Blocks(Block::Puts(Items::Ints(&[2])))),
     (1, Act::Takes(Some(1))),
     (1, Act::Counts(3, 1)),
 ];
@@ -101,10 +100,10 @@ const WIDE_AND_NARROW: [(usize, Act); 11] = [
     (0, Act::Puts(Some(1))),
     (0, Act::Puts(Some(WIDE))),
     (0, Act::Puts(Some(3))),
-    (0, Act::Blocks(Block::ShowsInts(&[1]))),
+    (0, Act::Blocks(Block::Shows(Items::Ints(&[1])))),
     (0, Act::Takes(Some(1))),
-    (0, Act::Blocks(Block::ShowsInts(&[]))),
-    (0, Act::Blocks(Block::PutsInts(&[4]))),
+    (0, Act::Blocks(Block::Shows(Items::Nothing))),
+    (0, Act::Blocks(Block::Puts(Items::Ints(&[4])))),
     (0, Act::Takes(Some(WIDE))),
     (0, Act::Takes(Some(3))),
     (0, Act::Takes(Some(4))),

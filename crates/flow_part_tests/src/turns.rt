@@ -3,7 +3,7 @@ ghost use Rattle.std.specs.Prelude.{◌<◌};
 
 use crate::pairs::second_and_first;
 use flow_base::Transducer;
-use flow_lanes::Rings;
+use flow_edges::lanes::Rings;
 use flow_shares::{Gate, NoGate, Share, pump};
 use std::cell::Cell;
 use std::test::Fail;

@@ -1,5 +1,5 @@
-use flow_crossing::{are_numbers_and_end, numbers_and_end, send_across, send_and_finish};
 use flow_rings::Held;
+use flow_rings::crossing::{are_numbers_and_end, numbers_and_end, send_across, send_and_finish};
 use std::test::Fail;
 
 #[test]

@@ -1,7 +1,7 @@
 // Both ends of an edge of words in one thread: what is put in slices and one by one comes in order.
 use crate::messages::is_message;
 use flow_boxes::Inbox;
-use flow_messages::{Kind, Msg};
+use flow_messages::{Items, Kind, Msg};
 use flow_words::{meet, same_ends_are_an_edge, what_came_is_in_turn, word_edge};
 use std::test::Fail;
 
@@ -9,7 +9,7 @@ use std::test::Fail;
 fn units_come_over_an_edge_of_words(rt: HostRuntime) -> Result<(), Fail> {
     let (mut writer, mut reader) = word_edge(rt.alloc(), Kind::Unit, 4)?;
     let mut inbox = Inbox::new(rt.alloc(), 4)?;
-    writer.put_units(3);
+    writer.put_all(Items::Units(3));
     let ended = writer.put(Msg::End).is_ok();
     assert_eq!(rt;
         (ended, writer.is_closed(), writer.sent_count()),
@@ -17,7 +17,7 @@ fn units_come_over_an_edge_of_words(rt: HostRuntime) -> Result<(), Fail> {
     );
     let more = reader.take_into(&mut inbox);
     assert_eq!(rt;
-        (more, reader.received_count(), inbox.store.units()),
+        (more, reader.received_count(), inbox.store.shown().units()),
         (true, 4, 3)
     );
     Ok(())
@@ -27,10 +27,10 @@ fn units_come_over_an_edge_of_words(rt: HostRuntime) -> Result<(), Fail> {
 fn truth_values_come_over_an_edge_of_words(rt: HostRuntime) -> Result<(), Fail> {
     let (mut writer, mut reader) = word_edge(rt.alloc(), Kind::Bool, 3)?;
     let mut inbox = Inbox::new(rt.alloc(), 3)?;
-    writer.put_flags(&[true, false]);
+    writer.put_all(Items::Flags(&[true, false]));
     let more = reader.take_into(&mut inbox);
     assert_eq!(rt;
-        (more, inbox.store.flags()),
+        (more, inbox.store.shown().flags()),
         (false, [true, false].as_slice())
     );
     assert!(rt; writer.takes(Kind::Bool) && !writer.takes(Kind::Int));
@@ -41,7 +41,7 @@ fn truth_values_come_over_an_edge_of_words(rt: HostRuntime) -> Result<(), Fail> 
 fn integers_come_over_an_edge_of_words(rt: HostRuntime) -> Result<(), Fail> {
     let (mut writer, mut reader) = word_edge(rt.alloc(), Kind::Int, 8)?;
     let mut inbox = Inbox::new(rt.alloc(), 8)?;
-    writer.put_ints(&[1, i64::MIN]);
+    writer.put_all(Items::Ints(&[1, i64::MIN]));
     let more = reader.take_into(&mut inbox);
     let first = is_message(inbox.take(), Some(1));
     let second = is_message(inbox.take(), Some(i128::from(i64::MIN)));

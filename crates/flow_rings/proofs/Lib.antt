@@ -1,3 +1,4 @@
+pub mod OfCrossing
 pub mod Lists
 pub mod Flats
 pub mod Sends

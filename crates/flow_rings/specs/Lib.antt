@@ -1,3 +1,4 @@
+pub mod crossing
 pub mod Ports
 pub mod Ring
 pub mod Edge

@@ -21,6 +21,7 @@
 //! those of a ring of the crate `rtrb`.
 #![tactic(auto)]
 
+pub mod crossing;
 mod making;
 mod reader;
 mod receiving;

@@ -5,9 +5,9 @@ use Rattle.flow_messages.specs.declared.message.Kind.{Kind}
 use Rattle.flow_messages.specs.declared.message.Kind.TheVariants.{Unit as UnitKind}
 use Rattle.flow_messages.specs.Ends.{View}
 use Rattle.flow_messages.specs.Kinds.{TakesKind}
-use Rattle.flow_lanes.proofs.RingLines.{at_line-there}
-use Rattle.flow_meetings.specs.declared.owners.EdgeOwners.{EdgeOwners}
-use Rattle.flow_meetings.specs.Open.{kind_at, HasFreshEnds}
+use Rattle.flow_edges.proofs.OfLanes.RingLines.{at_line-there}
+use Rattle.flow_shares.specs.declared.meetings.owners.EdgeOwners.{EdgeOwners}
+use Rattle.flow_shares.specs.meetings.Open.{kind_at, HasFreshEnds}
 use Rattle.flow_samples.specs.Taking.{AllTake}
 
 -- fresh ends of edges of one kind take all items of it

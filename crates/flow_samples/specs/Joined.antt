@@ -1,6 +1,6 @@
 -- Sets of ends that are joined as owners say.
 use Rattle.std.specs.Prelude.{ℕ, ◌<◌, List, length, slice_index_or}
-use Rattle.flow_meetings.specs.declared.owners.EdgeOwners.{EdgeOwners}
+use Rattle.flow_shares.specs.declared.meetings.owners.EdgeOwners.{EdgeOwners}
 
 -- The two ends of each edge are those of one edge, in the shares that its owner names.
 pub record AreJoined {X : Type 0} (joins : X → X → ℕ → Type 0) (owners : List EdgeOwners) (ends : List X) : Type 0 where

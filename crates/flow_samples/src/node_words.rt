@@ -19,8 +19,8 @@ use flow_segment::workers::{
     PackGroups, PartFlags, SameFlags, Seq, Tab, TheCheck,
 };
 use flow_values::Print;
+use snesl_data::operators::{BinaryOperator, Reduction, Scalar, UnaryOperator};
 use snesl_data::{Dialect, Ty};
-use snesl_operators::{BinaryOperator, Reduction, Scalar, UnaryOperator};
 use std::alloc::{AllocError, Global};
 
 /// The node of these words, at this offset in the program text, before it has read or written anything.

@@ -2,8 +2,8 @@
 ghost use Rattle.std.specs.Prelude.{◌≡◌, [], ◌∷◌, replicate, IfOk};
 ghost use Rattle.flow_samples.specs.Taking.{AllTake};
 
-use flow_meetings::{EdgeOwners, Opening, open_all};
 use flow_messages::Kind;
+use flow_shares::meetings::{EdgeOwners, Opening, open_all};
 use std::alloc::{AllocError, Global};
 
 /// Edge 0 goes from the first share to the second, and edge 1 back.

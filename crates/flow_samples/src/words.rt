@@ -1,8 +1,8 @@
 // What the words of a table stand for: messages, types, kinds and operators.
 
 use flow_messages::{Item, Kind, Msg};
+use snesl_data::operators::{BinaryOperator, Reduction, UnaryOperator};
 use snesl_data::{Builder, Datum, Dialect, Elements, Ty};
-use snesl_operators::{BinaryOperator, Reduction, UnaryOperator};
 use std::alloc::{AllocError, Global};
 
 /// Why words stand for nothing.

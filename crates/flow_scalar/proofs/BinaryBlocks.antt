@@ -1,13 +1,14 @@
 -- Steps of an operator on two scalars, along pairs of integers.
 use Rattle.std.proofs.Common.{◌≡◌, ℕ, ℤ, pos, suc, zero, ◌+◌, ◌*◌, ◌<◌, ◌≤◌, List, [], ◌∷◌, length, take, get_or, Ok, refl, ◌∙◌, ap, subst, arith}
 use Rattle.snesl_data.specs.declared.dialect.Dialect.{Dialect}
-use Rattle.snesl_operators.specs.Operators.{binary_operand, binary_value}
-use Rattle.snesl_operators.specs.Reductions.{and_then}
-use Rattle.snesl_operators.specs.declared.scalar.Scalar.{Scalar}
-use Rattle.snesl_operators.specs.declared.scalar.Scalar.TheVariants.{Int}
-use Rattle.snesl_operators.specs.declared.scalar.ScalarType.TheVariants.{Int as IntType}
-use Rattle.snesl_operators.specs.declared.operator.BinaryOperator.{BinaryOperator}
-use Rattle.snesl_operators.specs.declared.operator.BinaryOperator.TheVariants.{Add, Subtract, Multiply, Divide as Over, Remainder, EqualIntegers, EqualTruths, Less, AtMost, Greater, AtLeast, And, Or}
+use Rattle.snesl_data.specs.operators.Operators.{binary_operand, binary_value}
+use Rattle.snesl_data.specs.operators.Reductions.{and_then}
+use Rattle.snesl_data.specs.declared.operators.scalar.Scalar.{Scalar}
+use Rattle.snesl_data.specs.declared.operators.scalar.Scalar.TheVariants.{Int}
+use Rattle.snesl_data.specs.declared.operators.scalar.ScalarType.TheVariants.{Int as IntType}
+use Rattle.snesl_data.specs.declared.operators.operator.BinaryOperator.{BinaryOperator}
+use Rattle.snesl_data.specs.declared.operators.operator.BinaryOperator.TheVariants.{Add, Subtract, Multiply, Divide as Over, Remainder, EqualIntegers}
+use Rattle.snesl_data.specs.declared.operators.operator.BinaryOperator.TheVariants.{EqualTruths, Less, AtMost, Greater, AtLeast, And, Or}
 use Rattle.flow_messages.specs.Blocks.{int_signals}
 use Rattle.flow_messages.specs.Cells.{int}
 use Rattle.flow_messages.specs.Signals.{Signal, carry}

@@ -1,5 +1,5 @@
 -- Copies of items, to each output.
-use Rattle.std.proofs.Common.{◌≡◌, ℕ, ℤ, pos, slice_index_or, zero, suc, ◌+◌, ◌-◌, ◌*◌, ◌<◌, ◌≤◌, Bool, true, false, cond, eqb, nat_lt, List, [], ◌∷◌}
+use Rattle.std.proofs.Common.{◌≡◌, ℕ, ℤ, slice_get, Some, zero, suc, ◌+◌, ◌-◌, ◌*◌, ◌<◌, ◌≤◌, Bool, true, false, cond, eqb, nat_lt, List, [], ◌∷◌}
 use Rattle.std.proofs.Common.{◌++◌, length, take, Ok, Err, refl, sym, ◌∙◌, ap, subst, arith, append-nil, eq-eqb, ne_eqb, inl, inr}
 use Rattle.std.proofs.lemmas.Bool.{cases_eq, cases_lt}
 use Rattle.std.proofs.lemmas.Bool.Decides.{nat_tests}
@@ -8,20 +8,24 @@ use Rattle.std.proofs.lemmas.List.{length-take-le, take-append-le}
 use mathlib.Core.List.{IsPrefix}
 use Rattle.kahn.specs.declared.want.Want.TheVariants.{Write}
 use Rattle.snesl_data.specs.declared.fault.FaultKind.TheVariants.{Shape}
-use Rattle.flow_messages.specs.Blocks.{unit_signals, flag_signals, int_signals}
-use Rattle.flow_messages.specs.Cells.{Cell, flag, int, is_of}
+use Rattle.flow_messages.specs.Blocks.{unit_signals, flag_signals, int_signals, item_signals}
+use Rattle.flow_messages.specs.Cells.{Cell, is_of}
+use Rattle.flow_messages.specs.Contents.{item_messages}
 use Rattle.flow_messages.specs.Ends.{View, LookedForRoom, PutAll}
-use Rattle.flow_messages.specs.Signals.{Signal, carry, stop, ended}
+use Rattle.flow_messages.specs.Signals.{Signal, carry, stop, ended, signal_of}
 use Rattle.flow_messages.specs.declared.message.Kind.{Kind}
+use Rattle.flow_messages.specs.declared.message.Msg.{Msg}
 use Rattle.flow_messages.specs.declared.message.Kind.TheVariants.{Unit as UnitKind, Bool as BoolKind, Int as IntKind}
-use Rattle.flow_base.specs.Along.{MovesAlong, shown_signals, written_at}
+use Rattle.flow_base.specs.Along.{MovesAlong, written_at}
 use Rattle.flow_base.specs.Machines.{Move, gives, ask_of, written_cell, state_after_write}
 use Rattle.flow_base.specs.Nodes.{NodeState, behaviour_of, node_state, want_for}
 use Rattle.flow_base.specs.Visits.{edge_of, Went, Wrote}
 use Rattle.flow_base.specs.declared.node.Phase.TheVariants.{Working}
-use Rattle.flow_base.specs.declared.slices.Shown.{Shown}
+use Rattle.flow_messages.specs.declared.items.Items.{Items}
 use Rattle.flow_base.specs.declared.slices.Written.{Written}
 use Rattle.flow_base.proofs.Along.{Along, no_messages, nothing_said, units_shown, flags_shown, ints_shown, units_within, flags_within, ints_within, ran_as, ran_first, ran_none, ran_then, ran_write}
+use Rattle.flow_messages.proofs.Blocks.{prefix_then}
+use Rattle.flow_messages.proofs.SideBySide.{item_signal_at}
 use Rattle.flow_base.proofs.Batches.{block_then}
 use Rattle.flow_base.proofs.Carried.{prefix_same}
 use Rattle.flow_base.proofs.Kernels.{went_write, went_looked}
@@ -126,13 +130,13 @@ module _ (p : ForkPorts) where
   copies (stop ∷ block) (fits, more) = absurd fits
 
   -- copies of what was shown
-  pub fork_moves : (first second : Shown) (space most n : ℕ) (block : Written) → Copied p.kind n (shown_signals first) block → n ≤ space → n + suc p.others * n ≤ most →
+  pub fork_moves : (first second : Items) (space most n : ℕ) (block : Written) → Copied p.kind n (item_signals first) block → n ≤ space → n + suc p.others * n ≤ most →
       MovesAlong fork_machine (p, idle) (p, idle) first second space most block (copies_of n (n + suc p.others * n))
   fork_moves first second space most n block copied room may =
       let m = fork_machine in
       let made = copies_of n (n + suc p.others * n) in
-      let items = take n (shown_signals first) in
-      let long : length items ≡ n = length-take-le n (shown_signals first) copied.within in
+      let items = take n (item_signals first) in
+      let long : length items ≡ n = length-take-le n (item_signals first) copied.within in
       let steps : length items + suc p.others * length items ≡ n + suc p.others * n = ap (λ k. k + suc p.others * k) long in
       record {
         within = record {
@@ -148,43 +152,42 @@ module _ (p : ForkPorts) where
       }
 
 -- what is shown of the kind, and lies in the block
-pub copied_units : (kind : Kind) (s : Shown) (block : Written) (count n : ℕ) → kind ≡ UnitKind → IsPrefix (unit_signals count) (shown_signals s) → n ≤ count → Copied kind n (shown_signals s) block
+pub copied_units : (kind : Kind) (s : Items) (block : Written) (count n : ℕ) → kind ≡ UnitKind → IsPrefix (unit_signals count) (item_signals s) → n ≤ count → Copied kind n (item_signals s) block
 copied_units kind s block count n of_kind seen within =
-    let is : unit_signals n ≡ take n (shown_signals s) = units_shown s count n seen within in
-    subst (λ k. Copied k n (shown_signals s) block) (sym of_kind) (record {
+    let is : unit_signals n ≡ take n (item_signals s) = units_shown s count n seen within in
+    subst (λ k. Copied k n (item_signals s) block) (sym of_kind) (record {
       within = omega (arith, within, units_within s count seen);
       fits = subst (EachFits UnitKind) is (fit_units n);
       lie = λ steps. sym is;
     })
 
-pub copied_flags : (kind : Kind) (s : Shown) (block : Written) (flags : List Bool) (n : ℕ) → kind ≡ BoolKind →
-    IsPrefix (flag_signals flags) (shown_signals s) → n ≤ length flags → take n block.flags ≡ take n flags → Copied kind n (shown_signals s) block
+pub copied_flags : (kind : Kind) (s : Items) (block : Written) (flags : List Bool) (n : ℕ) → kind ≡ BoolKind →
+    IsPrefix (flag_signals flags) (item_signals s) → n ≤ length flags → take n block.flags ≡ take n flags → Copied kind n (item_signals s) block
 copied_flags kind s block flags n of_kind seen within same =
-    let is : flag_signals (take n flags) ≡ take n (shown_signals s) = flags_shown s flags n seen within in
-    subst (λ k. Copied k n (shown_signals s) block) (sym of_kind) (record {
+    let is : flag_signals (take n flags) ≡ take n (item_signals s) = flags_shown s flags n seen within in
+    subst (λ k. Copied k n (item_signals s) block) (sym of_kind) (record {
       within = omega (arith, within, flags_within s flags seen);
       fits = subst (EachFits BoolKind) is (fit_flags (take n flags));
       lie = λ steps. sym is ∙ ap flag_signals (sym same);
     })
 
-pub copied_ints : (kind : Kind) (s : Shown) (block : Written) (numbers : List ℤ) (n : ℕ) → kind ≡ IntKind →
-    IsPrefix (int_signals numbers) (shown_signals s) → n ≤ length numbers → take n block.ints ≡ take n numbers → Copied kind n (shown_signals s) block
+pub copied_ints : (kind : Kind) (s : Items) (block : Written) (numbers : List ℤ) (n : ℕ) → kind ≡ IntKind →
+    IsPrefix (int_signals numbers) (item_signals s) → n ≤ length numbers → take n block.ints ≡ take n numbers → Copied kind n (item_signals s) block
 copied_ints kind s block numbers n of_kind seen within same =
-    let is : int_signals (take n numbers) ≡ take n (shown_signals s) = ints_shown s numbers n seen within in
-    subst (λ k. Copied k n (shown_signals s) block) (sym of_kind) (record {
+    let is : int_signals (take n numbers) ≡ take n (item_signals s) = ints_shown s numbers n seen within in
+    subst (λ k. Copied k n (item_signals s) block) (sym of_kind) (record {
       within = omega (arith, within, ints_within s numbers seen);
       fits = subst (EachFits IntKind) is (fit_ints (take n numbers));
       lie = λ steps. sym is ∙ ap int_signals (sym same);
     })
 
--- what is shown begins with its first item
-pub first_flag : (bs : List Bool) (c : List Signal) → IsPrefix (flag_signals bs) c → 0 < length bs → IsPrefix (carry (flag (slice_index_or bs 0 false)) ∷ []) c
-first_flag [] c seen some = absurd (omega (arith, some))
-first_flag (b ∷ bs) c (more, is) some = (flag_signals bs ++ more, is)
+first_of : (ms : List Signal) (m : Signal) → slice_get ms 0 ≡ Some m → IsPrefix (m ∷ []) ms
+first_of [] m is = absurd (cc)
+first_of (n ∷ ms) m is = (ms, cc)
 
-pub first_int : (ns : List ℤ) (c : List Signal) → IsPrefix (int_signals ns) c → 0 < length ns → IsPrefix (carry (int (slice_index_or ns 0 (pos 0))) ∷ []) c
-first_int [] c seen some = absurd (omega (arith, some))
-first_int (n ∷ ns) c (more, is) some = (int_signals ns ++ more, is)
+-- what is shown begins with its first item
+pub first_shown : (x : Items) (m : Msg) (c : List Signal) → slice_get (item_messages x) 0 ≡ Some m → IsPrefix (item_signals x) c → IsPrefix (signal_of m ∷ []) c
+first_shown x m c is seen = prefix_then (signal_of m ∷ []) (item_signals x) c (first_of (item_signals x) (signal_of m) (item_signal_at x 0 m is)) seen
 
 -- a block of one item is that item
 pub one_put : (v w : View) (f : ℕ) (x : Cell) → PutAll v f (carry x ∷ []) w → Wrote v f (carry x) w

@@ -6,12 +6,12 @@ use Rattle.std.proofs.lemmas.Bool.Decides.{nat_tests}
 use Rattle.std.proofs.lemmas.Int.{ints}
 use Rattle.std.proofs.lemmas.List.{map-append, take_more, take_more_set}
 use mathlib.Core.List.{IsPrefix}
-use Rattle.flow_messages.specs.Blocks.{flag_signals, int_signals}
+use Rattle.flow_messages.specs.Blocks.{flag_signals, int_signals, item_signals}
 use Rattle.flow_messages.specs.Cells.{flag, int}
 use Rattle.flow_messages.specs.Signals.{Signal, carry}
-use Rattle.flow_base.specs.Along.{MovesAlong, shown_signals, written_signals, written_at}
+use Rattle.flow_base.specs.Along.{MovesAlong, written_signals, written_at}
 use Rattle.flow_base.specs.declared.slices.Moved.{Moved}
-use Rattle.flow_base.specs.declared.slices.Shown.{Shown}
+use Rattle.flow_messages.specs.declared.items.Items.{Items}
 use Rattle.flow_base.specs.declared.slices.Written.{Written}
 use Rattle.flow_base.proofs.Along.{Along, no_messages, ints_shown, ints_within, ran_as, ran_first, ran_none, ran_then, ran_write}
 use Rattle.flow_scalar.specs.declared.iota.Iota.{Iota}
@@ -199,8 +199,8 @@ written_to block made (suc (suc q)) =
     ∙ ap (λ b. cond b (written_signals block made (iota_kind_out (suc (suc q)))) no_messages) (sym over)
 
 -- rounds are what it made of what was shown
-pub iota_moves : (s : Iota) (next end : ℤ) (first second : Shown) (space most : ℕ) (block : Written) (counts : List ℤ) (read made : ℕ) →
-    IsPrefix (int_signals counts) (shown_signals first) → read ≤ length counts → read ≤ made → made ≤ space → 2 * made ≤ most →
+pub iota_moves : (s : Iota) (next end : ℤ) (first second : Items) (space most : ℕ) (block : Written) (counts : List ℤ) (read made : ℕ) →
+    IsPrefix (int_signals counts) (item_signals first) → read ≤ length counts → read ≤ made → made ≤ space → 2 * made ≤ most →
     Rounds s next end counts block.flags block.ints read made →
     MovesAlong iota_machine (tt, s) (tt, Flag next end) first second space most block
     (record { first = read; second = 0; units = 0; flags = made; ints = made - read; steps = 2 * made })
@@ -215,6 +215,6 @@ iota_moves s next end first second space most block counts read made seen in_cou
         ints = omega (arith, room);
         steps = may;
       };
-      ran = ran_as iota_machine tt rounds (take read (shown_signals first)) [] (written_at iota_machine tt block moved) (2 * made)
+      ran = ran_as iota_machine tt rounds (take read (item_signals first)) [] (written_at iota_machine tt block moved) (2 * made)
           (ints_shown first counts read seen in_counts) refl (written_to block moved) refl;
     }

@@ -2,10 +2,10 @@
 use Rattle.std.proofs.Common.{◌≡◌, false, Option, Some, None, Result, Ok, refl, ap}
 use Rattle.std.specs.Prelude.{is_some}
 use Rattle.snesl_data.specs.declared.fault.FaultKind.{FaultKind}
-use Rattle.snesl_operators.specs.declared.scalar.Scalar.{Scalar}
-use Rattle.snesl_operators.specs.declared.scalar.Scalar.TheVariants.{Int, Bool as Truth}
-use Rattle.snesl_operators.specs.declared.scalar.ScalarType.{ScalarType}
-use Rattle.snesl_operators.specs.declared.scalar.ScalarType.TheVariants.{Int as IntType, Bool as BoolType}
+use Rattle.snesl_data.specs.declared.operators.scalar.Scalar.{Scalar}
+use Rattle.snesl_data.specs.declared.operators.scalar.Scalar.TheVariants.{Int, Bool as Truth}
+use Rattle.snesl_data.specs.declared.operators.scalar.ScalarType.{ScalarType}
+use Rattle.snesl_data.specs.declared.operators.scalar.ScalarType.TheVariants.{Int as IntType, Bool as BoolType}
 use Rattle.flow_messages.specs.Cells.{Cell, unit, int, flag, datum}
 use Rattle.flow_base.specs.Machines.{state_after_item}
 use Rattle.flow_scalar.specs.Operands.{operand_in, on_operand}

@@ -1,13 +1,13 @@
 -- Items that nothing is written for.
 use Rattle.std.proofs.Common.{◌≡◌, ℕ, ℤ, zero, suc, ◌+◌, ◌≤◌, Bool, List, [], ◌∷◌, length, take, refl, sym, arith}
 use Rattle.std.proofs.lemmas.List.{length-take-le}
-use Rattle.flow_messages.specs.Blocks.{unit_signals, flag_signals, int_signals}
+use Rattle.flow_messages.specs.Blocks.{unit_signals, flag_signals, int_signals, item_signals}
 use Rattle.flow_messages.specs.Signals.{Signal, carry, stop}
 use Rattle.flow_messages.specs.declared.message.Kind.{Kind}
 use Rattle.flow_messages.specs.declared.message.Kind.TheVariants.{Unit as UnitKind, Bool as BoolKind, Int as IntKind}
-use Rattle.flow_base.specs.Along.{MovesAlong, shown_signals, written_at}
+use Rattle.flow_base.specs.Along.{MovesAlong, written_at}
 use Rattle.flow_base.specs.declared.slices.Moved.{Moved}
-use Rattle.flow_base.specs.declared.slices.Shown.{Shown}
+use Rattle.flow_messages.specs.declared.items.Items.{Items}
 use Rattle.flow_base.specs.declared.slices.Written.{Written}
 use Rattle.flow_base.proofs.Along.{Along, no_output, ran_as, ran_first, ran_none, ran_then}
 use Rattle.flow_base.proofs.Batches.{shown}
@@ -44,7 +44,7 @@ sink_steps kind (carry x ∷ block) (fits, more) =
 sink_steps kind (stop ∷ block) (fits, more) = absurd fits
 
 -- what was shown is read
-pub sink_moves : (kind : Kind) (first second : Shown) (block : Written) (space most n count : ℕ) → CountOf kind n (shown_signals first) → count ≤ n → count ≤ most →
+pub sink_moves : (kind : Kind) (first second : Items) (block : Written) (space most n count : ℕ) → CountOf kind n (item_signals first) → count ≤ n → count ≤ most →
     MovesAlong sink_machine (kind, tt) (kind, tt) first second space most block (record { first = count; second = 0; units = 0; flags = 0; ints = 0; steps = count })
 sink_moves kind first second block space most n count shown_items within may =
     let m = sink_machine in
@@ -54,14 +54,14 @@ sink_moves kind first second block space most n count shown_items within may =
     let long : length items ≡ count = length-take-le count shown_items.block in_block in
     record {
       within = record {
-        first = omega (arith, in_block, prefix_long shown_items.block (shown_signals first) shown_items.first);
+        first = omega (arith, in_block, prefix_long shown_items.block (item_signals first) shown_items.first);
         second = omega arith;
         units = omega arith;
         flags = omega arith;
         ints = omega arith;
         steps = may;
       };
-      ran = ran_as m kind (sink_steps kind items (fit_first kind count shown_items.block shown_items.fits)) (take count (shown_signals first)) []
-          (written_at m kind block made) count (sym (shown shown_items.block (shown_signals first) count shown_items.first in_block)) refl
+      ran = ran_as m kind (sink_steps kind items (fit_first kind count shown_items.block shown_items.fits)) (take count (item_signals first)) []
+          (written_at m kind block made) count (sym (shown shown_items.block (item_signals first) count shown_items.first in_block)) refl
           (no_output m kind block made refl) long;
     }

@@ -1,12 +1,12 @@
 -- Steps of an operator on one scalar, along operands.
 use Rattle.std.proofs.Common.{◌≡◌, ℕ, ℤ, zero, suc, ◌+◌, ◌*◌, ◌<◌, ◌≤◌, Bool, List, [], ◌∷◌, length, take, get_or, Some, None, Ok, refl, ◌∙◌, ap, subst, arith}
 use Rattle.snesl_data.specs.declared.dialect.Dialect.{Dialect}
-use Rattle.snesl_operators.specs.Operators.{unary_operand, unary_value}
-use Rattle.snesl_operators.specs.Reductions.{and_then}
-use Rattle.snesl_operators.specs.declared.scalar.Scalar.{Scalar}
-use Rattle.snesl_operators.specs.declared.scalar.Scalar.TheVariants.{Int, Bool as Truth}
-use Rattle.snesl_operators.specs.declared.operator.UnaryOperator.{UnaryOperator}
-use Rattle.snesl_operators.specs.declared.operator.UnaryOperator.TheVariants.{Negate, Not}
+use Rattle.snesl_data.specs.operators.Operators.{unary_operand, unary_value}
+use Rattle.snesl_data.specs.operators.Reductions.{and_then}
+use Rattle.snesl_data.specs.declared.operators.scalar.Scalar.{Scalar}
+use Rattle.snesl_data.specs.declared.operators.scalar.Scalar.TheVariants.{Int, Bool as Truth}
+use Rattle.snesl_data.specs.declared.operators.operator.UnaryOperator.{UnaryOperator}
+use Rattle.snesl_data.specs.declared.operators.operator.UnaryOperator.TheVariants.{Negate, Not}
 use Rattle.flow_messages.specs.Blocks.{flag_signals, int_signals}
 use Rattle.flow_messages.specs.Signals.{Signal, carry}
 use Rattle.flow_base.specs.Along.{written_signals}

@@ -1,7 +1,7 @@
 -- Blocks of the values of operators.
 use Rattle.std.proofs.Common.{◌≡◌, ℕ, ◌+◌, ◌<◌, List, [], ◌∷◌, ◌++◌, length, take, map, get_or, sym, ◌∙◌, ap}
 use Rattle.std.proofs.lemmas.List.{take_more, map-append}
-use Rattle.snesl_operators.specs.declared.scalar.Scalar.{Scalar}
+use Rattle.snesl_data.specs.declared.operators.scalar.Scalar.{Scalar}
 use Rattle.flow_messages.specs.Signals.{Signal, carry}
 use Rattle.flow_folds.specs.Scalars.{cell_of_scalar}
 

@@ -1,8 +1,8 @@
 -- A constant, once for each item, as a machine.
 use Rattle.std.specs.Prelude.{Bool, true, false, Ok}
-use Rattle.snesl_operators.specs.Operators.{type_of}
-use Rattle.snesl_operators.specs.declared.scalar.Scalar.{Scalar}
-use Rattle.snesl_operators.specs.declared.scalar.Scalar.TheVariants.{Bool as BoolScalar}
+use Rattle.snesl_data.specs.operators.Operators.{type_of}
+use Rattle.snesl_data.specs.declared.operators.scalar.Scalar.{Scalar}
+use Rattle.snesl_data.specs.declared.operators.scalar.Scalar.TheVariants.{Bool as BoolScalar}
 use Rattle.flow_messages.specs.declared.message.Kind.TheVariants.{Unit as UnitKind}
 use Rattle.flow_base.specs.Machines.{Move, begins, gives, on_kind, Machine, one_write}
 use Rattle.flow_base.specs.Members.{NodeOf, node_of}

@@ -19,10 +19,10 @@ pub mod ForkSteps
 pub mod Written
 -- what the public clauses cite of the crates below
 pub use Rattle.snesl_data.specs.declared.dialect.Dialect
-pub use Rattle.snesl_operators.specs.declared.operator.BinaryOperator
-pub use Rattle.snesl_operators.specs.declared.operator.Reduction
-pub use Rattle.snesl_operators.specs.declared.operator.UnaryOperator
-pub use Rattle.snesl_operators.specs.declared.scalar.Scalar
+pub use Rattle.snesl_data.specs.declared.operators.operator.BinaryOperator
+pub use Rattle.snesl_data.specs.declared.operators.operator.Reduction
+pub use Rattle.snesl_data.specs.declared.operators.operator.UnaryOperator
+pub use Rattle.snesl_data.specs.declared.operators.scalar.Scalar
 pub use Rattle.kahn.specs.declared.want.Want
 pub use Rattle.flow_messages.specs.declared.message.Kind
 pub use Rattle.flow_messages.specs.Cells
@@ -41,8 +41,8 @@ pub use Rattle.flow_folds.specs.ScalarCells
 pub use Rattle.flow_folds.specs.Scalars
 pub use Rattle.flow_folds.specs.ScanAddBlocks
 pub use Rattle.flow_folds.specs.ScanAddMachine
-pub use Rattle.snesl_operators.specs.Operators
-pub use Rattle.snesl_operators.specs.Reductions
+pub use Rattle.snesl_data.specs.operators.Operators
+pub use Rattle.snesl_data.specs.operators.Reductions
 pub use Rattle.flow_messages.specs.Ends
 pub use Rattle.flow_base.specs.Computed
 pub use Rattle.flow_base.specs.Visits

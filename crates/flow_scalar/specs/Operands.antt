@@ -2,11 +2,11 @@
 use Rattle.std.specs.Prelude.{Result, Ok, Err}
 use Rattle.snesl_data.specs.declared.fault.FaultKind.{FaultKind}
 use Rattle.snesl_data.specs.declared.fault.FaultKind.TheVariants.{Shape}
-use Rattle.snesl_operators.specs.Reductions.{and_then}
-use Rattle.snesl_operators.specs.declared.scalar.Scalar.{Scalar}
-use Rattle.snesl_operators.specs.declared.scalar.Scalar.TheVariants.{Int, Bool as Truth}
-use Rattle.snesl_operators.specs.declared.scalar.ScalarType.{ScalarType}
-use Rattle.snesl_operators.specs.declared.scalar.ScalarType.TheVariants.{Int as IntType, Bool as BoolType}
+use Rattle.snesl_data.specs.operators.Reductions.{and_then}
+use Rattle.snesl_data.specs.declared.operators.scalar.Scalar.{Scalar}
+use Rattle.snesl_data.specs.declared.operators.scalar.Scalar.TheVariants.{Int, Bool as Truth}
+use Rattle.snesl_data.specs.declared.operators.scalar.ScalarType.{ScalarType}
+use Rattle.snesl_data.specs.declared.operators.scalar.ScalarType.TheVariants.{Int as IntType, Bool as BoolType}
 use Rattle.flow_messages.specs.Cells.{Cell, int, flag}
 use Rattle.flow_base.specs.Machines.{Taking, on_kind}
 use Rattle.flow_folds.specs.Scalars.{kind_of_type}

@@ -1,10 +1,10 @@
 -- The rows: what each transducer reads and writes, in whole instances.
 use Rattle.std.specs.Prelude.{◌≡◌, ℕ, pos, Bool, true, false, List, [], ◌∷◌, map, replicate, Ok, ◌<◌, zero, suc, ℤ, ◌+ℤ◌}
 use Rattle.snesl_data.specs.declared.dialect.Dialect.{Dialect}
-use Rattle.snesl_operators.specs.Operators.{unary_value, binary_value}
-use Rattle.snesl_operators.specs.declared.scalar.Scalar.{Scalar}
-use Rattle.snesl_operators.specs.declared.operator.UnaryOperator.{UnaryOperator}
-use Rattle.snesl_operators.specs.declared.operator.BinaryOperator.{BinaryOperator}
+use Rattle.snesl_data.specs.operators.Operators.{unary_value, binary_value}
+use Rattle.snesl_data.specs.declared.operators.scalar.Scalar.{Scalar}
+use Rattle.snesl_data.specs.declared.operators.operator.UnaryOperator.{UnaryOperator}
+use Rattle.snesl_data.specs.declared.operators.operator.BinaryOperator.{BinaryOperator}
 use Rattle.flow_messages.specs.Cells.{Cell, unit, flag, int}
 use Rattle.flow_messages.specs.declared.message.Kind.{Kind}
 use Rattle.flow_base.specs.Lists.{Lists}

@@ -1,16 +1,16 @@
 // Operators on two scalars.
 
 ghost use Rattle.std.specs.Prelude.{◌≡◌, ◌*ℤ◌, ◌≤◌, length, Ok, IfSome, false};
-ghost use Rattle.snesl_operators.specs.Operators.{binary_value};
-ghost use Rattle.snesl_operators.specs.declared.scalar.Scalar.TheVariants.{Int};
+ghost use Rattle.snesl_data.specs.operators.Operators.{binary_value};
+ghost use Rattle.snesl_data.specs.declared.operators.scalar.Scalar.TheVariants.{Int};
 ghost use Rattle.flow_scalar.specs.BinaryMachine.{IntsAt, FlagsAt};
 
 use crate::operand::{narrow_of, operand_of};
-use flow_base::{Ask, Moved, Shown, Stop, Worker, Written};
+use flow_base::{Ask, Moved, Stop, Worker, Written};
 use flow_folds::{item_of, kind_of};
-use flow_messages::{Flat, Item, Kind};
+use flow_messages::{Flat, Item, Items, Kind};
 use snesl_data::Dialect;
-use snesl_operators::{BinaryOperator, Scalar, ScalarType};
+use snesl_data::operators::{BinaryOperator, Scalar, ScalarType};
 use std::alloc::AllocError;
 
 // The product, where it fits 64 bits.
@@ -199,7 +199,7 @@ impl Binary {
 
 impl Worker for Binary {
     ghost use Rattle.snesl_data.specs.declared.dialect.Dialect.{Dialect};
-    ghost use Rattle.snesl_operators.specs.declared.operator.BinaryOperator.{BinaryOperator};
+    ghost use Rattle.snesl_data.specs.declared.operators.operator.BinaryOperator.{BinaryOperator};
     ghost use Rattle.flow_scalar.specs.declared.binary.Progress.{Progress};
     ghost use Rattle.flow_scalar.specs.BinaryMachine.{binary_machine, binary_view};
     ghost use Rattle.flow_scalar.specs.laws.Binary.{binary_laws};
@@ -282,8 +282,8 @@ impl Worker for Binary {
     #[inline(always)]
     fn along(
         &mut self,
-        first: Shown<'_>,
-        second: Shown<'_>,
+        first: Items<'_>,
+        second: Items<'_>,
         block: &mut Written,
         space: usize,
         most: usize,
@@ -292,7 +292,7 @@ impl Worker for Binary {
             return Moved::nothing();
         };
         // Pairs of truth values are left to single steps.
-        let (Shown::Ints(lefts), Shown::Ints(rights)) = (first, second) else {
+        let (Items::Ints(lefts), Items::Ints(rights)) = (first, second) else {
             return Moved::nothing();
         };
         let room = space.min(most / 3);

@@ -5,11 +5,11 @@ ghost use Rattle.flow_messages.specs.Signals.{carry, signal_of};
 ghost use Rattle.flow_messages.specs.Flats.{message_of};
 ghost use Rattle.flow_folds.specs.Scalars.{cell_of_scalar};
 
-use flow_base::{Ask, Moved, Shown, Stop, Worker, Written};
+use flow_base::{Ask, Moved, Stop, Worker, Written};
 use flow_folds::{item_of, kind_of};
-use flow_messages::{Flat, Item, Kind};
+use flow_messages::{Flat, Item, Items, Kind};
 use snesl_data::FaultKind;
-use snesl_operators::Scalar;
+use snesl_data::operators::Scalar;
 use std::alloc::AllocError;
 
 /// Writes a scalar once for each Unit. Each Unit is an instance.
@@ -68,7 +68,7 @@ impl Const {
 
 impl Worker for Const {
     ghost use Rattle.std.specs.Prelude.{Bool};
-    ghost use Rattle.snesl_operators.specs.declared.scalar.Scalar.{Scalar};
+    ghost use Rattle.snesl_data.specs.declared.operators.scalar.Scalar.{Scalar};
     ghost use Rattle.flow_scalar.specs.ConstMachine.{const_machine, const_view};
     ghost use Rattle.flow_scalar.specs.laws.Const.{const_laws};
 
@@ -138,8 +138,8 @@ impl Worker for Const {
     #[inline(always)]
     fn along(
         &mut self,
-        first: Shown<'_>,
-        second: Shown<'_>,
+        first: Items<'_>,
+        second: Items<'_>,
         block: &mut Written,
         space: usize,
         most: usize,

@@ -7,7 +7,7 @@ ghost use Rattle.flow_messages.specs.Cells.{cell_of, is_of};
 ghost use Rattle.flow_messages.specs.Ends.{SameEnds};
 ghost use Rattle.flow_messages.specs.Kinds.{FitsEdge};
 ghost use Rattle.flow_messages.specs.Signals.{carry};
-ghost use Rattle.flow_base.specs.Along.{shown_signals};
+ghost use Rattle.flow_messages.specs.Blocks.{item_signals};
 ghost use Rattle.flow_base.specs.Machines.{Leads, on_kind};
 ghost use Rattle.flow_base.specs.Nodes.{NodeState, behaviour_of, node_state};
 ghost use Rattle.flow_base.specs.Visits.{edge_of, PortsHaveEdges, TakeKinds, Went, Wrote};
@@ -16,8 +16,8 @@ ghost use Rattle.flow_scalar.specs.ForkCopies.{Copied};
 ghost use Rattle.flow_scalar.specs.ForkShown.{ItemComes, ItemIsHeld};
 ghost use Rattle.flow_scalar.specs.ForkMachine.{ForkPorts, ForkState, fork_ports, fork_machine, idle, holding};
 
-use flow_base::{Ask, Moved, Shown, Stop, Worker, Written, put_in_space, take_front};
-use flow_messages::{Ends, Flat, Item, Kind, Msg};
+use flow_base::{Ask, Moved, Stop, Worker, Written, put_in_space, take_front};
+use flow_messages::{Ends, Flat, Item, Items, Kind, Msg};
 use snesl_data::FaultKind;
 use std::alloc::AllocError;
 
@@ -173,10 +173,10 @@ fn instances_within(most: usize, outputs: usize) -> usize
 
 // Copies items of the kind that are shown to the block, at most `room`. How many.
 #[inline(always)]
-fn copy_shown(kind: Kind, shown: Shown<'_>, room: usize, block: &mut Written) -> usize
+fn copy_shown(kind: Kind, shown: Items<'_>, room: usize, block: &mut Written) -> usize
     requires places { room ≤ 256 }
     ensures room { result ≤ room }
-    ensures copied { Copied kind result (shown_signals shown.entry) block.new }
+    ensures copied { Copied kind result (item_signals shown.entry) block.new }
 {
     match kind {
         Kind::Unit => shown.units().min(room),
@@ -221,10 +221,10 @@ fn put_copy<E: Ends>(ends: &mut E, edge: usize, item: &Item)
     ensures wrote { Wrote (E.view ends.old) edge (carry (cell_of item.now)) (E.view ends.new) }
 {
     match item {
-        Item::Unit => ends.put_units(edge, 1),
-        Item::Bool(truth) => ends.put_flags(edge, &[*truth]),
+        Item::Unit => ends.put_all(edge, Items::Units(1)),
+        Item::Bool(truth) => ends.put_all(edge, Items::Flags(&[*truth])),
         Item::Int(number) => match i64::try_from(*number) {
-            Ok(narrow) => ends.put_ints(edge, &[narrow]),
+            Ok(narrow) => ends.put_all(edge, Items::Ints(&[narrow])),
             Err(_) => put_in_space(ends, edge, Msg::Item(Item::Int(*number))),
         },
         Item::Vec(_) | Item::Typed(_) => unreachable!(),
@@ -238,28 +238,13 @@ fn item_shown<E: Ends>(ends: &E, edge: usize, kind: Kind) -> Option<Item>
     ensures first { IfSome result (λ x. ItemComes (E.view ends.now) edge x) }
     ensures leads { IfSome result (λ x. (others : ℕ) → ItemIsHeld kind x others) }
 {
-    match kind {
-        Kind::Unit => {
-            if ends.units(edge) == 0 {
-                return None;
-            }
-            Some(Item::Unit)
-        }
-        Kind::Bool => {
-            let flags = ends.flags(edge);
-            if flags.is_empty() {
-                return None;
-            }
-            Some(Item::Bool(flags[0]))
-        }
-        Kind::Int => {
-            let ints = ends.ints(edge);
-            if ints.is_empty() {
-                return None;
-            }
-            Some(Item::Int(ints[0] as i128))
-        }
-        Kind::Vec => None,
+    let items = ends.shown(edge);
+    if items.len() == 0 {
+        return None;
+    }
+    match items.message(0) {
+        Msg::Item(item) if kind.fits(&item) => Some(item),
+        _ => None,
     }
 }
 
@@ -345,8 +330,8 @@ impl Worker for Fork {
     #[inline(always)]
     fn along(
         &mut self,
-        first: Shown<'_>,
-        second: Shown<'_>,
+        first: Items<'_>,
+        second: Items<'_>,
         block: &mut Written,
         space: usize,
         most: usize,

@@ -4,8 +4,8 @@ ghost use Rattle.std.specs.Prelude.{◌≡◌, ◌+ℤ◌, ◌≤ℤ◌, ◌+◌
 ghost use Rattle.flow_scalar.specs.IotaMachine.{number_after, numbers_from};
 ghost use Rattle.flow_scalar.specs.Written.{FilledBehind};
 
-use flow_base::{Ask, Moved, Shown, Stop, Worker, Written};
-use flow_messages::{Flat, Item, Kind};
+use flow_base::{Ask, Moved, Stop, Worker, Written};
+use flow_messages::{Flat, Item, Items, Kind};
 use snesl_data::FaultKind;
 use std::alloc::AllocError;
 
@@ -222,8 +222,8 @@ impl Worker for Iota {
     #[inline(always)]
     fn along(
         &mut self,
-        first: Shown<'_>,
-        second: Shown<'_>,
+        first: Items<'_>,
+        second: Items<'_>,
         block: &mut Written,
         space: usize,
         most: usize,

@@ -20,6 +20,6 @@ pub mod workers;
 pub use flow_base::{Ask, Node, Phase, Port, Side, Stop, Transducer, Worker, keeps_laws};
 pub use flow_folds::{item_of, kind_of, scalar_of};
 pub use kahn::Want;
-pub use snesl_operators::{BinaryOperator, Reduction, Scalar, ScalarType, UnaryOperator};
+pub use snesl_data::operators::{BinaryOperator, Reduction, Scalar, ScalarType, UnaryOperator};
 pub use source::{Source, Stream};
 pub use transducers::{Binary, Const, Fork, Iota, Length, Reduce, ScanAdd, Sink, Unary, UnitsOf};

@@ -3,11 +3,11 @@
 ghost use Rattle.std.specs.Prelude.{◌≡◌, Ok, IfSome};
 ghost use Rattle.flow_messages.specs.Cells.{cell_of};
 ghost use Rattle.flow_scalar.specs.Operands.{operand_in};
-ghost use Rattle.snesl_operators.specs.declared.scalar.Scalar.TheVariants.{Int as IntScalar};
+ghost use Rattle.snesl_data.specs.declared.operators.scalar.Scalar.TheVariants.{Int as IntScalar};
 
 use flow_messages::Item;
 use snesl_data::FaultKind;
-use snesl_operators::{Scalar, ScalarType};
+use snesl_data::operators::{Scalar, ScalarType};
 
 /// The scalar of this type that the item carries. `Shape` where it carries none.
 #[inline(always)]

@@ -1,12 +1,12 @@
 // The end of a stream that nothing uses.
 
 ghost use Rattle.std.specs.Prelude.{◌≡◌, true, false, IfOk, OnErr, IsOk};
-ghost use Rattle.flow_base.specs.Along.{shown_signals};
 ghost use Rattle.flow_scalar.specs.SinkShown.{CountOf};
 ghost use Rattle.flow_scalar.specs.Written.{SinkGives};
+ghost use Rattle.flow_messages.specs.Blocks.{item_signals};
 
-use flow_base::{Ask, Moved, Shown, Stop, Worker, Written};
-use flow_messages::{Flat, Item, Kind};
+use flow_base::{Ask, Moved, Stop, Worker, Written};
+use flow_messages::{Flat, Item, Items, Kind};
 use snesl_data::FaultKind;
 use std::alloc::AllocError;
 
@@ -19,8 +19,8 @@ pub struct Sink {
 
 // How many items of the kind are shown.
 #[inline(always)]
-fn count_of(kind: Kind, shown: Shown<'_>) -> usize
-    ensures { CountOf kind result (shown_signals shown.entry) }
+fn count_of(kind: Kind, shown: Items<'_>) -> usize
+    ensures { CountOf kind result (item_signals shown.entry) }
 {
     match kind {
         Kind::Unit => shown.units(),
@@ -107,8 +107,8 @@ impl Worker for Sink {
     #[inline(always)]
     fn along(
         &mut self,
-        first: Shown<'_>,
-        second: Shown<'_>,
+        first: Items<'_>,
+        second: Items<'_>,
         block: &mut Written,
         space: usize,
         most: usize,

@@ -1,16 +1,16 @@
 // Operators on one scalar.
 
 ghost use Rattle.std.specs.Prelude.{◌≡◌, ◌≤◌, length, Ok, None, IfSome, false};
-ghost use Rattle.snesl_operators.specs.Operators.{unary_value};
-ghost use Rattle.snesl_operators.specs.declared.scalar.Scalar.TheVariants.{Int};
+ghost use Rattle.snesl_data.specs.operators.Operators.{unary_value};
+ghost use Rattle.snesl_data.specs.declared.operators.scalar.Scalar.TheVariants.{Int};
 ghost use Rattle.flow_scalar.specs.UnaryMachine.{IntsAt, FlagsAt};
 
 use crate::operand::{narrow_of, operand_of};
-use flow_base::{Ask, Moved, Shown, Stop, Worker, Written};
+use flow_base::{Ask, Moved, Stop, Worker, Written};
 use flow_folds::{item_of, kind_of};
-use flow_messages::{Flat, Item, Kind};
+use flow_messages::{Flat, Item, Items, Kind};
 use snesl_data::Dialect;
-use snesl_operators::{Scalar, UnaryOperator};
+use snesl_data::operators::{Scalar, UnaryOperator};
 use std::alloc::AllocError;
 
 /// Writes the operator's value at each item. Each item is an instance.
@@ -87,8 +87,8 @@ impl Unary {
 impl Worker for Unary {
     ghost use Rattle.std.specs.Prelude.{Option};
     ghost use Rattle.snesl_data.specs.declared.dialect.Dialect.{Dialect};
-    ghost use Rattle.snesl_operators.specs.declared.scalar.Scalar.{Scalar};
-    ghost use Rattle.snesl_operators.specs.declared.operator.UnaryOperator.{UnaryOperator};
+    ghost use Rattle.snesl_data.specs.declared.operators.scalar.Scalar.{Scalar};
+    ghost use Rattle.snesl_data.specs.declared.operators.operator.UnaryOperator.{UnaryOperator};
     ghost use Rattle.flow_scalar.specs.UnaryMachine.{unary_machine, unary_view};
     ghost use Rattle.flow_scalar.specs.laws.Unary.{unary_laws};
 
@@ -163,8 +163,8 @@ impl Worker for Unary {
     #[inline(always)]
     fn along(
         &mut self,
-        first: Shown<'_>,
-        second: Shown<'_>,
+        first: Items<'_>,
+        second: Items<'_>,
         block: &mut Written,
         space: usize,
         most: usize,
@@ -174,7 +174,7 @@ impl Worker for Unary {
         }
         let room = space.min(most / 2);
         match first {
-            Shown::Ints(operands) => {
+            Items::Ints(operands) => {
                 let count = self.ints_of(operands, room, &mut block.ints);
                 Moved {
                     first: count,
@@ -185,7 +185,7 @@ impl Worker for Unary {
                     steps: 2 * count,
                 }
             }
-            Shown::Flags(operands) => {
+            Items::Flags(operands) => {
                 let count = self.flags_of(operands, room, &mut block.flags);
                 Moved {
                     first: count,

@@ -3,8 +3,8 @@
 ghost use Rattle.std.specs.Prelude.{◌≡◌, false, not, true};
 ghost use Rattle.std.specs.List.{count_by};
 
-use flow_base::{Ask, Moved, Shown, Stop, Worker, Written};
-use flow_messages::{Flat, Item, Kind};
+use flow_base::{Ask, Moved, Stop, Worker, Written};
+use flow_messages::{Flat, Item, Items, Kind};
 use snesl_data::FaultKind;
 use std::alloc::AllocError;
 
@@ -114,8 +114,8 @@ impl Worker for UnitsOf {
     #[inline(always)]
     fn along(
         &mut self,
-        first: Shown<'_>,
-        second: Shown<'_>,
+        first: Items<'_>,
+        second: Items<'_>,
         block: &mut Written,
         space: usize,
         most: usize,
@@ -123,7 +123,7 @@ impl Worker for UnitsOf {
         if self.due {
             return Moved::nothing();
         }
-        let Shown::Flags(flags) = first else {
+        let Items::Flags(flags) = first else {
             return Moved::nothing();
         };
         let whole = flags.len().min(space).min(most / 2);

@@ -1,20 +1,25 @@
 -- What Dist makes of blocks: copies of an item for the elements of its segment.
-use Rattle.std.proofs.Common.{◌≡◌, ℕ, zero, suc, ◌+◌, ◌*◌, ◌<◌, ◌≤◌, ℤ, pos, Bool, true, false, cond, eqb, List, [], ◌∷◌, ◌++◌, length, take, get_or}
+use Rattle.std.proofs.Common.{◌≡◌, ℕ, zero, suc, ◌+◌, ◌*◌, ◌<◌, ◌≤◌, ℤ, Bool, true, false, cond, eqb, List, [], ◌∷◌, ◌++◌, length, take, get_or, slice_get}
 use Rattle.std.proofs.Common.{Option, Some, None, Ok, refl, ◌∙◌, ap, subst, arith}
 use Rattle.std.specs.Prelude.{replicate}
 use mathlib.Core.List.{IsPrefix}
-use Rattle.flow_messages.specs.Cells.{Cell, cell_of, is_of, unit, flag, int}
+use Rattle.flow_messages.specs.Cells.{Cell, cell_of, is_of, flag, int}
+use Rattle.flow_messages.specs.Contents.{item_messages}
 use Rattle.flow_messages.specs.Ends.{View, LookedForRoom, TakenAll, PutAll}
-use Rattle.flow_messages.specs.Blocks.{unit_signals, flag_signals, int_signals}
-use Rattle.flow_messages.specs.Signals.{Signal, carry, ended}
+use Rattle.flow_messages.specs.Blocks.{flag_signals, int_signals, item_signals}
+use Rattle.flow_messages.specs.Signals.{Signal, carry, ended, signal_of}
+use Rattle.flow_messages.specs.declared.items.Items.{Items}
 use Rattle.flow_messages.specs.declared.message.Item.{Item}
 use Rattle.flow_messages.specs.declared.message.Kind.{Kind}
+use Rattle.flow_messages.specs.declared.message.Msg.{Msg}
+use Rattle.flow_messages.proofs.SideBySide.{item_signal_at, length-items}
 use Rattle.flow_base.specs.Machines.{on_kind}
 use Rattle.flow_base.specs.Nodes.{NodeState, behaviour_of, node_state}
 use Rattle.flow_base.specs.Visits.{edge_of, Went}
 use Rattle.flow_base.specs.declared.node.Phase.TheVariants.{Working}
 use Rattle.flow_base.proofs.Kernels.{went_none, went_looked, leads_on}
 use Rattle.flow_base.proofs.Batches.{Batch, block_then, batch_none, batch_read, batch_write, batch_then, batch_as, shifted_none, shifted_skip, shifted_put, went_batch, shown}
+use Rattle.flow_base.proofs.OverSlices.{prefix_long}
 use Rattle.flow_segment.specs.DistMachine.{DistState, at_start, at_flag, at_copy, dist_state, dist_machine}
 use Rattle.flow_segment.proofs.Leading.{item_leads}
 use Rattle.flow_segment.proofs.Blocks.{no_block}
@@ -65,18 +70,18 @@ pub flag_next : (xs : List Bool) (c : List Signal) → 0 < length xs → IsPrefi
 flag_next [] c some seen = absurd (omega arith)
 flag_next (x ∷ xs) c some seen = (flag_signals xs ++ seen.0, seen.1)
 
--- the first that is shown is the next that comes
-pub first_int : (xs : List ℤ) (c : List Signal) → 0 < length xs → IsPrefix (int_signals xs) c → take 1 c ≡ carry (int (get_or xs 0 (pos 0))) ∷ []
-first_int [] c some seen = absurd (omega arith)
-first_int (x ∷ xs) c some seen = shown (int_signals (x ∷ xs)) c 1 seen (omega arith)
+first_of : (ms : List Signal) (m : Signal) → slice_get ms 0 ≡ Some m → take 1 ms ≡ m ∷ []
+first_of [] m is = absurd (cc)
+first_of (n ∷ ms) m is = cc
 
-pub first_flag : (xs : List Bool) (c : List Signal) → 0 < length xs → IsPrefix (flag_signals xs) c → take 1 c ≡ carry (flag (get_or xs 0 false)) ∷ []
-first_flag [] c some seen = absurd (omega arith)
-first_flag (x ∷ xs) c some seen = shown (flag_signals (x ∷ xs)) c 1 seen (omega arith)
+-- some are shown, and so at least one comes
+pub some_comes : (x : Items) (c : List Signal) → (length (item_messages x) ≡ 0 → ⊥) → IsPrefix (item_signals x) c → 1 ≤ length c
+some_comes x c some seen = omega (arith, some, length-items x, prefix_long (item_signals x) c seen)
 
-pub first_unit : (n : ℕ) (c : List Signal) → (n ≡ 0 → ⊥) → IsPrefix (unit_signals n) c → take 1 c ≡ carry unit ∷ []
-first_unit zero c some seen = absurd (some refl)
-first_unit (suc n) c some seen = shown (unit_signals (suc n)) c 1 seen (omega arith)
+-- the first item that is shown is the next that comes
+pub first_shown : (x : Items) (m : Msg) (c : List Signal) → (length (item_messages x) ≡ 0 → ⊥) → slice_get (item_messages x) 0 ≡ Some m → IsPrefix (item_signals x) c →
+    take 1 c ≡ signal_of m ∷ []
+first_shown x m c some is seen = shown (item_signals x) c 1 seen (omega (arith, some, length-items x)) ∙ first_of (item_signals x) (signal_of m) (item_signal_at x 0 m is)
 
 module _ (ins outs : List ℕ) (kind : Kind) (at : ℕ) where
   abbrev on : DistState → NodeState (Kind × DistState)

@@ -15,7 +15,7 @@ ghost use Rattle.flow_segment.specs.DistMachine.{dist_machine, dist_view};
 ghost use Rattle.flow_segment.specs.DistSteps.{DistWent, PutCopies, TookItem};
 
 use flow_base::{Ask, BLOCK, SHORT_BLOCK, Stop, Worker, put_in_space, take_front};
-use flow_messages::{Ends, Flat, Item, Kind, Msg};
+use flow_messages::{Ends, Flat, Item, Items, Kind, Msg};
 use snesl_data::FaultKind;
 use std::alloc::AllocError;
 
@@ -106,12 +106,12 @@ fn put_copies<E: Ends>(item: &Item, to: usize, count: usize, ends: &mut E, block
     ensures put { PutCopies (E.view ends.old) to count item.now (E.view ends.new) }
 {
     match item {
-        Item::Unit => ends.put_units(to, count),
+        Item::Unit => ends.put_all(to, Items::Units(count)),
         Item::Bool(truth) => {
             if *truth {
-                ends.put_flags(to, &TRUES[..count]);
+                ends.put_all(to, Items::Flags(&TRUES[..count]));
             } else {
-                ends.put_flags(to, &FALSES[..count]);
+                ends.put_all(to, Items::Flags(&FALSES[..count]));
             }
         }
         Item::Int(value) => {
@@ -120,7 +120,7 @@ fn put_copies<E: Ends>(item: &Item, to: usize, count: usize, ends: &mut E, block
                 Ok(narrow) => fill(copies, narrow),
                 Err(_) => unreachable!(),
             }
-            ends.put_ints(to, copies);
+            ends.put_all(to, Items::Ints(copies));
         }
         Item::Vec(_) | Item::Typed(_) => unreachable!(),
     }
@@ -136,27 +136,16 @@ fn take_shown<E: Ends>(kind: Kind, from: usize, ends: &mut E) -> Option<Item>
         TookItem (E.view ends.old) from item (E.view ends.new)) }
     ensures kind { IfSome result (λ item. is_of kind (cell_of item) ≡ true) }
 {
-    let item = match kind {
-        Kind::Int => {
-            let [first, ..] = ends.ints(from) else {
-                return None;
-            };
-            Item::Int(*first as i128)
-        }
-        Kind::Bool => {
-            let [first, ..] = ends.flags(from) else {
-                return None;
-            };
-            Item::Bool(*first)
-        }
-        Kind::Unit => {
-            if ends.units(from) == 0 {
-                return None;
-            }
-            Item::Unit
-        }
-        Kind::Vec => return None,
+    let items = ends.shown(from);
+    if items.len() == 0 {
+        return None;
+    }
+    let Msg::Item(item) = items.message(0) else {
+        return None;
     };
+    if !kind.fits(&item) {
+        return None;
+    }
     ends.skip(from, 1);
     Some(item)
 }
@@ -167,7 +156,7 @@ fn flag_shown<E: Ends>(ends: &E, edge: usize) -> Option<bool>
     requires { (E.view ends.now).reads edge ≡ true }
     ensures { IfSome result (λ b. IsPrefix (carry (flag b) ∷ []) ((E.view ends.now).coming edge)) }
 {
-    let [first, ..] = ends.flags(edge) else {
+    let [first, ..] = ends.shown(edge).flags() else {
         return None;
     };
     Some(*first)
@@ -287,7 +276,7 @@ impl Dist {
             return self.copy_on(inputs, outputs, ends, most);
         }
         let room = ends.space(to).min(BLOCK).min(block.len()).min(most / 2);
-        let shown = ends.flags(flags);
+        let shown = ends.shown(flags).flags();
         let count = elements_ahead(shown, room);
         // The flag that ends the segment is taken with those of its elements.
         if count < most - count && ends_at(shown, count) {
@@ -431,7 +420,7 @@ impl Worker for Dist {
         ends: &mut E,
         most: usize,
     ) -> usize {
-        if self.copies || ends.flags(inputs[1]).is_empty() {
+        if self.copies || ends.shown(inputs[1]).flags().is_empty() {
             return 0;
         }
         if most < BLOCK {

@@ -7,8 +7,8 @@ ghost use Rattle.flow_base.specs.Machines.{Leads, on_flag};
 ghost use Rattle.flow_segment.specs.FlagBlocks.{RunsOver};
 ghost use Rattle.flow_segment.specs.FlagSteps.{FlagLeads, RanOver};
 
-use flow_base::{Ask, Moved, Shown, Stop, Worker, Written};
-use flow_messages::{Flat, Item, Kind};
+use flow_base::{Ask, Moved, Stop, Worker, Written};
+use flow_messages::{Flat, Item, Items, Kind};
 use snesl_data::FaultKind;
 use std::alloc::AllocError;
 
@@ -237,8 +237,8 @@ impl<S: Stage> Worker for OverFlags<S> {
     #[inline(always)]
     fn along(
         &mut self,
-        first: Shown<'_>,
-        second: Shown<'_>,
+        first: Items<'_>,
+        second: Items<'_>,
         block: &mut Written,
         space: usize,
         most: usize,

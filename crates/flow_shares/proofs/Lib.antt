@@ -1,3 +1,4 @@
+pub mod OfMeetings
 pub mod Stays
 pub mod Places
 pub mod Dealing

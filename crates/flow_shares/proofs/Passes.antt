@@ -1,5 +1,5 @@
 -- One visit more in a turn.
-use Rattle.std.proofs.Common.{◌≡◌, ℕ, ◌+◌, ◌<◌, Bool, true, false, ◌||◌, List, length, get_or, set, refl, sym, ◌∙◌, subst}
+use Rattle.std.proofs.Common.{◌≡◌, ℕ, ◌+◌, ◌<◌, ◌≤◌, Bool, true, false, ◌||◌, List, length, get_or, set, refl, sym, ◌∙◌, subst}
 use Rattle.std.specs.List.{All}
 use Rattle.kahn.specs.Processes.{Does}
 use Rattle.flow_messages.specs.Ends.{View, SameEnds, SameTraffic}
@@ -11,14 +11,14 @@ use Rattle.flow_networks.specs.declared.placed.Placed.{Placed}
 use Rattle.flow_networks.specs.Over.{is_over}
 use Rattle.flow_networks.specs.Places.{placed_state, IsSamePlace}
 use Rattle.flow_networks.specs.Skeletons.{AreSamePlaces}
-use Rattle.flow_shares.specs.Shares.{inputs_of, outputs_of, HasItsEnds, IsOwn, AreApart, TakesMemory, HaveMoved, HaveMovedAndLost, SpareOthers}
+use Rattle.flow_shares.specs.Shares.{inputs_of, outputs_of, HasItsEnds, IsOwn, AreApart, AreStuck, TakesMemory, HaveMoved, HaveMovedAndLost, SpareOthers}
 use Rattle.flow_shares.proofs.Later.{same_places_refl, same_places_then, same_places_set, apart_later, there_later}
 use Rattle.flow_shares.proofs.Moves.{moved_none, moved_then, lost_then, own_later}
 use Rattle.flow_shares.proofs.Between.{moved_grows, same_first, same_second}
 use Rattle.flow_shares.proofs.Visits.{visit_moved, visit_history, visit_lost, visit_starves}
 use Rattle.flow_shares.proofs.Busy.{quiet}
 use Rattle.flow_shares.proofs.Spares.{spared_none, visit_spares, spared_then}
-use Rattle.flow_shares.proofs.Calm.{AreCalm, calm_none, calm_over, calm_next}
+use Rattle.flow_shares.proofs.Calm.{AreCalm, calm_none, calm_over, calm_next, calm_end}
 
 module _ {X : Type 0} {t : Ghosts X} where
   -- The nodes before n had their visit, or are over; `any` says whether one of them made a step.
@@ -46,9 +46,9 @@ module _ {X : Type 0} {t : Ghosts X} where
       (subst (λ (z : View). Passed n nodes later a z one) (sym view_is) (subst (λ (z : Bool). Passed n nodes later a v z) (sym one_is) passed))
 
   -- a node that is over is passed by
-  pub passed_by : (nodes mid : List (Placed X t)) (a v : View) (k : ℕ) (any : Bool) (x : Placed X t) → k < length mid → x ≡ get_or mid k x
-      → is_over (t.behaviour.process.want (placed_state x)) ≡ true → Passed k nodes mid a v any → Passed (k + 1) nodes mid a v any
-  passed_by nodes mid a v k any x inside is over passed = record {
+  pub passed_by : {nodes mid : List (Placed X t)} {a v : View} {k : ℕ} {any : Bool} → Passed k nodes mid a v any → (x : Placed X t) → k < length mid → x ≡ get_or mid k x
+      → is_over (t.behaviour.process.want (placed_state x)) ≡ true → Passed (k + 1) nodes mid a v any
+  passed_by {nodes} {mid} {a} {v} {k} passed x inside is over = record {
     places = passed.places;
     ends = passed.ends;
     moved = passed.moved;
@@ -57,8 +57,13 @@ module _ {X : Type 0} {t : Ghosts X} where
     calm = λ still. calm_over nodes mid a v k x inside is over (passed.calm still);
   }
 
-  module _ (laws : BehaviourLaws t.behaviour) (nodes : List (Placed X t)) (a : View) (there : All (HasItsEnds a) nodes) (apart : AreApart nodes) (own : All (IsOwn a) nodes)
-      (mid : List (Placed X t)) (v : View) (k : ℕ) (any : Bool) (passed : Passed k nodes mid a v any) (x : Placed X t) (inside : k < length mid) (is : x ≡ get_or mid k x) where
+  -- where none made a step, none can
+  pub passed_end : {nodes later : List (Placed X t)} {a v : View} {k : ℕ} {any : Bool} → Passed k nodes later a v any → length nodes ≤ k → any ≡ false →
+      AreStuck a nodes × AreStuck v later
+  passed_end {nodes} {later} {a} {v} {k} passed all still = calm_end nodes later a v passed.places k all (passed.calm still)
+
+  module _ (laws : BehaviourLaws t.behaviour) {nodes mid : List (Placed X t)} {a v : View} {k : ℕ} {any : Bool} (passed : Passed k nodes mid a v any)
+      (there : All (HasItsEnds a) nodes) (apart : AreApart nodes) (own : All (IsOwn a) nodes) (x : Placed X t) (inside : k < length mid) (is : x ≡ get_or mid k x) where
     -- the ends of the node to be visited are there
     pub node_there : HasItsEnds v x
     node_there = subst (HasItsEnds v) (sym is) (there_later nodes mid passed.places a v passed.ends there k x inside)
@@ -69,7 +74,7 @@ module _ {X : Type 0} {t : Ghosts X} where
     node_own : IsOwn v x
     node_own = subst (IsOwn v) (sym is) (own_later nodes mid a v passed.places passed.moved own k x inside)
 
-    module _ (y : Placed X t) (w : View) (place : IsSamePlace x y) (ends : SameEnds v w) where
+    module _ {y : Placed X t} {w : View} (place : IsSamePlace x y) (ends : SameEnds v w) where
       pub places_next : AreSamePlaces nodes (set mid k y)
       places_next = same_places_then nodes mid (set mid k y) passed.places (same_places_set mid k x y inside is place)
 
@@ -77,7 +82,7 @@ module _ {X : Type 0} {t : Ghosts X} where
       ends_next = same_ends_then a v w passed.ends ends
 
       -- it was visited
-      module _ (one : Bool) (visited : Visited (inputs_of x) (outputs_of x) t.behaviour (placed_state x) v (placed_state y) w one) where
+      module _ {one : Bool} (visited : Visited (inputs_of x) (outputs_of x) t.behaviour (placed_state x) v (placed_state y) w one) where
         moved_next : HaveMoved mid (set mid k y) v w
         moved_next = visit_moved laws mid k x y inside is apart_mid visited.history visited.does v w node_own visited.carried
 

@@ -51,7 +51,7 @@ module _ {X : Type 0} {t : Ghosts X} where
     progress = λ h. absurd (omega (arith, h));
   }
 
-  module _ (turns idle idle_turns : ℕ) (nodes mid : List (Placed X t)) (a v : View) (turned : Turned turns idle idle_turns nodes mid a v) where
+  module _ {turns idle idle_turns : ℕ} {nodes mid : List (Placed X t)} {a v : View} (turned : Turned turns idle idle_turns nodes mid a v) where
     -- all of its turns were made
     pub turned_end : (most : ℕ) → most ≤ turns → HaveMovedForTurns most idle_turns nodes mid a v
     turned_end most all = record { moved = turned.moved; often = omega (arith, all, turned.often, turned.few) }
@@ -79,8 +79,11 @@ module _ {X : Type 0} {t : Ghosts X} where
     pub turn_spares : (w : View) → SpareOthers mid v w → SpareOthers nodes a w
     turn_spares w = spared_then nodes mid a v w turned.places turned.spares
 
+    pub moved_more : {later : List (Placed X t)} {w : View} → HaveMoved mid later v w → HaveMoved nodes later a w
+    moved_more {later} {w} = moved_then nodes mid later a v w turned.places turned.moved
+
     -- one turn more
-    module _ (later : List (Placed X t)) (w : View) (any : Bool) (went : OneTurn mid later v w any) where
+    module _ {later : List (Placed X t)} {w : View} {any : Bool} (went : OneTurn mid later v w any) where
       still : (one : Bool) → (one ≡ true → SameTraffic v w → ⊥) → (one ≡ false → AreStuck v mid × AreStuck w later) → SameTraffic v w → AreStuck v mid
       still true busy stuck same = absurd (busy refl same)
       still false busy stuck same = (stuck refl).0
@@ -106,41 +109,37 @@ module _ {X : Type 0} {t : Ghosts X} where
       }
 
       -- and the last
-      pub moved_last : HaveMoved nodes later a w
-      moved_last = moved_then nodes mid later a v w turned.places turned.moved went.moved
-
       pub stuck_last : SameTraffic a w → AreStuck a nodes
       stuck_last = was_stuck turns turned
 
 -- whether anything moved in turns and then in one more
-module _ {X : Type 0} {t : Ghosts X} (nodes mid later : List (Placed X t)) (a v w : View) where
-  pub still_calm : SameTraffic a v → SameTraffic v w → SameTraffic a w
-  still_calm before last = record { sent = λ k. last.sent k ∙ before.sent k; received = λ k. last.received k ∙ before.received k }
+pub still_calm : {a v w : View} → SameTraffic a v → SameTraffic v w → SameTraffic a w
+still_calm before last = record { sent = λ k. last.sent k ∙ before.sent k; received = λ k. last.received k ∙ before.received k }
 
-  module _ (before : HaveMoved nodes mid a v) (last : HaveMoved mid later v w) where
-    same_before : SameTraffic a w → SameTraffic a v
-    same_before same = same_first a v w (moved_grows nodes mid a v before) (moved_grows mid later v w last) same
+module _ {X : Type 0} {t : Ghosts X} {nodes mid later : List (Placed X t)} {a v w : View} (before : HaveMoved nodes mid a v) (last : HaveMoved mid later v w) where
+  same_before : SameTraffic a w → SameTraffic a v
+  same_before same = same_first a v w (moved_grows nodes mid a v before) (moved_grows mid later v w last) same
 
-    pub busy_before : (SameTraffic a v → ⊥) → SameTraffic a w → ⊥
-    busy_before busy same = busy (same_before same)
+  pub busy_before : (SameTraffic a v → ⊥) → SameTraffic a w → ⊥
+  busy_before busy same = busy (same_before same)
 
-    pub busy_last : (SameTraffic v w → ⊥) → SameTraffic a w → ⊥
-    busy_last busy same = let was = same_before same in busy (record { sent = λ k. same.sent k ∙ sym (was.sent k); received = λ k. same.received k ∙ sym (was.received k) })
+  pub busy_last : (SameTraffic v w → ⊥) → SameTraffic a w → ⊥
+  busy_last busy same = let was = same_before same in busy (record { sent = λ k. same.sent k ∙ sym (was.sent k); received = λ k. same.received k ∙ sym (was.received k) })
 
 -- a share that is put together again
-module _ {X : Type 0} {t : Ghosts X} (nodes later out : List (Placed X t)) (a v w : View) (nodes_are : out ≡ later) (view_is : w ≡ v) (places : AreSamePlaces nodes later) where
-  pub there_out : SameEnds a v → All (HasItsEnds a) nodes → All (HasItsEnds w) out
-  there_out ends there =
+module _ {X : Type 0} {t : Ghosts X} {nodes later out : List (Placed X t)} {v w : View} (nodes_are : out ≡ later) (view_is : w ≡ v) (places : AreSamePlaces nodes later) where
+  pub there_out : {a : View} → SameEnds a v → All (HasItsEnds a) nodes → All (HasItsEnds w) out
+  there_out {a} ends there =
       subst (λ (z : List (Placed X t)). All (HasItsEnds w) z) (sym nodes_are)
       (subst (λ (z : View). All (HasItsEnds z) later) (sym view_is) (there_later nodes later places a v ends there))
 
   pub apart_out : AreApart nodes → AreApart out
   apart_out apart = subst (λ (z : List (Placed X t)). AreApart z) (sym nodes_are) (apart_later nodes later places apart)
 
-  pub own_out : HaveMoved nodes later a v → All (IsOwn a) nodes → All (IsOwn w) out
-  own_out moved own = subst (λ (z : List (Placed X t)). All (IsOwn w) z) (sym nodes_are) (subst (λ (z : View). All (IsOwn z) later) (sym view_is) (own_later nodes later a v places moved own))
+  pub own_out : {a : View} → HaveMoved nodes later a v → All (IsOwn a) nodes → All (IsOwn w) out
+  own_out {a} moved own = subst (λ (z : List (Placed X t)). All (IsOwn w) z) (sym nodes_are) (subst (λ (z : View). All (IsOwn z) later) (sym view_is) (own_later nodes later a v places moved own))
 
-  pub often_out : (turns idle_turns : ℕ) → HaveMovedForTurns turns idle_turns nodes later a v → HaveMovedForTurns turns idle_turns nodes out a w
-  often_out turns idle_turns often =
+  pub often_out : {a : View} {turns idle_turns : ℕ} → HaveMovedForTurns turns idle_turns nodes later a v → HaveMovedForTurns turns idle_turns nodes out a w
+  often_out {a} {turns} {idle_turns} often =
       subst (λ (z : List (Placed X t)). HaveMovedForTurns turns idle_turns nodes z a w) (sym nodes_are)
       (subst (λ (z : View). HaveMovedForTurns turns idle_turns nodes later a z) (sym view_is) often)

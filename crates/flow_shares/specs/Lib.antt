@@ -1,3 +1,4 @@
+pub mod meetings
 pub mod Deals
 pub mod Shares
 pub mod Running

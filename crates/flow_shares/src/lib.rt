@@ -16,6 +16,7 @@ mod error;
 mod gate;
 mod gathering;
 mod lender;
+pub mod meetings;
 mod over;
 mod pass;
 mod share;

@@ -1,7 +1,7 @@
 // What is asked before a thread is started.
 ghost use Rattle.std.specs.Prelude.{◌≡◌, []};
 
-use flow_history::History;
+use flow_messages::history::History;
 
 /// What is asked before each start of a thread. Where it says no, that counts as a start that was refused.
 pub trait Start {

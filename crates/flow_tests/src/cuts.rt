@@ -1,6 +1,6 @@
 // Networks that are dealt out, and their greatest loads, by hand.
 
-use flow_cut::{Link, are_between, deal_by_cut, greatest_load};
+use flow_dealing::cut::{Link, are_between, deal_by_cut, greatest_load};
 use std::alloc::{AllocError, Global};
 use std::test::Fail;
 

@@ -17,7 +17,7 @@ use Rattle.flow_messages.specs.Cells.{flag, int}
 use Rattle.flow_messages.specs.Signals.{Signal, carry}
 use Rattle.flow_base.specs.Along.{MovesAlong, written_signals, written_at}
 use Rattle.flow_base.specs.declared.slices.Moved.{Moved}
-use Rattle.flow_base.specs.declared.slices.Shown.{Shown}
+use Rattle.flow_messages.specs.declared.items.Items.{Items}
 use Rattle.flow_base.specs.declared.slices.Written.{Written}
 use Rattle.flow_base.proofs.Along.{Along, no_messages, ran_as, ran_none, ran_then, ran_write}
 use Rattle.flow_values.specs.Dues.{DueCell, due, due_cell, segment_dues}
@@ -137,7 +137,7 @@ written_to block made (suc (suc q)) =
 abbrev pub rounds_made : ℕ → ℕ → Moved
 rounds_made n ends = record { first = 0; second = 0; units = 0; flags = n + ends; ints = n; steps = 2 * n + ends }
 
-moves : (s t : List DueCell) (first second : Shown) (space most : ℕ) (block : Written) (n ends : ℕ) → n + ends ≤ space → 2 * n + ends ≤ most →
+moves : (s t : List DueCell) (first second : Items) (space most : ℕ) (block : Written) (n ends : ℕ) → n + ends ≤ space → 2 * n + ends ≤ most →
     Wrote s t (flag_signals (take (n + ends) block.flags)) (int_signals (take n block.ints)) (2 * n + ends) →
     MovesAlong seq_machine (int_type, s) (int_type, t) first second space most block (rounds_made n ends)
 moves s t first second space most block n ends room may wrote = record {
@@ -153,7 +153,7 @@ moves s t first second space most block n ends room may wrote = record {
 }
 
 -- of the states and of how far it went, told otherwise
-pub moves_as : {old old' new new' : Ty × List DueCell} {made made' : Moved} (first second : Shown) (space most : ℕ) (block : Written) → old ≡ old' → new ≡ new' → made ≡ made' →
+pub moves_as : {old old' new new' : Ty × List DueCell} {made made' : Moved} (first second : Items) (space most : ℕ) (block : Written) → old ≡ old' → new ≡ new' → made ≡ made' →
     MovesAlong seq_machine old' new' first second space most block made' → MovesAlong seq_machine old new first second space most block made
 moves_as {old} {old'} {new} {new'} {made} {made'} first second space most block same_old same_new same_made went =
     let told : Ty × List DueCell → Ty × List DueCell → Moved → Type 0 = λ a b m. MovesAlong seq_machine a b first second space most block m in
@@ -177,7 +177,7 @@ fronts ns n flags ints within put_flags put_ints =
       ints_are = ap (λ k. take k ints) (sym size) ∙ put_ints;
     }
 
-module _ (ns : List ℤ) (n : ℕ) (flags : List Bool) (ints : List ℤ) (put : Fronts ns n flags ints) (first second : Shown) (space most : ℕ) where
+module _ (ns : List ℤ) (n : ℕ) (flags : List Bool) (ints : List ℤ) (put : Fronts ns n flags ints) (first second : Items) (space most : ℕ) where
   -- it wrote the first so many elements
   pub wrote_some : n ≤ space → 2 * n ≤ most →
       MovesAlong seq_machine (int_type, ints_due ns) (int_type, ints_due (drop n ns)) first second space most (record { flags = flags; ints = ints }) (rounds_made n 0)

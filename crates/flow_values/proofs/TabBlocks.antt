@@ -8,13 +8,13 @@ use mathlib.Core.List.{IsPrefix}
 use Rattle.snesl_data.specs.declared.fault.FaultKind.TheVariants.{Shape}
 use Rattle.snesl_data.specs.Types.{Ty, int, bool, pair, vec, seq, is_concrete}
 use Rattle.snesl_data.specs.Values.{Value, an_int, a_bool, a_pair, a_vec, a_seq, values_of}
-use Rattle.flow_messages.specs.Blocks.{flag_signals, int_signals}
+use Rattle.flow_messages.specs.Blocks.{flag_signals, int_signals, item_signals}
 use Rattle.flow_messages.specs.Cells.{flag}
 use Rattle.flow_messages.specs.Signals.{Signal, carry}
-use Rattle.flow_base.specs.Along.{MovesAlong, shown_signals}
+use Rattle.flow_base.specs.Along.{MovesAlong}
 use Rattle.flow_base.specs.Flags.{F, T}
 use Rattle.flow_base.specs.declared.slices.Moved.{Moved}
-use Rattle.flow_base.specs.declared.slices.Shown.{Shown}
+use Rattle.flow_messages.specs.declared.items.Items.{Items}
 use Rattle.flow_base.specs.declared.slices.Written.{Written}
 use Rattle.flow_base.proofs.Along.{Single, flags_shown, flags_within, ints_shown, single_first, single_none, single_ran, single_second, single_then}
 use Rattle.flow_values.specs.Shapes.{is_a, all_are, cell_for}
@@ -79,9 +79,9 @@ truths_carried [] = refl
 truths_carried (b ∷ bs) = ap (λ l. carry (cell_for (a_bool b)) ∷ l) (truths_carried bs)
 
 -- the first of those that are shown were added
-pub ints_added : (shown : Shown) (ns : List ℤ) (whole k : ℕ) (old new : List Value) →
-    IsPrefix (int_signals ns) (shown_signals shown) → whole ≤ length ns → k ≤ length (take whole ns) → new ≡ old ++ map an_int (take k (take whole ns)) →
-    AddsScalars int (take k (shown_signals shown)) old new
+pub ints_added : (shown : Items) (ns : List ℤ) (whole k : ℕ) (old new : List Value) →
+    IsPrefix (int_signals ns) (item_signals shown) → whole ≤ length ns → k ≤ length (take whole ns) → new ≡ old ++ map an_int (take k (take whole ns)) →
+    AddsScalars int (take k (item_signals shown)) old new
 ints_added shown ns whole k old new seen small within is =
     let few : k ≤ whole = omega (arith, within, length-take-le whole ns small) in
     record {
@@ -91,9 +91,9 @@ ints_added shown ns whole k old new seen small within is =
       behind = is ∙ ap (λ l. old ++ map an_int l) (take-take k whole ns few);
     }
 
-pub truths_added : (shown : Shown) (bs : List Bool) (whole k : ℕ) (old new : List Value) →
-    IsPrefix (flag_signals bs) (shown_signals shown) → whole ≤ length bs → k ≤ length (take whole bs) → new ≡ old ++ map a_bool (take k (take whole bs)) →
-    AddsScalars bool (take k (shown_signals shown)) old new
+pub truths_added : (shown : Items) (bs : List Bool) (whole k : ℕ) (old new : List Value) →
+    IsPrefix (flag_signals bs) (item_signals shown) → whole ≤ length bs → k ≤ length (take whole bs) → new ≡ old ++ map a_bool (take k (take whole bs)) →
+    AddsScalars bool (take k (item_signals shown)) old new
 truths_added shown bs whole k old new seen small within is =
     let few : k ≤ whole = omega (arith, within, length-take-le whole bs small) in
     record {
@@ -181,12 +181,12 @@ module _ (ty : Ty) where
   some_elements s es v vs due are = and_others s es v vs (element s es v due (first_is ty v vs are)) (elements (es ++ v ∷ []) vs (rest_are ty v vs are))
 
 -- so many of the first flags stand for elements, and so many elements are shown that were added
-pub record Ahead (flags : List Bool) (first second : Shown) (ahead added : ℕ) : Type 0 where
-  pub seen : IsPrefix (flag_signals flags) (shown_signals first)
+pub record Ahead (flags : List Bool) (first second : Items) (ahead added : ℕ) : Type 0 where
+  pub seen : IsPrefix (flag_signals flags) (item_signals first)
   pub in_flags : ahead ≤ length flags
   pub elements : take ahead flags ≡ replicate ahead false
   pub few : added ≤ ahead
-  pub there : added ≤ length (shown_signals second)
+  pub there : added ≤ length (item_signals second)
   pub some : 0 < added
 
 -- how far it moved: it writes nothing
@@ -194,21 +194,21 @@ abbrev pub moved_by : ℕ → ℕ → ℕ → Moved
 moved_by first second steps = record { first = first; second = second; units = 0; flags = 0; ints = 0; steps = steps }
 
 -- What it made of what was shown: a flag and a scalar for each of so many elements.
-module _ (ty : Ty) (s : TabState) (es new : List Value) (first second : Shown) (bs : List Bool) (ahead added : ℕ) (due : AwaitsFlag s es) (shown : Ahead bs first second ahead added) where
+module _ (ty : Ty) (s : TabState) (es new : List Value) (first second : Items) (bs : List Bool) (ahead added : ℕ) (due : AwaitsFlag s es) (shown : Ahead bs first second ahead added) where
   flags_are : element_flags added ≡ flag_signals (take added bs)
   flags_are = ap flag_signals (sym (take-replicate added ahead false shown.few) ∙ ap (take added) (sym shown.elements) ∙ take-take added ahead bs shown.few)
 
-  counted : (vs : List Value) → take added (shown_signals second) ≡ scalar_signals vs → length vs ≡ added
-  counted vs carried = sym (length-map vs (λ v. carry (cell_for v))) ∙ sym (ap length carried) ∙ length-take-le added (shown_signals second) shown.there
+  counted : (vs : List Value) → take added (item_signals second) ≡ scalar_signals vs → length vs ≡ added
+  counted vs carried = sym (length-map vs (λ v. carry (cell_for v))) ∙ sym (ap length carried) ∙ length-take-le added (item_signals second) shown.there
 
   -- steps that read these elements, and the type of which they are
   abbrev Read : Type 0
-  Read = Reading ty s (at_flag new) (flag_signals (take added bs)) (take added (shown_signals second)) (2 * added) × (is_concrete ty ≡ true)
+  Read = Reading ty s (at_flag new) (flag_signals (take added bs)) (take added (item_signals second)) (2 * added) × (is_concrete ty ≡ true)
 
-  read : AddsScalars ty (take added (shown_signals second)) es new → Read
+  read : AddsScalars ty (take added (item_signals second)) es new → Read
   read adds = go adds.scalars adds.are adds.carried adds.behind
     where
-      go : (vs : List Value) → AreScalars ty vs → take added (shown_signals second) ≡ scalar_signals vs → new ≡ es ++ vs → Read
+      go : (vs : List Value) → AreScalars ty vs → take added (item_signals second) ≡ scalar_signals vs → new ≡ es ++ vs → Read
       go [] are carried behind = absurd (omega (arith, shown.some, counted [] carried))
       go (v ∷ vs) are carried behind =
           let size = counted (v ∷ vs) carried in
@@ -219,7 +219,7 @@ module _ (ty : Ty) (s : TabState) (es new : List Value) (first second : Shown) (
           let of_scalars = subst (λ l. Reading ty s (at_flag new) (flag_signals (take added bs)) l (2 * added)) (sym carried) of_flags in
           (of_scalars, scalar_concrete ty v (first_is ty v vs are))
 
-  module _ (adds : AddsScalars ty (take added (shown_signals second)) es new) (space most : ℕ) (block : Written) where
+  module _ (adds : AddsScalars ty (take added (item_signals second)) es new) (space most : ℕ) (block : Written) where
     -- it went on to this state, and moved so far
     abbrev Went : TabState → Moved → Type 0
     Went t moved = MovesAlong tab_machine (ty, s) (ty, t) first second space most block moved
@@ -239,7 +239,7 @@ module _ (ty : Ty) (s : TabState) (es new : List Value) (first second : Shown) (
             ints = omega arith;
             steps = may;
           };
-          ran = single_ran tab_machine ty (flag_signals (take added bs)) (take added (shown_signals second)) [] (read adds).0 first second block moved refl flags refl refl refl;
+          ran = single_ran tab_machine ty (flag_signals (take added bs)) (take added (item_signals second)) [] (read adds).0 first second block moved refl flags refl refl refl;
         }
 
     -- and the flag that ends them
@@ -247,7 +247,7 @@ module _ (ty : Ty) (s : TabState) (es new : List Value) (first second : Shown) (
     with_end may within ends =
         let moved = moved_by (added + 1) added (2 * added + 1) in
         let fs = flag_signals (take added bs) in
-        let xs = take added (shown_signals second) in
+        let xs = take added (item_signals second) in
         let ran = single_then tab_machine ty fs xs [] (carry T ∷ []) [] [] (read adds).0 (end_flag ty new (read adds).1) in
         let one_more : take (added + 1) bs ≡ take added bs ++ true ∷ [] = take_more bs added false within ∙ ap (λ b. take added bs ++ b ∷ []) ends in
         let all : fs ++ carry T ∷ [] ≡ flag_signals (take (added + 1) bs) = sym (ap flag_signals one_more ∙ map-append (λ b. carry (flag b)) (take added bs) (true ∷ [])) in

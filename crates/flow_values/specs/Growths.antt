@@ -8,12 +8,12 @@ use Rattle.snesl_data.specs.Values.{Value, value_of}
 use Rattle.snesl_data.specs.declared.builder.Builder.{Builder}
 use Rattle.snesl_data.specs.declared.datum.Datum.{Datum}
 use Rattle.snesl_data.specs.declared.ty.Ty.{Ty}
-use Rattle.flow_base.specs.Along.{shown_signals}
-use Rattle.flow_base.specs.declared.slices.Shown.{Shown}
+use Rattle.flow_messages.specs.declared.items.Items.{Items}
 use Rattle.flow_values.specs.Dues.{DueCell, due_cell, dues_of, segment_dues}
 use Rattle.flow_values.specs.Shapes.{kept_types, shared_type}
 use Rattle.flow_values.specs.TabBlocks.{AddsScalars}
 use Rattle.flow_values.specs.declared.dues.Due.{Due}
+use Rattle.flow_messages.specs.Blocks.{item_signals}
 
 -- these items are due after the others
 abbrev pub DuesGrow : List Due → List DueCell → List Due → Type 0
@@ -36,5 +36,5 @@ abbrev pub ElementsGrow : Builder → List Value → Builder → Type 0
 ElementsGrow old more new = built_in new ≡ built_in old ++ more
 
 -- the first so many scalars of the type that are shown come after the other elements
-abbrev pub AddsShown : Ty → ℕ → Shown → Builder → Builder → Type 0
-AddsShown ty count shown old new = AddsScalars (ty_of ty) (take count (shown_signals shown)) (built_in old) (built_in new)
+abbrev pub AddsShown : Ty → ℕ → Items → Builder → Builder → Type 0
+AddsShown ty count shown old new = AddsScalars (ty_of ty) (take count (item_signals shown)) (built_in old) (built_in new)

@@ -81,7 +81,7 @@ impl Index {
         let Some(all) = vector_shown(ends, inputs[0]) else {
             return None;
         };
-        let ints = ends.ints(inputs[1]);
+        let ints = ends.shown(inputs[1]).ints();
         if ints.is_empty() {
             return None;
         }

@@ -12,8 +12,8 @@ ghost use Rattle.flow_values.specs.SeqMachine.{rounds_moved, seq_machine, seq_ta
 use crate::dues::{Due, add_value};
 use crate::shapes::{add_kinds, add_types, kind_at};
 use crate::vectors::vector_in;
-use flow_base::{Ask, Moved, Shown, Stop, Worker, Written};
-use flow_messages::{Flat, Item, Kind};
+use flow_base::{Ask, Moved, Stop, Worker, Written};
+use flow_messages::{Flat, Item, Items, Kind};
 use snesl_data::{Elements, Ty};
 use std::alloc::{AllocError, Global};
 use std::collections::VecDeque;
@@ -235,8 +235,8 @@ impl Worker for Seq {
     #[inline(always)]
     fn along(
         &mut self,
-        first: Shown<'_>,
-        second: Shown<'_>,
+        first: Items<'_>,
+        second: Items<'_>,
         block: &mut Written,
         space: usize,
         most: usize,

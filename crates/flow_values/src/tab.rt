@@ -6,7 +6,7 @@ ghost use Rattle.snesl_data.specs.Values.{Value, Values, value_of, values_of, a_
 ghost use Rattle.flow_values.specs.Shapes.{all_are, are_as_known};
 ghost use Rattle.snesl_data.specs.Builders.{built_in};
 ghost use Rattle.flow_messages.specs.Cells.{cell_of};
-ghost use Rattle.flow_base.specs.Along.{shown_signals};
+ghost use Rattle.flow_messages.specs.Blocks.{item_signals};
 ghost use Rattle.flow_base.specs.Workers.{Takes};
 ghost use Rattle.flow_values.specs.Shapes.{kinds_of};
 ghost use Rattle.flow_values.specs.Parts.{built, PartsFit};
@@ -17,8 +17,8 @@ ghost use Rattle.flow_values.specs.Growths.{AddsShown, ElementsGrow};
 ghost use Rattle.flow_values.specs.VectorsRead.{FitType};
 
 use crate::shapes::{add_kinds, are_elements, is_typed, kept_type, kind_at, part_fits};
-use flow_base::{Ask, Moved, Shown, Stop, Worker, Written};
-use flow_messages::{Flat, Item, Kind};
+use flow_base::{Ask, Moved, Stop, Worker, Written};
+use flow_messages::{Flat, Item, Items, Kind};
 use snesl_data::{Builder, Datum, FaultKind, Ty};
 use std::alloc::{AllocError, Global};
 use std::collections::VecDeque;
@@ -255,11 +255,11 @@ fn push_shown(
     elements: &mut Builder,
     alloc: Global,
     of: &Ty,
-    shown: Shown<'_>,
+    shown: Items<'_>,
     most: usize,
 ) -> usize
     ensures within { result ≤ most }
-    ensures shown { result ≤ length (shown_signals shown.entry) }
+    ensures shown { result ≤ length (item_signals shown.entry) }
     ensures added { AddsShown of.now result shown.entry elements.old elements.new }
 {
     match of {
@@ -440,8 +440,8 @@ impl Worker for Tab {
     #[inline(always)]
     fn along(
         &mut self,
-        first: Shown<'_>,
-        second: Shown<'_>,
+        first: Items<'_>,
+        second: Items<'_>,
         block: &mut Written,
         space: usize,
         most: usize,

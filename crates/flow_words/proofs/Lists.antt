@@ -1,20 +1,15 @@
 -- What words say, one or more later.
-use Rattle.std.proofs.Common.{◌≡◌, ℕ, zero, suc, ◌+◌, ◌-◌, ◌<◌, ◌≤◌, false, ℤ, Bool, List, [], ◌∷◌, ◌++◌, length, take, drop, set, get_or, replicate, refl, sym, ap, ◌∙◌}
-use Rattle.std.proofs.Common.{arith, add-one, append_assoc, append-nil, cond, true, inl, inr, ◌⊎◌}
+use Rattle.std.proofs.Common.{◌≡◌, ℕ, zero, suc, ◌+◌, ◌-◌, ◌<◌, ◌≤◌, false, Bool, List, [], ◌∷◌, ◌++◌, length, take, drop, set, get_or, replicate, refl, sym, ap, ◌∙◌}
+use Rattle.std.proofs.Common.{arith, add-one, cond, true}
 use Rattle.std.proofs.Math.Seq.{take-suc, take-add}
-use Rattle.std.proofs.lemmas.Bool.{cases_Bool}
 use Rattle.std.proofs.lemmas.List.{map-append, take-append-drop, take_more_set, replicate-append-replicate}
 use Rattle.std.specs.List.{slice_range}
 use mathlib.Core.List.{IsPrefix}
 use Rattle.flow_messages.specs.declared.message.Msg.{Msg}
 use Rattle.flow_messages.specs.declared.message.Msg.TheVariants.{Item as ItemMsg, End as EndMsg}
-use Rattle.flow_messages.specs.declared.message.Item.TheVariants.{Unit as UnitItem, Bool as BoolItem, Int as IntItem}
-use Rattle.std.specs.Prelude.{Result, Ok, Err, OnOk, IfErr, IsOk, IsErrAnd, ◌↔◌}
-use Rattle.flow_messages.specs.declared.ends.Refused.{Refused}
-use Rattle.flow_messages.specs.declared.ends.Why.TheVariants.{Closed}
-use Rattle.flow_messages.specs.Contents.{unit_messages, flag_messages, int_messages}
+use Rattle.flow_messages.specs.declared.message.Item.TheVariants.{Unit as UnitItem, Bool as BoolItem}
+use Rattle.flow_messages.specs.Contents.{unit_messages, flag_messages}
 use Rattle.flow_messages.specs.Signals.{signals, ended}
-use Rattle.flow_messages.proofs.Signals.{ended-more}
 use Rattle.flow_words.specs.declared.words.UnitWord.{UnitWord}
 use Rattle.flow_words.specs.declared.words.UnitWord.TheVariants.{Unit as AUnit}
 use Rattle.flow_words.specs.declared.words.FlagWord.{FlagWord}
@@ -41,6 +36,9 @@ unfolding signals ended
 ended_part [] ns free = refl
 ended_part (ItemMsg x ∷ ms) ns free = ended_part ms ns free
 ended_part (EndMsg ∷ ms) ns free = cc
+
+pub open_first : (ms : List Msg) (i : ℕ) → ended (signals ms) ≡ false → ended (signals (take i ms)) ≡ false
+open_first ms i free = ended_part (take i ms) (drop i ms) (ap (λ (l : List Msg). ended (signals l)) (take-append-drop i ms) ∙ free)
 
 pub ended_take : {W : Type 0} (word : W → Msg) (ws : List W) (i : ℕ) → ended (signals (each_said word ws)) ≡ false → ended (signals (each_said word (take i ws))) ≡ false
 ended_take word ws i free = ended_part (each_said word (take i ws)) (each_said word (drop i ws)) (ap (λ (ms : List Msg). ended (signals ms)) (sym (map-append word (take i ws)
@@ -83,44 +81,12 @@ flags_further bs i n =
     ap (λ k. flag_messages (take i bs) ++ flag_messages (take k (drop i bs))) so_many ∙ sym (map-append (λ b. ItemMsg (BoolItem b)) (take i bs) (take n (drop i bs)))
     ∙ ap flag_messages (sym (take-add i n bs))
 
--- an integer more
-pub ints_next : (ns : List ℤ) (i : ℕ) (d : ℤ) → i < length ns → int_messages (take (i + 1) ns) ≡ int_messages (take i ns) ++ ItemMsg (IntItem (get_or ns i d)) ∷ []
-ints_next ns i d low = ap (λ k. int_messages (take k ns)) (add-one i) ∙ ap int_messages (take-suc ns i d low) ∙ map-append (λ n. ItemMsg (IntItem n)) (take i ns) (get_or ns i d ∷ [])
-
 -- what a put leaves where an end was put, and where none was
 pub followed_shut : (before ms : List Msg) → ended (signals before) ≡ true → followed_unless_ended before ms ≡ before
 followed_shut before ms shut = ap (λ b. cond b before (before ++ ms)) shut
 
 pub followed_free : (before ms : List Msg) → ended (signals before) ≡ false → followed_unless_ended before ms ≡ before ++ ms
 followed_free before ms free = ap (λ b. cond b before (before ++ ms)) free
-
-pub followed_none : (before : List Msg) → before ≡ followed_unless_ended before []
-followed_none before = by_end (cases_Bool (ended (signals before))) where
-  by_end : (ended (signals before) ≡ true) ⊎ (ended (signals before) ≡ false) → before ≡ followed_unless_ended before []
-  by_end (inl shut) = sym (followed_shut before [] shut)
-  by_end (inr free) = sym (followed_free before [] free ∙ append-nil before)
-
--- two puts are one put of both
-pub followed_more : (before ms ns : List Msg) → ended (signals ms) ≡ false → followed_unless_ended (followed_unless_ended before ms) ns ≡ followed_unless_ended before (ms ++ ns)
-followed_more before ms ns no_end = by_end (cases_Bool (ended (signals before))) where
-  by_end : (ended (signals before) ≡ true) ⊎ (ended (signals before) ≡ false) → followed_unless_ended (followed_unless_ended before ms) ns ≡ followed_unless_ended before (ms ++ ns)
-  by_end (inl shut) = ap (λ l. followed_unless_ended l ns) (followed_shut before ms shut) ∙ followed_shut before ns shut ∙ sym (followed_shut before (ms ++ ns) shut)
-  by_end (inr free) =
-      let still : ended (signals (before ++ ms)) ≡ false = ended-more before ms free ∙ no_end in
-      ap (λ l. followed_unless_ended l ns) (followed_free before ms free) ∙ followed_free (before ++ ms) ns still ∙ append_assoc before ms ns ∙ sym (followed_free before (ms ++ ns) free)
-
--- what a put of one message leaves, where room was certain
-pub followed_one : (before after : List Msg) (m : Msg) (room left : ℕ) (r : Result (Unit {0}) Refused) → 0 < room → OnOk r ((after ≡ before ++ m ∷ []) × (room ≤ left + 1))
-    → IfErr r (λ e. (e.message ≡ m) × ((after ≡ before) × (room ≤ left))) → IsErrAnd r (λ e. e.why ≡ Closed) ↔ (ended (signals before) ≡ true) → (ended (signals before) ≡ false
-    → 0 < room → IsOk r) → (after ≡ followed_unless_ended before (m ∷ [])) × (room ≤ left + 1)
-followed_one before after m room left (Ok x) some ok refused closed succeeds = by_end (cases_Bool (ended (signals before))) where
-  by_end : (ended (signals before) ≡ true) ⊎ (ended (signals before) ≡ false) → (after ≡ followed_unless_ended before (m ∷ [])) × (room ≤ left + 1)
-  by_end (inl shut) = absurd (closed.1 shut)
-  by_end (inr free) = (ok.0 ∙ sym (followed_free before (m ∷ []) free), ok.1)
-followed_one before after m room left (Err e) some ok refused closed succeeds = by_end (cases_Bool (ended (signals before))) where
-  by_end : (ended (signals before) ≡ true) ⊎ (ended (signals before) ≡ false) → (after ≡ followed_unless_ended before (m ∷ [])) × (room ≤ left + 1)
-  by_end (inl shut) = (refused.1.0 ∙ sym (followed_shut before (m ∷ []) shut), omega (arith, refused.1.1))
-  by_end (inr free) = absurd (let no = succeeds free some in cc)
 
 -- the first of what is left is the next
 pub popped : {X : Type 0} (xs : List X) (i : ℕ) (x : X) (rest : List X) → drop i xs ≡ x ∷ rest → (take (suc i) xs ≡ take i xs ++ x ∷ []) × (drop (suc i) xs ≡ rest)

@@ -1,5 +1,6 @@
 -- Which words may be put after others.
 use Rattle.std.proofs.Common.{◌≡◌, ◌/◌, Bool, true, false, ℤ, List, [], ◌∷◌, ◌++◌, take, refl, ap, ◌∙◌}
+use Rattle.std.specs.Prelude.{Some}
 use Rattle.std.proofs.lemmas.List.{map-append}
 use Rattle.std.proofs.lemmas.List.Elements.{All-take}
 use Rattle.std.specs.declared.alloc.Global.{Global}
@@ -11,14 +12,21 @@ use Rattle.flow_messages.specs.declared.message.Item.TheVariants.{Int as IntItem
 use Rattle.flow_messages.specs.Contents.{int_messages}
 use Rattle.flow_messages.specs.Signals.{signals, ended}
 use Rattle.flow_messages.proofs.Signals.{ended-more, ended-nil, block-ended}
-use Rattle.flow_messages.specs.declared.message.Kind.TheVariants.{Int as IntKind}
+use Rattle.flow_messages.specs.declared.message.Kind.TheVariants.{Unit as UnitKind, Bool as BoolKind, Int as IntKind}
+use Rattle.flow_messages.specs.Kinds.{TakesKind}
+use Rattle.flow_messages.proofs.Fitting.{takes_own}
+use Rattle.flow_words.specs.declared.ring.ClosingUnits.{ClosingUnits}
+use Rattle.flow_words.specs.declared.ring.ClosingFlags.{ClosingFlags}
 use Rattle.flow_words.specs.declared.ring.ClosingInts.{ClosingInts}
-use Rattle.flow_words.specs.declared.ring.WriterWords.TheVariants.{Ints as IntsTo}
+use Rattle.flow_words.specs.declared.ring.WriterWords.{WriterWords}
+use Rattle.flow_words.specs.declared.ring.WriterWords.TheVariants.{Units as UnitsTo, Flags as FlagsTo, Ints as IntsTo}
+use Rattle.flow_words.specs.declared.words.UnitWord.{UnitWord}
+use Rattle.flow_words.specs.declared.words.FlagWord.{FlagWord}
 use Rattle.flow_words.specs.declared.words.Group.{Group}
 use Rattle.flow_words.specs.declared.words.Group.TheVariants.{None as NoGroup}
 use Rattle.flow_words.specs.Words.{is_escape, each_said, ints_said, ints_sent, group_after, Spells, ArePlain}
 use Rattle.flow_words.proofs.Said.{said-append, after-append, plain_said, plain_after}
-use Rattle.flow_words.specs.Ring.{SameProducer, places_of_a_message}
+use Rattle.flow_words.specs.Ring.{SameProducer, places_of_a_message, writer_kind}
 use Rattle.flow_words.proofs.Lists.{ended_take}
 use Rattle.flow_words.proofs.Taking.{which_same}
 
@@ -78,3 +86,19 @@ pub spelled_whole : (r : Bool) (before ws all : List ℤ) (m : Msg) → (r ≡ t
     → Spells ws m → group_after NoGroup all ≡ NoGroup
 spelled_whole true before ws all m done full whole spells = (put_spelled before ws all m (done refl) whole spells).1
 spelled_whole false before ws all m done full whole spells = ap (group_after NoGroup) (full refl) ∙ whole
+
+-- a ring that takes items of a kind is one of that kind
+pub not_units : (r : WriterWords) → TakesKind (Some (writer_kind r)) UnitKind → ((p : Producer UnitWord Global ClosingUnits) → r ≡ UnitsTo p → ⊥) → ⊥
+not_units (UnitsTo p) takes other = other p refl
+not_units (FlagsTo p) takes other = let is = (takes_own BoolKind UnitKind).0 takes in cc
+not_units (IntsTo p) takes other = let is = (takes_own IntKind UnitKind).0 takes in cc
+
+pub not_flags : (r : WriterWords) → TakesKind (Some (writer_kind r)) BoolKind → ((p : Producer FlagWord Global ClosingFlags) → r ≡ FlagsTo p → ⊥) → ⊥
+not_flags (UnitsTo p) takes other = let is = (takes_own UnitKind BoolKind).0 takes in cc
+not_flags (FlagsTo p) takes other = other p refl
+not_flags (IntsTo p) takes other = let is = (takes_own IntKind BoolKind).0 takes in cc
+
+pub not_ints : (r : WriterWords) → TakesKind (Some (writer_kind r)) IntKind → ((p : Producer ℤ Global ClosingInts) → r ≡ IntsTo p → ⊥) → ⊥
+not_ints (UnitsTo p) takes other = let is = (takes_own UnitKind IntKind).0 takes in cc
+not_ints (FlagsTo p) takes other = let is = (takes_own BoolKind IntKind).0 takes in cc
+not_ints (IntsTo p) takes other = other p refl

@@ -1,5 +1,5 @@
 -- The ring after an end of an edge of words.
-use Rattle.std.specs.Prelude.{◌≡◌, ℕ, ◌+◌, ◌/◌, ◌<◌, ◌≤◌, true, false, List, [], ◌++◌, length}
+use Rattle.std.specs.Prelude.{◌≡◌, ℕ, ◌+◌, ◌/◌, ◌<◌, ◌≤◌, true, List, [], ◌++◌, length}
 use Rattle.std.specs.declared.alloc.Global.{Global}
 use mathlib.Core.List.{IsPrefix}
 use Rattle.rtrb.specs.Ring as ring
@@ -11,7 +11,7 @@ use denote.RawPtr.{Ptr}
 use Rattle.flow_messages.specs.declared.message.Kind.{Kind}
 use Rattle.flow_messages.specs.declared.message.Kind.TheVariants.{Unit as UnitKind, Bool as BoolKind, Int as IntKind}
 use Rattle.flow_messages.specs.declared.message.Msg.{Msg}
-use Rattle.flow_messages.specs.Signals.{signals, ended, orderly}
+use Rattle.flow_messages.specs.Signals.{signals, orderly}
 use Rattle.flow_messages.specs.Stores.{content_of}
 use Rattle.flow_boxes.specs.declared.inbox.Inbox.{Inbox}
 use Rattle.flow_boxes.specs.Coming.{HasCome}
@@ -136,10 +136,6 @@ FillsAtMost n a b = SameProducer a b × (known_free a ≤ known_free b + n)
 -- nothing was put, and no place that was certain is lost
 abbrev pub ProducerLooked : WriterWords → WriterWords → Type 0
 ProducerLooked a b = SameProducer a b × (half_put b ≡ half_put a) × (sent b ≡ sent a) × (known_free a ≤ known_free b)
-
--- items of this kind may be put: the ring is one of such items, and no `End` was put
-abbrev pub IsOpenFor : Kind → WriterWords → Type 0
-IsOpenFor kind w = (writer_kind w ≡ kind) × (ended (signals (sent w)) ≡ false)
 
 -- an inbox has room for so many messages more
 abbrev pub HasRoomFor : Inbox → ℕ → Type 0

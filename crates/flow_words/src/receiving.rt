@@ -12,6 +12,7 @@ use crate::ring::{ClosingInts, ReaderWords};
 use crate::single::{PLACES, Single, hold};
 use crate::words::{FlagWord, Group, LONGEST, UnitWord, are_plain};
 use flow_boxes::Inbox;
+use flow_messages::Items;
 use rtrb::{Consumer, Protocol};
 use std::alloc::Global;
 
@@ -95,7 +96,7 @@ fn hold_words(words: &[i64], group: Group, inbox: &mut Inbox) -> Group
 {
     match group {
         Group::None if are_plain(words) => {
-            inbox.push_ints(words);
+            inbox.push_all(Items::Ints(words));
             Group::None
         }
         _ => hold_each(words, group, inbox),

@@ -1,20 +1,20 @@
 // The ring of a writer, whatever it carries.
-ghost use Rattle.std.specs.Prelude.{◌≡◌, ◌+◌, ◌<◌, ◌≤◌, ◌↔◌, ◌/◌, true, false, [], ◌∷◌, ◌++◌, length, IsTrue};
+ghost use Rattle.std.specs.Prelude.{◌≡◌, ◌+◌, ◌<◌, ◌≤◌, ◌↔◌, ◌/◌, true, false, [], ◌∷◌, ◌++◌, Some, length, IsTrue};
 ghost use Rattle.rtrb.specs.Ring as port;
 ghost use Rattle.rtrb.specs.Fifo.{EachAllowed};
-ghost use Rattle.flow_messages.specs.declared.message.Kind.TheVariants.{Unit as UnitKind, Bool as BoolKind, Int as IntKind};
-ghost use Rattle.flow_messages.specs.Contents.{unit_messages, flag_messages, int_messages};
-ghost use Rattle.flow_messages.specs.Kinds.{fits};
+ghost use Rattle.flow_messages.specs.declared.message.Kind.TheVariants.{Int as IntKind};
+ghost use Rattle.flow_messages.specs.Contents.{unit_messages, flag_messages, int_messages, item_messages};
+ghost use Rattle.flow_messages.specs.Kinds.{fits, TakesItems};
 ghost use Rattle.flow_messages.specs.Signals.{signals, signal_of, ended};
 ghost use Rattle.flow_words.specs.declared.words.Group.TheVariants.{None as NoGroup};
 ghost use Rattle.flow_words.specs.declared.ring.WriterWords.TheVariants.{Units as UnitsTo, Flags as FlagsTo, Ints as IntsTo};
 ghost use Rattle.flow_words.specs.Words.{group_after, ArePlain};
-ghost use Rattle.flow_words.specs.Ring.{sent, known_free, half_put, writer_kind, FillsAtMost, IsOpenFor, ProducerLooked, SaysMore, TooFull, UsesAtMost};
+ghost use Rattle.flow_words.specs.Ring.{sent, known_free, half_put, writer_kind, FillsAtMost, ProducerLooked, SaysMore, TooFull, UsesAtMost};
 
 use crate::ring::{ClosingFlags, ClosingInts, ClosingUnits, WriterWords};
 use crate::single::{PLACES, Single, lay_out};
-use crate::words::{FlagWord, LONGEST, UnitWord, spell};
-use flow_messages::Msg;
+use crate::words::{FlagWord, LONGEST, UnitWord, are_plain, spell};
+use flow_messages::{Items, Msg};
 use rtrb::{Producer, Protocol};
 use std::alloc::Global;
 
@@ -127,7 +127,7 @@ fn push_flags(ring: &mut Producer<FlagWord, Global, ClosingFlags>, flags: &[bool
     }
 }
 
-// Puts these integers, where there is room.
+// Puts these integers, which say themselves, where there is room.
 #[inline(always)]
 fn push_plain(ring: &mut Producer<i64, Global, ClosingInts>, ints: &[i64])
     requires plain { ArePlain ints.now }
@@ -141,6 +141,41 @@ fn push_plain(ring: &mut Producer<i64, Global, ClosingInts>, ints: &[i64])
     if !push_all(ring, ints) {
         unreachable!()
     }
+}
+
+// Puts all these items one after another, where there is room.
+fn push_each(ring: &mut Producer<i64, Global, ClosingInts>, all: Items<'_>)
+    requires kind { TakesItems (Some IntKind) all }
+    requires open { ended (signals (sent (IntsTo ring.old))) ≡ false }
+    requires whole { half_put (IntsTo ring.old) ≡ NoGroup }
+    requires certain { length (item_messages all) ≤ known_free (IntsTo ring.old) }
+    ensures whole { half_put (IntsTo ring.new) ≡ NoGroup }
+    ensures put { sent (IntsTo ring.new) ≡ sent (IntsTo ring.old) ++ item_messages all.entry }
+    ensures room { FillsAtMost (length (item_messages all.entry)) (IntsTo ring.old)
+        (IntsTo ring.new) }
+{
+    for at in 0..all.len() {
+        if !push_spelled(ring, &all.message(at)) {
+            unreachable!()
+        }
+    }
+}
+
+// Puts these integers, where there is room.
+#[inline(always)]
+fn push_ints(ring: &mut Producer<i64, Global, ClosingInts>, ints: &[i64])
+    requires open { ended (signals (sent (IntsTo ring.old))) ≡ false }
+    requires whole { half_put (IntsTo ring.old) ≡ NoGroup }
+    requires certain { length ints.now ≤ known_free (IntsTo ring.old) }
+    ensures whole { half_put (IntsTo ring.new) ≡ NoGroup }
+    ensures put { sent (IntsTo ring.new) ≡ sent (IntsTo ring.old) ++ int_messages ints.now }
+    ensures room { FillsAtMost (length ints.now) (IntsTo ring.old) (IntsTo ring.new) }
+{
+    if !are_plain(ints) {
+        push_each(ring, Items::Ints(ints));
+        return;
+    }
+    push_plain(ring, ints);
 }
 
 // Whether so many places are free. It looks only where it does not know.
@@ -183,49 +218,22 @@ impl WriterWords {
         }
     }
 
-    // Puts so many units, where there is room.
+    // Puts these items, where there is room.
     #[inline(always)]
-    pub(crate) fn push_units(&mut self, count: usize)
-        requires open { IsOpenFor UnitKind self.old }
-        requires certain { count ≤ known_free self.old }
-        ensures whole { half_put self.new ≡ half_put self.old }
-        ensures put { sent self.new ≡ sent self.old ++ unit_messages count }
-        ensures room { FillsAtMost count self.old self.new }
-    {
-        match self {
-            WriterWords::Units(ring) => push_units(ring, count),
-            _ => unreachable!(),
-        }
-    }
-
-    // Puts these truth values, where there is room.
-    #[inline(always)]
-    pub(crate) fn push_flags(&mut self, flags: &[bool])
-        requires open { IsOpenFor BoolKind self.old }
-        requires certain { length flags.now ≤ known_free self.old }
-        ensures whole { half_put self.new ≡ half_put self.old }
-        ensures put { sent self.new ≡ sent self.old ++ flag_messages flags.now }
-        ensures room { FillsAtMost (length flags.now) self.old self.new }
-    {
-        match self {
-            WriterWords::Flags(ring) => push_flags(ring, flags),
-            _ => unreachable!(),
-        }
-    }
-
-    // Puts these integers, where there is room.
-    #[inline(always)]
-    pub(crate) fn push_plain(&mut self, ints: &[i64])
-        requires plain { ArePlain ints.now }
-        requires open { IsOpenFor IntKind self.old }
+    pub(crate) fn push_all(&mut self, items: Items<'_>)
+        requires open { ended (signals (sent self.old)) ≡ false }
+        requires kind { TakesItems (Some (writer_kind self.old)) items }
         requires whole { half_put self.old ≡ NoGroup }
-        requires certain { length ints.now ≤ known_free self.old }
+        requires certain { length (item_messages items) ≤ known_free self.old }
         ensures whole { half_put self.new ≡ NoGroup }
-        ensures put { sent self.new ≡ sent self.old ++ int_messages ints.now }
-        ensures room { FillsAtMost (length ints.now) self.old self.new }
+        ensures put { sent self.new ≡ sent self.old ++ item_messages items.entry }
+        ensures room { FillsAtMost (length (item_messages items.entry)) self.old self.new }
     {
-        match self {
-            WriterWords::Ints(ring) => push_plain(ring, ints),
+        match (self, items) {
+            (_, Items::Nothing) => {}
+            (WriterWords::Units(ring), Items::Units(count)) => push_units(ring, count),
+            (WriterWords::Flags(ring), Items::Flags(flags)) => push_flags(ring, flags),
+            (WriterWords::Ints(ring), Items::Ints(ints)) => push_ints(ring, ints),
             _ => unreachable!(),
         }
     }

@@ -9,7 +9,7 @@ ghost use Rattle.flow_words.specs.Ring.{HasRoomFor};
 
 use crate::words::{FlagWord, UnitWord};
 use flow_boxes::Inbox;
-use flow_messages::{Item, Msg};
+use flow_messages::{Item, Items, Msg};
 
 // A block of such words has so many places.
 pub(crate) const PLACES: usize = 256;
@@ -77,7 +77,7 @@ impl Single for UnitWord {
         if !are_units(words) {
             return false;
         }
-        inbox.push_units(words.len());
+        inbox.push_all(Items::Units(words.len()));
         true
     }
 }
@@ -114,7 +114,7 @@ impl Single for FlagWord {
         if !read_flags(words, &mut flags) {
             return false;
         }
-        inbox.push_flags(&flags[..words.len()]);
+        inbox.push_all(Items::Flags(&flags[..words.len()]));
         true
     }
 }

@@ -2,15 +2,13 @@
 ghost use Rattle.std.specs.Prelude.{◌≡◌, ◌+◌, ◌<◌, ◌≤◌, ◌↔◌, true, Some, length, IsTrue, IsOk, OnOk, IfErr, IsErrAnd};
 ghost use Rattle.std.specs.Io.Iter.{u64_saturate};
 ghost use Rattle.flow_messages.specs.declared.ends.Why.TheVariants.{Full, Closed};
-ghost use Rattle.flow_messages.specs.declared.message.Kind.TheVariants.{Unit as UnitKind, Bool as BoolKind, Int as IntKind};
-ghost use Rattle.flow_messages.specs.Contents.{unit_messages, flag_messages, int_messages};
-ghost use Rattle.flow_messages.specs.Kinds.{FitsEdge, TakesKind};
+ghost use Rattle.flow_messages.specs.Contents.{item_messages};
+ghost use Rattle.flow_messages.specs.Kinds.{FitsEdge, TakesItems, TakesKind};
 ghost use Rattle.flow_messages.specs.Signals.{signals, signal_of, ended};
 ghost use Rattle.flow_words.specs.Edge.{sent, certain_room, kind_of, IsNotClosed, PutsOne, SameWriter, WriterLooked, followed_unless_ended};
 
 use crate::ring::{WordWriter, WriterWords};
-use crate::words::are_plain;
-use flow_messages::{Item, Kind, Msg, Refused, Why};
+use flow_messages::{Item, Items, Kind, Msg, Refused, Why};
 
 impl WordWriter {
     /// Puts a message after all others.
@@ -46,73 +44,22 @@ impl WordWriter {
         Ok(())
     }
 
-    /// Puts so many units where room is certain. They are dropped where `End` was put on the edge before.
+    /// Puts these items where room is certain. They are dropped where `End` was put on the edge before.
     #[inline(always)]
-    pub fn put_units(&mut self, count: usize)
-        requires kind { kind_of self.old ≡ UnitKind }
-        requires certain { count ≤ certain_room self.old }
+    pub fn put_all(&mut self, items: Items<'_>)
+        requires kind { TakesItems (Some (kind_of self.old)) items }
+        requires certain { length (item_messages items) ≤ certain_room self.old }
         ensures same { SameWriter self.old self.new }
         ensures put { sent self.new ≡
-            followed_unless_ended (sent self.old) (unit_messages count) }
-        ensures room { certain_room self.old ≤ certain_room self.new + count }
+            followed_unless_ended (sent self.old) (item_messages items.entry) }
+        ensures room { certain_room self.old ≤
+            certain_room self.new + length (item_messages items.entry) }
     {
         if self.closed {
             return;
         }
-        self.ring.push_units(count);
-        self.put = self.put.saturating_add(count as u64);
-    }
-
-    /// Puts these truth values where room is certain. They are dropped where `End` was put on the edge before.
-    #[inline(always)]
-    pub fn put_flags(&mut self, flags: &[bool])
-        requires kind { kind_of self.old ≡ BoolKind }
-        requires certain { length flags.now ≤ certain_room self.old }
-        ensures same { SameWriter self.old self.new }
-        ensures put { sent self.new ≡
-            followed_unless_ended (sent self.old) (flag_messages flags.now) }
-        ensures room { certain_room self.old ≤ certain_room self.new + length flags.now }
-    {
-        if self.closed {
-            return;
-        }
-        self.ring.push_flags(flags);
-        self.put = self.put.saturating_add(flags.len() as u64);
-    }
-
-    /// Puts these integers where room is certain. They are dropped where `End` was put on the edge before.
-    #[inline(always)]
-    pub fn put_ints(&mut self, ints: &[i64])
-        requires kind { kind_of self.old ≡ IntKind }
-        requires certain { length ints.now ≤ certain_room self.old }
-        ensures same { SameWriter self.old self.new }
-        ensures put { sent self.new ≡
-            followed_unless_ended (sent self.old) (int_messages ints.now) }
-        ensures room { certain_room self.old ≤ certain_room self.new + length ints.now }
-    {
-        if self.closed {
-            return;
-        }
-        if !are_plain(ints) {
-            self.put_each(ints);
-            return;
-        }
-        self.ring.push_plain(ints);
-        self.put = self.put.saturating_add(ints.len() as u64);
-    }
-
-    // Puts these integers one after another.
-    fn put_each(&mut self, ints: &[i64])
-        requires kind { kind_of self.old ≡ IntKind }
-        requires certain { length ints.now ≤ certain_room self.old }
-        ensures same { SameWriter self.old self.new }
-        ensures put { sent self.new ≡
-            followed_unless_ended (sent self.old) (int_messages ints.now) }
-        ensures room { certain_room self.old ≤ certain_room self.new + length ints.now }
-    {
-        for int in ints {
-            let _ = self.put(Msg::Item(Item::Int(i128::from(*int))));
-        }
+        self.ring.push_all(items);
+        self.put = self.put.saturating_add(items.len() as u64);
     }
 
     /// Whether the edge takes items of this kind: it takes those of its own.

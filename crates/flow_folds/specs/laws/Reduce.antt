@@ -4,11 +4,11 @@ use Rattle.std.proofs.Common.{arith, sym, ◌∙◌, ap, subst}
 use Rattle.snesl_data.specs.declared.dialect.Dialect.{Dialect}
 use Rattle.snesl_data.specs.declared.fault.FaultKind.{FaultKind}
 use Rattle.snesl_data.specs.declared.fault.FaultKind.TheVariants.{Shape}
-use Rattle.snesl_operators.specs.Operators.{type_of, ScalarInRange}
-use Rattle.snesl_operators.specs.Reductions.{and_then, reduction_type, reduced_nothing, reduced_more, reduced_all, reduction_from}
-use Rattle.snesl_operators.proofs.ReductionLaws.{nothing_type, nothing_range, more_type, more_shape, more_range}
-use Rattle.snesl_operators.specs.declared.scalar.Scalar.{Scalar}
-use Rattle.snesl_operators.specs.declared.operator.Reduction.{Reduction}
+use Rattle.snesl_data.specs.operators.Operators.{type_of, ScalarInRange}
+use Rattle.snesl_data.specs.operators.Reductions.{and_then, reduction_type, reduced_nothing, reduced_more, reduced_all, reduction_from}
+use Rattle.snesl_data.proofs.OfOperators.ReductionLaws.{nothing_type, nothing_range, more_type, more_shape, more_range}
+use Rattle.snesl_data.specs.declared.operators.scalar.Scalar.{Scalar}
+use Rattle.snesl_data.specs.declared.operators.operator.Reduction.{Reduction}
 use Rattle.flow_messages.specs.Cells.{Cell, flag, is_of}
 use Rattle.flow_base.specs.Flags.{F, T, elements, flags, concatenation}
 use Rattle.flow_base.specs.Lists.{Lists}

@@ -5,9 +5,9 @@ use Rattle.snesl_data.specs.declared.dialect.Dialect.{Dialect}
 use Rattle.snesl_data.specs.declared.dialect.Dialect.TheVariants.{One, Two}
 use Rattle.snesl_data.specs.declared.fault.FaultKind.{FaultKind}
 use Rattle.snesl_data.specs.Integers.{IsInteger}
-use Rattle.snesl_operators.specs.Operators.{ranged}
-use Rattle.snesl_operators.specs.Reductions.{scan_from, and_then}
-use Rattle.snesl_operators.proofs.OperatorLaws.{ranged_integer}
+use Rattle.snesl_data.specs.operators.Operators.{ranged}
+use Rattle.snesl_data.specs.operators.Reductions.{scan_from, and_then}
+use Rattle.snesl_data.proofs.OfOperators.OperatorLaws.{ranged_integer}
 use Rattle.flow_messages.specs.Cells.{Cell, int, flag}
 use Rattle.flow_base.specs.Flags.{T, elements, flags, concatenation}
 use Rattle.flow_base.specs.Columns.{Columns, push_column, rows_from}

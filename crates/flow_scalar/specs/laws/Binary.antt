@@ -2,10 +2,10 @@
 use Rattle.std.specs.Prelude.{◌≡◌, zero, suc, List, [], ◌∷◌, map, Ok, refl, ◌↔◌}
 use Rattle.std.proofs.Common.{arith, sym, subst}
 use Rattle.snesl_data.specs.declared.dialect.Dialect.{Dialect}
-use Rattle.snesl_operators.specs.Operators.{binary_operand, binary_result, binary_value}
-use Rattle.snesl_operators.specs.declared.scalar.Scalar.{Scalar}
-use Rattle.snesl_operators.specs.declared.operator.BinaryOperator.{BinaryOperator}
-use Rattle.snesl_operators.proofs.OperatorLaws.{binary_operand_types, binary_type, binary_range}
+use Rattle.snesl_data.specs.operators.Operators.{binary_operand, binary_result, binary_value}
+use Rattle.snesl_data.specs.declared.operators.scalar.Scalar.{Scalar}
+use Rattle.snesl_data.specs.declared.operators.operator.BinaryOperator.{BinaryOperator}
+use Rattle.snesl_data.proofs.OfOperators.OperatorLaws.{binary_operand_types, binary_type, binary_range}
 use Rattle.flow_messages.specs.Cells.{Cell}
 use Rattle.flow_base.specs.Lists.{Lists}
 use Rattle.flow_base.specs.Columns.{Columns, columns, push_column, rows_from}

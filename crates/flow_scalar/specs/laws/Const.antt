@@ -1,8 +1,8 @@
 -- A constant keeps to the laws of machines.
 use Rattle.std.specs.Prelude.{◌≡◌, ℕ, zero, suc, Bool, true, false, refl}
 use Rattle.std.proofs.Common.{arith}
-use Rattle.snesl_operators.specs.Operators.{type_of}
-use Rattle.snesl_operators.specs.declared.scalar.Scalar.{Scalar}
+use Rattle.snesl_data.specs.operators.Operators.{type_of}
+use Rattle.snesl_data.specs.declared.operators.scalar.Scalar.{Scalar}
 use Rattle.flow_messages.specs.Cells.{Cell, unit}
 use Rattle.flow_base.specs.Columns.{Columns, push_column, rows_from}
 use Rattle.flow_base.specs.Machines.{MachineLaws, SoundAt, Runs}

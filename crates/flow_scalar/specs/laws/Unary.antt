@@ -2,10 +2,10 @@
 use Rattle.std.specs.Prelude.{◌≡◌, zero, suc, List, [], ◌∷◌, Option, Some, None, Ok, refl, ◌↔◌}
 use Rattle.std.proofs.Common.{arith, sym, subst}
 use Rattle.snesl_data.specs.declared.dialect.Dialect.{Dialect}
-use Rattle.snesl_operators.specs.Operators.{unary_operand, unary_value}
-use Rattle.snesl_operators.specs.declared.scalar.Scalar.{Scalar}
-use Rattle.snesl_operators.specs.declared.operator.UnaryOperator.{UnaryOperator}
-use Rattle.snesl_operators.proofs.OperatorLaws.{unary_operand_type, unary_type, unary_range}
+use Rattle.snesl_data.specs.operators.Operators.{unary_operand, unary_value}
+use Rattle.snesl_data.specs.declared.operators.scalar.Scalar.{Scalar}
+use Rattle.snesl_data.specs.declared.operators.operator.UnaryOperator.{UnaryOperator}
+use Rattle.snesl_data.proofs.OfOperators.OperatorLaws.{unary_operand_type, unary_type, unary_range}
 use Rattle.flow_messages.specs.Cells.{Cell}
 use Rattle.flow_base.specs.Lists.{Lists}
 use Rattle.flow_base.specs.Columns.{Columns, columns, push_column, rows_from}

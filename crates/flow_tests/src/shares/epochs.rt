@@ -3,14 +3,14 @@
 ghost use Rattle.std.specs.Prelude.{◌≡◌};
 ghost use Rattle.flow_networks.specs.Graphs.{states_of};
 ghost use Rattle.flow_networks.specs.Networks.{AreOpened};
-ghost use Rattle.flow_meetings.specs.SharedNetworks.{SharedNetwork};
+ghost use Rattle.flow_shares.specs.meetings.SharedNetworks.{SharedNetwork};
 ghost use Rattle.flow_drives.specs.Dealings.{network_under};
 
 use flow_base::Transducer;
 use flow_drives::{Config, Drive, NoGate, deal_rings, epoch};
-use flow_meetings::are_fed;
 use flow_networks::Graph;
 use flow_samples::{SUM_OF_FIVE, graph_of};
+use flow_shares::meetings::are_fed;
 use std::alloc::Global;
 use std::process::Abort;
 use std::sync::Arc;

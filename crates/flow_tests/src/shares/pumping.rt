@@ -1,6 +1,6 @@
 // Shares that were dealt out, the first of them pumped by itself.
 
-ghost use Rattle.flow_meetings.specs.SharedNetworks.{AreFed};
+ghost use Rattle.flow_shares.specs.meetings.SharedNetworks.{AreFed};
 ghost use Rattle.flow_drives.specs.Configs.{IsLawful};
 
 use flow_base::Transducer;

@@ -1,7 +1,7 @@
 use Rattle.std.proofs.Common.{◌≡◌, [], length, sym, subst, arith}
 use Rattle.snesl_data.specs.declared.refusal.Refusal.TheVariants.{TooBig}
 use Rattle.flow_networks.specs.Graphs.{states_so_far, edges_so_far}
-use Rattle.flow_plans.specs.Ports.{AreWired}
+use Rattle.flow_nodes.specs.plans.Ports.{AreWired}
 use Rattle.flow_assembly.specs.Ready.{plan_of, IsTooBig, IsBuiltTo}
 use Rattle.flow_assembly.proofs.Finishing.{empty_built}
 use Rattle.flow_assembly.proofs.Fitting.{passed_on}

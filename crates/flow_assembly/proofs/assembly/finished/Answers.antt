@@ -2,8 +2,8 @@ use Rattle.std.proofs.Common.{length, [], sym, subst, ◌∙◌}
 use Rattle.flow_networks.specs.Graphs.{edges_of, states_so_far, edges_so_far}
 use Rattle.flow_networks.specs.Networks.{AreOpened}
 use Rattle.flow_nodes.specs.StreamNodes.{node_behaviour}
-use Rattle.flow_plans.specs.Layouts.{layout, IsNetworkOfPlan}
-use Rattle.flow_plans.specs.Ports.{kinds_after}
+use Rattle.flow_nodes.specs.plans.Layouts.{layout, IsNetworkOfPlan}
+use Rattle.flow_nodes.specs.plans.Ports.{kinds_after}
 use Rattle.flow_assembly.specs.Openings.{AllOpen}
 use Rattle.flow_assembly.specs.Ready.{plan_of}
 use Rattle.flow_assembly.proofs.Finishing.{plan_ended, all_places, few_nodes, few_edges, all_edges, all_open, is_joined, are_opened, is_network}

@@ -1,5 +1,5 @@
 use Rattle.std.proofs.Common.{◌≡◌, ℕ, ◌+◌, drop, get_or}
-use Rattle.flow_plans.specs.Layouts.{times}
+use Rattle.flow_nodes.specs.plans.Layouts.{times}
 use Rattle.flow_assembly.proofs.counted_steps.add_uses.Given as goal
 
 abbrev pub invariant-loop-stream : goal.invariant-loop-stream

@@ -3,7 +3,7 @@ use Rattle.flow_scalar.specs.Streams.{items_of}
 use Rattle.flow_scalar.specs.SourceBehaviour.{source_state}
 use Rattle.flow_scalar.specs.declared.source.Stream.TheVariants.{Units}
 use Rattle.flow_nodes.specs.StreamNodes.{a_source}
-use Rattle.flow_plans.specs.Views.{operation_of}
+use Rattle.flow_nodes.specs.plans.Views.{operation_of}
 use Rattle.flow_assembly.specs.Openings.{IsOpening}
 use Rattle.flow_assembly.proofs.nodes.node_of.Goals as goal
 

@@ -39,6 +39,6 @@ returns-clause-counts g c =
           counted b c.args.capacity (states_of graph) (edges_of graph) n (edges_of later) (states_of later) (ends_of w.pass.new.ends) counts
           (all ∙ ap (λ of. length (edges_of of)) w.graph-is) (shape.network.same_edges ∙ inv.network.same_edges)
           (same_run b c.args.capacity (states_of graph) (edges_of graph) c.loop.ends.capacity (states_of c.loop.graph) (edges_of c.loop.graph) (states_of later) (ends_of w.pass.new.ends)
-          inv.network inv.capacity w.in_ok-moved.ensures.reached)
+          inv.network inv.capacity w.in_ok-moved.ensures.run)
           (subst (λ t. AreCounts n (ends_of t) counts) w.ends-is c.loop-edge.invariant)
     ]

@@ -3,8 +3,8 @@ use Rattle.std.proofs.lemmas.List.Elements.{All-push}
 use Rattle.flow_networks.specs.declared.edge.Edge.{Edge}
 use Rattle.flow_networks.specs.Edges.{edge_at}
 use Rattle.flow_networks.specs.Graphs.{edges_of, states_of}
-use Rattle.flow_cut.specs.declared.link.Link.{Link}
-use Rattle.flow_cut.specs.Loads.{AreBetween}
+use Rattle.flow_dealing.specs.declared.cut.link.Link.{Link}
+use Rattle.flow_dealing.specs.cut.Loads.{AreBetween}
 use Rattle.flow_dealing.specs.Weights.{CostFor, HaveWork, JoinAs}
 use Rattle.flow_dealing.proofs.Lists.{written_back, zip_more}
 use Rattle.flow_dealing.proofs.Work.{have_work, more_work}
@@ -57,3 +57,6 @@ loop-number-preserved c =
           (zip_more (λ (m : ℕ) (l : Link). (0 < l.cost) × (m ≤ l.cost)) counts links n 0 link (omega (arith, inside, c.requires.each)) inv.costs
           (c.cost-in-loop-number-2.ensures.some, c.cost-in-loop-number-2.ensures.enough));
     }
+
+pub returns-clause-busy : goal.returns-clause-busy
+returns-clause-busy c = λ e inside. c.loop-number.invariant.busy e (omega (arith, inside, c.loop-number-test.false, c.edges-number-end.ensures, c.loop-number.auto.number-end))

@@ -1,6 +1,6 @@
 use Rattle.std.proofs.Common.{◌≡◌, ◌<◌, ℕ, length, take}
 use Rattle.flow_networks.specs.Graphs.{edges_of, states_of}
-use Rattle.flow_cut.specs.Loads.{AreBetween}
+use Rattle.flow_dealing.specs.cut.Loads.{AreBetween}
 use Rattle.flow_dealing.specs.Weights.{CostFor, HaveWork, JoinAs}
 use Rattle.flow_dealing.proofs.weights.weights.Given as goal
 

@@ -1,4 +1,4 @@
-use Rattle.flow_meetings.specs.BoxMeetings.{BoxesJoin, box_slots}
+use Rattle.flow_shares.specs.meetings.BoxMeetings.{BoxesJoin, box_slots}
 use Rattle.flow_drives.specs.Configs.{IsLawful}
 use Rattle.flow_drives.proofs.Refused.{passed_on, passed_made}
 use Rattle.flow_drives.proofs.Dealt.{are_dealt_out, are_fed}

@@ -1,5 +1,5 @@
-use Rattle.flow_meetings.specs.RingMeetings.{RingsJoin, ring_slots}
-use Rattle.flow_rounds.proofs.EpochBegins.{dealt_graph}
+use Rattle.flow_shares.specs.meetings.RingMeetings.{RingsJoin, ring_slots}
+use Rattle.flow_drives.proofs.OfLoops.EpochBegins.{dealt_graph}
 use Rattle.flow_drives.specs.Configs.{IsLawful}
 use Rattle.flow_drives.proofs.Refused.{passed_on, passed_made}
 use Rattle.flow_drives.proofs.Dealt.{are_dealt_out, are_fed}

@@ -1,5 +1,5 @@
 use Rattle.std.proofs.Common.{subst}
-use Rattle.flow_meetings.specs.Deals.{IsDealt}
+use Rattle.flow_shares.specs.meetings.Deals.{IsDealt}
 use Rattle.flow_drives.specs.Configs.{IsLawful}
 use Rattle.flow_drives.specs.declared.driver.DriveError.TheVariants.{NoMemory}
 use Rattle.flow_drives.proofs.Refused.{refused_else, made_lawful}

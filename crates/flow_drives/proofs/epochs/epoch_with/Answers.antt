@@ -1,5 +1,5 @@
 use Rattle.std.proofs.Common.{sym, subst}
-use Rattle.flow_meetings.specs.Open.{AreOwners}
+use Rattle.flow_shares.specs.meetings.Open.{AreOwners}
 use Rattle.flow_drives.proofs.epochs.epoch_with.Goals as goal
 
 pub epoch-requires : goal.epoch-requires

@@ -1,6 +1,8 @@
 use Rattle.std.proofs.Common.{◌≡◌, subst}
 use Rattle.std.specs.Prelude.{IfOk}
-use Rattle.flow_rounds.proofs.EpochBegins.{dealt_graph, dealt_fed, dealt_none}
+use Rattle.flow_shares.specs.meetings.RingMeetings.{RingsJoin, ring_slots}
+use Rattle.flow_drives.proofs.OfLoops.Begins.{dealt_fed, dealt_none}
+use Rattle.flow_drives.proofs.OfLoops.EpochBegins.{dealt_graph}
 use Rattle.flow_shares.specs.Starts.{AskedAtEach}
 use Rattle.flow_drives.specs.Resteds.{rested_epochs, rested_share, rested_shares}
 use Rattle.flow_drives.proofs.Led.{made_so, led_in_epochs}
@@ -15,8 +17,8 @@ run_dealt-requires g c κs within =
     let made = c.in_ok-origin.ensures in
     let threads = c.args.config.now.threads in
     let graph = dealt_graph origin.graph.value threads origin.share.items origin.capacity dealt made.dealt in
-    let fed = dealt_fed origin.graph.value threads origin.share.items origin.capacity dealt made.dealt in
-    let none = dealt_none origin.graph.value threads origin.share.items origin.capacity dealt made.dealt in (
+    let fed = dealt_fed RingsJoin ring_slots origin.graph.value threads origin.share.items origin.capacity dealt made.dealt in
+    let none = dealt_none RingsJoin ring_slots origin.graph.value threads origin.share.items origin.capacity dealt made.dealt in (
       within.0,
       (
         within.1.0,

@@ -3,14 +3,14 @@ use Rattle.flow_networks.specs.Skeletons.{edges_in}
 use Rattle.flow_shares.specs.declared.error.WorkError.TheVariants.{NoThread}
 use Rattle.flow_shares.proofs.Refused.{none_refused}
 use Rattle.flow_shares.specs.Deals.{AreDealt}
-use Rattle.flow_meetings.specs.Deals.{nodes_in}
-use Rattle.flow_meetings.specs.Open.{AreOwners}
-use Rattle.flow_meetings.specs.SharedNetworks.{AreFed}
-use Rattle.flow_rounds.specs.Epochs.{moved_in}
+use Rattle.flow_shares.specs.meetings.Deals.{nodes_in}
+use Rattle.flow_shares.specs.meetings.Open.{AreOwners}
+use Rattle.flow_shares.specs.meetings.SharedNetworks.{AreFed}
+use Rattle.flow_drives.specs.loops.Epochs.{moved_in}
 use Rattle.flow_drives.specs.Apart.{AreThePlaces}
 use Rattle.flow_drives.proofs.AtRest.{are_the_shares}
 use Rattle.flow_drives.proofs.Apart.{part_of, rest_apart, network_apart, moved_apart}
-use Rattle.flow_drives.proofs.Refused.{nothing_made}
+use Rattle.flow_networks.proofs.Refused.{nothing_made}
 use Rattle.flow_drives.proofs.joined.run_dealt.Goals as goal
 
 pub run_epochs-requires : goal.run_epochs-requires
@@ -47,7 +47,7 @@ run_epochs-requires g c κs within =
 pub places_of-requires : goal.places_of-requires
 places_of-requires g c κs within =
     let deals : AreDealt g.network.share g.network.nodes (nodes_in c.deref-2.result.now) =
-    subst (λ l. AreDealt g.network.share g.network.nodes (nodes_in l)) (sym c.deref-2.ensures.value) c.in_ok-shares.ensures.graph.deals in
+    subst (λ l. AreDealt g.network.share g.network.nodes (nodes_in l)) (sym c.deref-2.ensures.value) c.in_ok-shares.ensures.went.graph.deals in
     search rules
 
 pub invariant_of-apart : goal.invariant_of-apart
@@ -59,10 +59,10 @@ invariant_of-apart g c =
     let made = c.in_ok-shares.ensures in
     let places = c.in_ok-places.places.items in
     let known = subst (λ l. AreThePlaces g.network l places) c.deref-2.ensures.value c.in_ok-places.ensures in
-    let fed : AreFed shares = made.fed in
+    let fed : AreFed shares = made.went.fed in
     record {
-      rest = rest_apart laws refl g.network shares made.graph places known c.args.origin.share.items (edges_in c.args.dealt.skeleton)
-          c.args.origin.capacity origin.share skeleton origin.capacity origin.named fed made.sound made.rest made.met;
+      rest = rest_apart laws refl g.network shares made.went.graph places known c.args.origin.share.items (edges_in c.args.dealt.skeleton)
+          c.args.origin.capacity origin.share skeleton origin.capacity origin.named fed made.sound made.rest made.went.met;
     }
 
 pub returns-clause-network : goal.returns-clause-network
@@ -74,7 +74,7 @@ returns-clause-network g c =
     let made = c.in_ok-shares.ensures in
     let places = c.in_ok-places.places.items in
     let known = subst (λ l. AreThePlaces g.network l places) c.deref-2.ensures.value c.in_ok-places.ensures in
-    network_apart laws refl g.network shares made.graph places known c.args.origin.share.items (edges_in c.args.dealt.skeleton) c.args.origin.capacity origin.share skeleton origin.capacity
+    network_apart laws refl g.network shares made.went.graph places known c.args.origin.share.items (edges_in c.args.dealt.skeleton) c.args.origin.capacity origin.share skeleton origin.capacity
 
 pub returns-clause-least : goal.returns-clause-least
 returns-clause-least g c =
@@ -87,9 +87,9 @@ returns-clause-least g c =
     let known = subst (λ l. AreThePlaces g.network l places) c.deref-2.ensures.value c.in_ok-places.ensures in
     let none = c.requires.1.1.1.1.1.1.1.1.1.1.1.1.1.1.1 in
     let count = c.in_ok-shares.count in
-    moved_apart laws refl g.network shares made.graph places known c.args.origin.share.items (edges_in c.args.dealt.skeleton) c.args.origin.capacity
+    moved_apart laws refl g.network shares made.went.graph places known c.args.origin.share.items (edges_in c.args.dealt.skeleton) c.args.origin.capacity
     origin.share skeleton origin.capacity (λ n. 0 < n → 0 < count)
-    (λ some. made.least (subst (λ n. n < moved_in g.network shares) (sym none) some))
+    (λ some. made.went.moves.least (subst (λ n. n < moved_in g.network shares) (sym none) some))
 
 pub returns-clause-most : goal.returns-clause-most
 returns-clause-most g c =
@@ -101,14 +101,14 @@ returns-clause-most g c =
     let places = c.in_ok-places.places.items in
     let known = subst (λ l. AreThePlaces g.network l places) c.deref-2.ensures.value c.in_ok-places.ensures in
     let count = c.in_ok-shares.count in
-    moved_apart laws refl g.network shares made.graph places known c.args.origin.share.items (edges_in c.args.dealt.skeleton) c.args.origin.capacity
+    moved_apart laws refl g.network shares made.went.graph places known c.args.origin.share.items (edges_in c.args.dealt.skeleton) c.args.origin.capacity
     origin.share skeleton origin.capacity (λ n. count ≤ n)
-    (part_of count (moved_in g.network c.args.dealt.shares.items) _ made.most)
+    (part_of count (moved_in g.network c.args.dealt.shares.items) _ made.went.moves.most)
 
 pub returns-clause-led : goal.returns-clause-led
 returns-clause-led g c = record {
   last = c.in_ok-shares.shares.items;
-  lead = c.in_ok-shares.ensures.epochs;
+  lead = c.in_ok-shares.ensures.went.lead;
   rest = are_the_shares _ _ refl;
 }
 
@@ -118,7 +118,7 @@ returns-clause-share g c =
     origin.share
 
 pub returns-clause-shares : goal.returns-clause-shares
-returns-clause-shares g c = c.in_ok-shares.ensures.later.count
+returns-clause-shares g c = c.in_ok-shares.ensures.went.later.count
 
 pub returns-clause-refused : goal.returns-clause-refused
 returns-clause-refused g c now = inl (none_refused _ NoThread c.in_ok-shares.ensures.refused now)

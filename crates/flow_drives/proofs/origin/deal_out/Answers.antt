@@ -3,8 +3,8 @@ use Rattle.std.proofs.lemmas.List.{length-map}
 use Rattle.flow_networks.specs.Graphs.{states_of}
 use Rattle.flow_networks.specs.Skeletons.{nodes_of}
 use Rattle.flow_networks.specs.Places.{placed_state}
-use Rattle.flow_meetings.specs.Deals.{IsDealt}
-use Rattle.flow_drives.proofs.Refused.{nothing_made}
+use Rattle.flow_shares.specs.meetings.Deals.{IsDealt}
+use Rattle.flow_networks.proofs.Refused.{nothing_made}
 use Rattle.flow_drives.proofs.origin.deal_out.Goals as goal
 
 pub returns-clause-origin : goal.returns-clause-origin

@@ -1,5 +1,5 @@
 use Rattle.flow_shares.specs.Deals.{AreDealt}
-use Rattle.flow_meetings.specs.Deals.{nodes_in}
+use Rattle.flow_shares.specs.meetings.Deals.{nodes_in}
 use Rattle.flow_drives.proofs.Noted.{AreNoted}
 use Rattle.flow_drives.proofs.places.places_of.Given as goal
 

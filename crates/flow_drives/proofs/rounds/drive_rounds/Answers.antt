@@ -2,7 +2,7 @@ use Rattle.std.proofs.Common.{◌≡◌, refl, sym, subst}
 use Rattle.std.specs.Prelude.{IfOk}
 use Rattle.flow_networks.specs.Graphs.{states_of, edges_of}
 use Rattle.flow_networks.specs.Networks.{AreOpened}
-use Rattle.flow_rounds.proofs.RoundBegins.{dealt_stand, dealt_none}
+use Rattle.flow_drives.proofs.OfLoops.RoundBegins.{dealt_stand, dealt_none}
 use Rattle.flow_drives.specs.Drives.{EndsMaximalRun}
 use Rattle.flow_shares.specs.Starts.{AskedAtEach}
 use Rattle.flow_drives.specs.Resteds.{rested_rounds, rested_states, rested_share, rested_shares, traffic_of}

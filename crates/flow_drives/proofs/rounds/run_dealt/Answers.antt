@@ -4,13 +4,13 @@ use Rattle.flow_boxes.specs.Contents.{view_of}
 use Rattle.flow_networks.specs.Graphs.{states_of, edges_of}
 use Rattle.flow_shares.specs.declared.error.WorkError.TheVariants.{NoThread}
 use Rattle.flow_shares.proofs.Refused.{none_refused}
-use Rattle.flow_meetings.specs.Open.{AreOwners}
-use Rattle.flow_meetings.specs.Joints.{views_of}
-use Rattle.flow_meetings.specs.SharedNetworks.{moves_by}
-use Rattle.flow_rounds.proofs.RoundMeets.{seen_is}
-use Rattle.flow_rounds.proofs.RoundGathers.{come_to_rest}
+use Rattle.flow_shares.specs.meetings.Open.{AreOwners}
+use Rattle.flow_shares.specs.meetings.Joints.{views_of}
+use Rattle.flow_shares.specs.meetings.SharedNetworks.{moves_by}
+use Rattle.flow_drives.proofs.OfLoops.RoundMeets.{seen_is}
+use Rattle.flow_drives.proofs.OfLoops.RoundGathers.{come_to_rest}
 use Rattle.flow_drives.specs.Edges.{traffic_by}
-use Rattle.flow_drives.proofs.Refused.{nothing_made}
+use Rattle.flow_networks.proofs.Refused.{nothing_made}
 use Rattle.flow_drives.proofs.Led.{have_states}
 use Rattle.flow_drives.proofs.Gathered.{are_there, run, boxes_moved, sound, rests}
 use Rattle.flow_drives.proofs.rounds.run_dealt.Goals as goal
@@ -77,7 +77,7 @@ returns-clause-least g c =
     let rest = come_to_rest g.network shares c.in_ok-shares.ensures.rest (states_of graph) c.in_ok-graph.ensures.states shared.ends.items taken in
     boxes_moved g.network graph shared c.in_ok-graph.ensures.network rest (ap (λ share. share.items) c.new-shared.ensures.share ∙ origin.share)
     (c.new-shared.ensures.capacity ∙ origin.capacity) (λ n. 0 < n → 0 < count)
-    (subst (λ v. 0 < moves_by g.network (views_of v) → 0 < count) (sym (seen_is shares shared.ends.items taken)) (λ some. c.in_ok-shares.ensures.least (omega (arith, none, some))))
+    (subst (λ v. 0 < moves_by g.network (views_of v) → 0 < count) (sym (seen_is shares shared.ends.items taken)) (λ some. c.in_ok-shares.ensures.went.moves.least (omega (arith, none, some))))
 
 pub returns-clause-most : goal.returns-clause-most
 returns-clause-most g c =
@@ -90,7 +90,7 @@ returns-clause-most g c =
     let rest = come_to_rest g.network shares c.in_ok-shares.ensures.rest (states_of graph) c.in_ok-graph.ensures.states shared.ends.items taken in
     boxes_moved g.network graph shared c.in_ok-graph.ensures.network rest (ap (λ share. share.items) c.new-shared.ensures.share ∙ origin.share)
     (c.new-shared.ensures.capacity ∙ origin.capacity) (λ n. count ≤ n)
-    (subst (λ v. count ≤ moves_by g.network (views_of v)) (sym (seen_is shares shared.ends.items taken)) (omega (arith, c.in_ok-shares.ensures.most)))
+    (subst (λ v. count ≤ moves_by g.network (views_of v)) (sym (seen_is shares shared.ends.items taken)) (omega (arith, c.in_ok-shares.ensures.went.moves.most)))
 
 pub returns-clause-led : goal.returns-clause-led
 returns-clause-led g c =
@@ -102,7 +102,7 @@ returns-clause-led g c =
     let deals = c.in_ok-shares.ensures.rest.stand.deals in
     record {
       last = shares;
-      lead = c.in_ok-shares.ensures.rounds;
+      lead = c.in_ok-shares.ensures.went.lead;
       nodes = have_states g.network graph shared c.in_ok-graph.ensures.network (ap (λ share. share.items) c.new-shared.ensures.share ∙ origin.share)
           (c.new-shared.ensures.capacity ∙ origin.capacity) shares deals (c.in_ok-graph.ensures.states deals);
       traffic = ap (λ ends. traffic_by view_of shared.share.items (edges_of graph) ends) taken;
@@ -116,7 +116,7 @@ returns-clause-share g c =
 pub returns-clause-shares : goal.returns-clause-shares
 returns-clause-shares g c =
     let taken = ap (λ ends. ends.items) c.new-shared.ensures.ends ∙ c.in_ok-graph.ensures.ends in
-    ap length taken ∙ length-map c.in_ok-shares.shares.items (λ share. share.ends) ∙ c.in_ok-shares.ensures.count
+    ap length taken ∙ length-map c.in_ok-shares.shares.items (λ share. share.ends) ∙ c.in_ok-shares.ensures.went.count
 
 pub returns-clause-refused : goal.returns-clause-refused
 returns-clause-refused g c now = inl (none_refused _ NoThread c.in_ok-shares.ensures.refused now)

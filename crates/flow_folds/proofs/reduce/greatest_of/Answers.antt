@@ -4,9 +4,9 @@ use mir.Val.{SFits}
 use Rattle.flow_messages.proofs.Widened.{widened}
 use Rattle.std.specs.Prelude.{Ok, int_lt, if◌then◌else◌}
 use Rattle.std.proofs.lemmas.List.{take_more}
-use Rattle.snesl_operators.specs.Reductions.{reduced_more}
-use Rattle.snesl_operators.specs.declared.operator.Reduction.TheVariants.{Max}
-use Rattle.snesl_operators.specs.declared.scalar.Scalar.TheVariants.{Int}
+use Rattle.snesl_data.specs.operators.Reductions.{reduced_more}
+use Rattle.snesl_data.specs.declared.operators.operator.Reduction.TheVariants.{Max}
+use Rattle.snesl_data.specs.declared.operators.scalar.Scalar.TheVariants.{Int}
 use Rattle.flow_folds.specs.ReduceBlocks.{reduction_of_ints}
 use Rattle.flow_folds.proofs.ReduceBlocks.{one_int_more}
 use Rattle.flow_folds.proofs.reduce.greatest_of.Goals as goal

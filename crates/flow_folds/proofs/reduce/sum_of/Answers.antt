@@ -4,10 +4,10 @@ use mir.Val.{SFits}
 use Rattle.flow_messages.proofs.Widened.{widened}
 use Rattle.std.specs.Prelude.{Ok}
 use Rattle.std.proofs.lemmas.List.{take_more}
-use Rattle.snesl_operators.specs.Operators.{ranged, an_integer}
-use Rattle.snesl_operators.specs.Reductions.{some_of, reduced_more}
-use Rattle.snesl_operators.specs.declared.operator.Reduction.TheVariants.{Sum}
-use Rattle.snesl_operators.specs.declared.scalar.Scalar.TheVariants.{Int}
+use Rattle.snesl_data.specs.operators.Operators.{ranged, an_integer}
+use Rattle.snesl_data.specs.operators.Reductions.{some_of, reduced_more}
+use Rattle.snesl_data.specs.declared.operators.operator.Reduction.TheVariants.{Sum}
+use Rattle.snesl_data.specs.declared.operators.scalar.Scalar.TheVariants.{Int}
 use Rattle.flow_folds.specs.ReduceBlocks.{reduction_of_ints}
 use Rattle.flow_folds.proofs.ReduceBlocks.{one_int_more}
 use Rattle.flow_folds.proofs.reduce.sum_of.Goals as goal

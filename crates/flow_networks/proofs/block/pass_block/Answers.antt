@@ -1,42 +1,45 @@
-use Rattle.std.proofs.Common.{rules, ◌≡◌, ◌+◌, ◌*◌, ◌/◌, ◌<◌, ◌≤◌, length, refl, sym, ◌∙◌, ap, subst, arith}
+use Rattle.std.proofs.Common.{rules, ◌≡◌, ℕ, ◌+◌, ◌*◌, ◌/◌, ◌<◌, ◌≤◌, List, length, refl, sym, ◌∙◌, ap, arith}
+use Rattle.flow_messages.specs.declared.flat.Flat.{Flat}
+use Rattle.flow_messages.specs.Ends.{View, LookedForMessages}
 use Rattle.flow_messages.specs.Flats.{flat_signals}
 use Rattle.flow_messages.proofs.Scalars.{said_length}
-use Rattle.flow_base.specs.Visits.{edge_of}
+use Rattle.flow_base.specs.Transducers.{Behaviour, BehaviourLaws}
+use Rattle.flow_base.specs.Visits.{edge_of, Went}
 use Rattle.flow_base.proofs.Carried.{same_ends_then}
+use Rattle.flow_networks.specs.Blocks.{AreApart, OnlySeesRoom}
 use Rattle.flow_networks.proofs.BlockEdges.{only_looked, taken_all_room}
 use Rattle.flow_networks.proofs.Drawn.{alone_both, block_held, skipped_block, few_steps, may_take, passed_block, went_passed}
 use Rattle.flow_networks.proofs.block.pass_block.Goals as goal
 
+-- it looked for room and then for messages, and did nothing else
+looked_only : {S : Type 0} (b : Behaviour S) (laws : BehaviourLaws b) (inputs outputs : List ℕ) → AreApart outputs → length inputs ≡ 1 → (s t : S) {a u w : View} →
+    OnlySeesRoom outputs a u → LookedForMessages u (edge_of inputs 0) w → t ≡ s → Went inputs outputs b s a t w 0
+looked_only b laws inputs outputs apart one s t {a} {u} {w} room looked same =
+    only_looked b laws inputs outputs apart s t a w same (alone_both inputs outputs a u w (edge_of inputs 0) one refl (room inputs) looked)
+
+-- it made no more steps than it may
+steps_fit : (read out : List Flat) (o k most room : ℕ) → k ≡ length out → length read ≤ room → room ≤ most / (o + 1) → length (flat_signals out) ≤ length (flat_signals read) →
+    length read + o * k ≤ most
+steps_fit read out o k most room count ahead within few =
+    few_steps (length read) o k most room ahead within (omega (arith, count, few, said_length out, said_length read))
+
 pub returns-then-room-eq0-clause-went : goal.returns-then-room-eq0-clause-went
 returns-then-room-eq0-clause-went g c =
-    let view = g.E.Ends.view in
     let s = g.T.Transducer.state c.args.node.now in
-    let ins = c.args.inputs.now in
-    let outs = c.args.outputs.now in
-    let alone = alone_both ins outs (view c.args.ends.now) (view c.least_space-room.new.ends) (view c.ready.new.self) (edge_of ins 0) c.requires.one
-    refl (c.least_space-room.ensures.looked ins) c.ready.ensures.looked in
-    only_looked g.T.Transducer.behaviour g.met.T.Transducer.laws ins outs c.requires.apart s s (view c.args.ends.now) (view c.ready.new.self) refl alone
+    looked_only g.T.Transducer.behaviour g.met.T.Transducer.laws c.args.inputs.now c.args.outputs.now c.requires.apart c.requires.one s s
+    c.least_space-room.ensures.looked c.ready.ensures.looked refl
 
 pub returns-then-is_empty-clause-went : goal.returns-then-is_empty-clause-went
 returns-then-is_empty-clause-went g c =
-    let view = g.E.Ends.view in
     let s = g.T.Transducer.state c.args.node.now in
-    let ins = c.args.inputs.now in
-    let outs = c.args.outputs.now in
-    let alone = alone_both ins outs (view c.args.ends.now) (view c.least_space-room.new.ends) (view c.ready.new.self) (edge_of ins 0) c.requires.one
-    refl (c.least_space-room.ensures.looked ins) c.ready.ensures.looked in
-    only_looked g.T.Transducer.behaviour g.met.T.Transducer.laws ins outs c.requires.apart s s (view c.args.ends.now) (view c.ready.new.self) refl alone
+    looked_only g.T.Transducer.behaviour g.met.T.Transducer.laws c.args.inputs.now c.args.outputs.now c.requires.apart c.requires.one s s
+    c.least_space-room.ensures.looked c.ready.ensures.looked refl
 
 pub returns-then-not-pass-clause-went : goal.returns-then-not-pass-clause-went
 returns-then-not-pass-clause-went g c =
-    let view = g.E.Ends.view in
     let s = g.T.Transducer.state c.args.node.now in
-    let ins = c.args.inputs.now in
-    let outs = c.args.outputs.now in
-    let alone = alone_both ins outs (view c.args.ends.now) (view c.least_space-room.new.ends) (view c.ready.new.self) (edge_of ins 0) c.requires.one
-    refl (c.least_space-room.ensures.looked ins) c.ready.ensures.looked in
-    only_looked g.T.Transducer.behaviour g.met.T.Transducer.laws ins outs c.requires.apart s (g.T.Transducer.state c.pass.new.self)
-    (view c.args.ends.now) (view c.ready.new.self) (c.pass.ensures.kept c.if-not-pass.true) alone
+    looked_only g.T.Transducer.behaviour g.met.T.Transducer.laws c.args.inputs.now c.args.outputs.now c.requires.apart c.requires.one s (g.T.Transducer.state c.pass.new.self)
+    c.least_space-room.ensures.looked c.ready.ensures.looked (c.pass.ensures.kept c.if-not-pass.true)
 
 pub skip-requires-clause-certain : goal.skip-requires-clause-certain
 skip-requires-clause-certain g c = block_held c.messages_ahead-block.result.items c.len.result _ c.len.ensures.value c.messages_ahead-block.ensures.next.first
@@ -64,27 +67,19 @@ put_each-requires-clause-may g c =
 
 pub overflow_mul-result : goal.overflow_mul-result
 overflow_mul-result g c =
-    let read = c.messages_ahead-block.result.items in
-    let out = c.pass.new.out.items in
     let o = length c.args.outputs.now in
-    let passed = c.pass.ensures.passed (cc (c.if-not-pass.false)) in
     let within : c.least_space-room.result ≤ c.args.most / (o + 1) = search rules in
-    let few : length out ≤ length read = omega (arith, passed.few, said_length out, said_length read) in
-    let all = few_steps (length read) o (length out) c.args.most c.least_space-room.result c.messages_ahead-block.ensures.most within few in
-    let same = ap (λ k. o * k) c.len-3.ensures.value in
-    omega (arith, all, same, c.ranges.most.fits)
+    let all = steps_fit c.messages_ahead-block.result.items c.pass.new.out.items o c.len-3.result c.args.most c.least_space-room.result c.len-3.ensures.value
+    c.messages_ahead-block.ensures.most within (c.pass.ensures.passed (cc (c.if-not-pass.false))).few in
+    omega (arith, all, c.ranges.most.fits)
 
 pub overflow_add-result : goal.overflow_add-result
 overflow_add-result g c =
-    let read = c.messages_ahead-block.result.items in
-    let out = c.pass.new.out.items in
     let o = length c.args.outputs.now in
-    let passed = c.pass.ensures.passed (cc (c.if-not-pass.false)) in
     let within : c.least_space-room.result ≤ c.args.most / (o + 1) = search rules in
-    let few : length out ≤ length read = omega (arith, passed.few, said_length out, said_length read) in
-    let all = few_steps (length read) o (length out) c.args.most c.least_space-room.result c.messages_ahead-block.ensures.most within few in
-    let same = ap (λ k. o * k) c.len-3.ensures.value in
-    omega (arith, all, same, c.len-2.ensures.value, c.ranges.most.fits)
+    let all = steps_fit c.messages_ahead-block.result.items c.pass.new.out.items o c.len-3.result c.args.most c.least_space-room.result c.len-3.ensures.value
+    c.messages_ahead-block.ensures.most within (c.pass.ensures.passed (cc (c.if-not-pass.false))).few in
+    omega (arith, all, c.len-2.ensures.value, c.ranges.most.fits)
 
 pub returns-clause-same : goal.returns-clause-same
 returns-clause-same g c =
@@ -96,15 +91,11 @@ returns-clause-same g c =
 
 pub returns-clause-most : goal.returns-clause-most
 returns-clause-most g c =
-    let read = c.messages_ahead-block.result.items in
-    let out = c.pass.new.out.items in
     let o = length c.args.outputs.now in
-    let passed = c.pass.ensures.passed (cc (c.if-not-pass.false)) in
     let within : c.least_space-room.result ≤ c.args.most / (o + 1) = search rules in
-    let few : length out ≤ length read = omega (arith, passed.few, said_length out, said_length read) in
-    let all = few_steps (length read) o (length out) c.args.most c.least_space-room.result c.messages_ahead-block.ensures.most within few in
-    let same = ap (λ k. o * k) c.len-3.ensures.value in
-    omega (arith, all, same, c.len-2.ensures.value)
+    let all = steps_fit c.messages_ahead-block.result.items c.pass.new.out.items o c.len-3.result c.args.most c.least_space-room.result c.len-3.ensures.value
+    c.messages_ahead-block.ensures.most within (c.pass.ensures.passed (cc (c.if-not-pass.false))).few in
+    omega (arith, all, c.len-2.ensures.value)
 
 pub returns-clause-went : goal.returns-clause-went
 returns-clause-went g c =

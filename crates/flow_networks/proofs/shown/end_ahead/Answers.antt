@@ -1,4 +1,4 @@
-use Rattle.std.proofs.Common.{List, [], ◌∷◌, ◌++◌, sym, ◌∙◌, ap, subst}
+use Rattle.std.proofs.Common.{List, [], ◌∷◌, ◌++◌, ◌∙◌, ap, subst}
 use mathlib.Core.List.{IsPrefix}
 use Rattle.flow_messages.specs.declared.flat.Flat.{Flat}
 use Rattle.flow_messages.specs.declared.flat.Flat.TheVariants.{End as EndFlat}

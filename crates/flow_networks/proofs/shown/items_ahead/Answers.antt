@@ -1,26 +1,40 @@
-use Rattle.std.proofs.Common.{rules, ◌≤◌, refl, sym, subst}
+use Rattle.std.proofs.Common.{length, sym, ◌∙◌, ap, arith}
 use Rattle.flow_messages.specs.Flats.{flat_signals}
-use Rattle.flow_networks.specs.Blocks.{ComeNext}
-use Rattle.flow_networks.proofs.Ahead.{come_units, come_flags, come_ints, come_none}
+use Rattle.flow_messages.specs.Signals.{ended}
+use Rattle.flow_messages.proofs.Scalars.{said_none}
+use Rattle.flow_messages.proofs.Signals.{ended-nil}
+use Rattle.flow_networks.proofs.Ahead.{item_more, still_free, may_come_more, come_items, come_none}
 use Rattle.flow_networks.proofs.shown.items_ahead.Goals as goal
 
-pub returns-in-Unit-clause-next : goal.returns-in-Unit-clause-next
-returns-in-Unit-clause-next g c =
-    let coming = (g.E.Ends.view c.args.ends.now).coming c.args.edge in
-    let low : c.min.result ≤ c.units.result = search rules in
-    subst (λ k. ComeNext k coming (flat_signals c.units_block.result.items)) (sym c.in-Unit.is) (come_units c.min.result c.units.result coming _ low c.units.ensures c.units_block.ensures.said)
+pub loop-at-init : goal.loop-at-init
+loop-at-init g c = record {
+  said = ap flat_signals c.new-block.ensures ∙ said_none;
+  may_come = (come_none c.args.kind ((g.E.Ends.view c.args.ends.now).coming c.args.edge) c.new-block.result.items c.new-block.ensures).may_come;
+  free = ap (λ xs. ended (flat_signals xs)) c.new-block.ensures ∙ ended-nil;
+  len = ap length c.new-block.ensures;
+}
 
-pub returns-in-Bool-clause-next : goal.returns-in-Bool-clause-next
-returns-in-Bool-clause-next g c =
-    let coming = (g.E.Ends.view c.args.ends.now).coming c.args.edge in
-    subst (λ k. ComeNext k coming (flat_signals c.flags_block.result.items)) (sym c.in-Bool.is)
-    (come_flags c.min-in-Bool.result c.flags-flags.result.now _ coming _ refl c.flags-flags.ensures c.flags_block.ensures.said)
+-- one item more
+pub loop-at-preserved : goal.loop-at-preserved
+loop-at-preserved g c =
+    let inv = c.loop-at.invariant in
+    let xs = c.loop-at.block.items in
+    let ys = c.push.new.self.items in
+    let x = c.in-Item-Some.flat in
+    let m = c.message-message.result in
+    let is = c.in-Item-Some.ensures.some in
+    let more = c.push.ensures.items in
+    record {
+      said = item_more xs ys x m is more c.shown-items.result c.loop-at.at c.message-message.ensures inv.said;
+      may_come = may_come_more xs ys x m is more c.in-Item-Some.item c.in-Item-Some.is-0 inv.free c.args.kind (sym c.if-fits.ensures) inv.may_come;
+      free = still_free xs ys x m is more c.in-Item-Some.item c.in-Item-Some.is-0 inv.free;
+      len = omega (arith, c.push.ensures.len, inv.len);
+    }
 
-pub returns-in-Int-clause-next : goal.returns-in-Int-clause-next
-returns-in-Int-clause-next g c =
-    let coming = (g.E.Ends.view c.args.ends.now).coming c.args.edge in
-    subst (λ k. ComeNext k coming (flat_signals c.ints_block.result.items)) (sym c.in-Int.is)
-    (come_ints c.min-in-Int.result c.ints-ints.result.now _ coming _ refl c.ints-ints.ensures c.ints_block.ensures.said)
+pub returns-after-loop-at-clause-next : goal.returns-after-loop-at-clause-next
+returns-after-loop-at-clause-next g c =
+    come_items c.args.kind c.shown-items.result c.loop-at.at _ _ c.shown-items.ensures c.loop-at.invariant.said c.loop-at.invariant.may_come
 
-pub returns-in-Vec-clause-next : goal.returns-in-Vec-clause-next
-returns-in-Vec-clause-next g c = come_none c.args.kind ((g.E.Ends.view c.args.ends.now).coming c.args.edge) c.new.result.items c.new.ensures
+pub returns-in_default-clause-next : goal.returns-in_default-clause-next
+returns-in_default-clause-next g c =
+    come_items c.args.kind c.shown-items.result c.loop-at.at _ _ c.shown-items.ensures c.loop-at.invariant.said c.loop-at.invariant.may_come

@@ -1,7 +1,7 @@
 use Rattle.flow_messages.specs.declared.message.Kind.TheVariants.{Int as IntKind}
 use Rattle.flow_messages.proofs.Fitting.{kind_fits}
-use Rattle.flow_lanes.proofs.Meetings.{joins-seen}
-use Rattle.flow_lanes.specs.Rings.{ends_of}
+use Rattle.flow_edges.proofs.OfLanes.Meetings.{joins-seen}
+use Rattle.flow_edges.specs.lanes.Rings.{ends_of}
 use Rattle.flow_part_tests.proofs.crossings.crosses.Goals as goal
 
 pub put-requires-clause-fits : goal.put-requires-clause-fits

@@ -1,4 +1,4 @@
-use Rattle.flow_lanes.proofs.Meetings.{joins-kept}
+use Rattle.flow_edges.proofs.OfLanes.Meetings.{joins-kept}
 use Rattle.flow_part_tests.proofs.crossings.find_between.Goals as goal
 use Rattle.flow_part_tests.proofs.crossings.find_between.Goals.{then-crosses, else-crosses}
 

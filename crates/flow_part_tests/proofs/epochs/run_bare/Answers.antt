@@ -1,6 +1,6 @@
 use Rattle.std.proofs.Common.{◌≡◌, length, rules}
 use Rattle.std.specs.List.{All}
-use Rattle.flow_lanes.specs.Rings.{ends_of}
+use Rattle.flow_edges.specs.lanes.Rings.{ends_of}
 use Rattle.flow_part_tests.specs.NoEnds.{HasNoEnds}
 use Rattle.flow_part_tests.proofs.Bare.{no_owners, bare_graph}
 use Rattle.flow_part_tests.proofs.epochs.run_bare.Goals as goal

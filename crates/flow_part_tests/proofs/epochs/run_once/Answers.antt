@@ -1,4 +1,4 @@
-use Rattle.flow_lanes.proofs.Sends.{rings_send}
+use Rattle.flow_edges.proofs.OfLanes.Sends.{rings_send}
 use denote.Param.Send.{sendable}
 use Rattle.std.proofs.Crossing.{crosses}
 use Rattle.flow_part_tests.proofs.epochs.run_once.Goals as goal

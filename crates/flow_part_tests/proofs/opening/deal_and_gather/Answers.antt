@@ -4,7 +4,7 @@ use Rattle.flow_networks.specs.Skeletons.{nodes_of}
 use Rattle.flow_networks.specs.Places.{placed_state}
 use Rattle.flow_shares.specs.Deals.{AreDealt}
 use Rattle.flow_shares.proofs.Stays.{as_given}
-use Rattle.flow_meetings.specs.Deals.{nodes_in}
+use Rattle.flow_shares.specs.meetings.Deals.{nodes_in}
 use Rattle.flow_part_tests.proofs.opening.deal_and_gather.Goals as goal
 
 pub gather_graph-requires : goal.gather_graph-requires

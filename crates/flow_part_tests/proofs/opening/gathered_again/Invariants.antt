@@ -1,4 +1,4 @@
-use Rattle.flow_meetings.specs.SharedNetworks.{shared_network}
+use Rattle.flow_shares.specs.meetings.SharedNetworks.{shared_network}
 use Rattle.flow_part_tests.proofs.opening.gathered_again.Given as goal
 
 abbrev pub ghost-deal_and_gather : goal.ghost-deal_and_gather

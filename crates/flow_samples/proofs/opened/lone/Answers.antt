@@ -1,6 +1,6 @@
 use Rattle.std.proofs.Common.{get_or, refl, sym, ◌∙◌, subst, arith}
-use Rattle.flow_meetings.specs.declared.owners.EdgeOwners.{EdgeOwners}
-use Rattle.flow_meetings.proofs.More.{fresh_as}
+use Rattle.flow_shares.specs.declared.meetings.owners.EdgeOwners.{EdgeOwners}
+use Rattle.flow_shares.proofs.OfMeetings.More.{fresh_as}
 use Rattle.flow_samples.specs.Taking.{AllTake}
 use Rattle.flow_samples.proofs.Taking.{fresh_take}
 use Rattle.flow_samples.proofs.opened.lone.Goals as goal

@@ -1,8 +1,8 @@
 use Rattle.std.proofs.Common.{◌≡◌, pos, false, slice_index_or, slice_set, Ok, sym, ◌∙◌, ap, arith, rules}
 use borrow.Author.Count.{below_more}
 use Rattle.std.proofs.lemmas.List.{get_or-set_same, get_or-set_other}
-use Rattle.snesl_operators.specs.Operators.{binary_value}
-use Rattle.snesl_operators.specs.declared.scalar.Scalar.TheVariants.{Int, Bool as Truth}
+use Rattle.snesl_data.specs.operators.Operators.{binary_value}
+use Rattle.snesl_data.specs.declared.operators.scalar.Scalar.TheVariants.{Int, Bool as Truth}
 use Rattle.flow_scalar.proofs.binary.flags_by.Goals as goal
 
 -- one value more

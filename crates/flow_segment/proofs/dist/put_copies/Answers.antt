@@ -14,23 +14,23 @@ use Rattle.flow_segment.proofs.DistBlocks.{same_block, flags_same, ints_same}
 use Rattle.flow_messages.proofs.Fitting.{fits_takes}
 use Rattle.flow_segment.proofs.dist.put_copies.Goals as goal
 
-pub put_units-requires-clause-kind : goal.put_units-requires-clause-kind
-put_units-requires-clause-kind g c =
+pub put_all-requires-clause-kind : goal.put_all-requires-clause-kind
+put_all-requires-clause-kind g c =
     let edge = (g.E.Ends.view c.args.ends.now).kind c.args.to in
     fits_takes edge UnitKind unit refl (subst (λ i. FitsEdge edge (carry (cell_of i))) c.in-Unit.is c.requires.kind)
 
-pub put_flags-requires-clause-kind : goal.put_flags-requires-clause-kind
-put_flags-requires-clause-kind g c =
+pub put_all-requires-then-truth-clause-kind : goal.put_all-requires-then-truth-clause-kind
+put_all-requires-then-truth-clause-kind g c =
     let edge = (g.E.Ends.view c.args.ends.now).kind c.args.to in
     fits_takes edge BoolKind (flag c.in-Bool.truth) refl (subst (λ i. FitsEdge edge (carry (cell_of i))) c.in-Bool.is c.requires.kind)
 
-pub put_flags-requires-else-truth-clause-kind : goal.put_flags-requires-else-truth-clause-kind
-put_flags-requires-else-truth-clause-kind g c =
+pub put_all-requires-else-truth-clause-kind : goal.put_all-requires-else-truth-clause-kind
+put_all-requires-else-truth-clause-kind g c =
     let edge = (g.E.Ends.view c.args.ends.now).kind c.args.to in
     fits_takes edge BoolKind (flag c.in-Bool.truth) refl (subst (λ i. FitsEdge edge (carry (cell_of i))) c.in-Bool.is c.requires.kind)
 
-pub put_ints-requires-clause-kind : goal.put_ints-requires-clause-kind
-put_ints-requires-clause-kind g c =
+pub put_all-requires-in-Int-clause-kind : goal.put_all-requires-in-Int-clause-kind
+put_all-requires-in-Int-clause-kind g c =
     let edge = (g.E.Ends.view c.args.ends.now).kind c.args.to in
     fits_takes edge IntKind (int c.in-Int.value) refl (subst (λ i. FitsEdge edge (carry (cell_of i))) c.in-Int.is c.requires.kind)
 
@@ -40,7 +40,7 @@ returns-then-truth-clause-put g c =
     let says : flag_signals (take n (replicate 64 true)) ≡ replicate n (carry (cell_of c.args.item.now)) =
     ap flag_signals (take-replicate n 64 true c.requires.block) ∙ flags_same n true ∙ ap (λ b. replicate n (carry (flag b))) (sym c.if-truth.true)
     ∙ ap (λ i. replicate n (carry (cell_of i))) (sym c.in-Bool.is) in
-    subst (λ ms. PutAll (g.E.Ends.view c.args.ends.now) c.args.to ms (g.E.Ends.view c.put_flags.new.self)) says c.put_flags.ensures.put
+    subst (λ ms. PutAll (g.E.Ends.view c.args.ends.now) c.args.to ms (g.E.Ends.view c.put_all-then-truth.new.self)) says c.put_all-then-truth.ensures.put
 
 pub returns-else-truth-clause-put : goal.returns-else-truth-clause-put
 returns-else-truth-clause-put g c =
@@ -48,7 +48,7 @@ returns-else-truth-clause-put g c =
     let says : flag_signals (take n (replicate 64 false)) ≡ replicate n (carry (cell_of c.args.item.now)) =
     ap flag_signals (take-replicate n 64 false c.requires.block) ∙ flags_same n false
     ∙ ap (λ b. replicate n (carry (flag b))) (sym c.if-truth.false) ∙ ap (λ i. replicate n (carry (cell_of i))) (sym c.in-Bool.is) in
-    subst (λ ms. PutAll (g.E.Ends.view c.args.ends.now) c.args.to ms (g.E.Ends.view c.put_flags-else-truth.new.self)) says c.put_flags-else-truth.ensures.put
+    subst (λ ms. PutAll (g.E.Ends.view c.args.ends.now) c.args.to ms (g.E.Ends.view c.put_all-else-truth.new.self)) says c.put_all-else-truth.ensures.put
 
 pub returns-in-Ok-clause-put : goal.returns-in-Ok-clause-put
 returns-in-Ok-clause-put g c =
@@ -64,4 +64,4 @@ returns-in-Ok-clause-put g c =
     let filled : (k : ℕ) → k < n → get_or xs k (pos 0) ≡ v = λ k h. c.fill.ensures.filled k (omega arith) ∙ back in
     let same : xs ≡ replicate n v = sym (take_all n xs (omega arith)) ∙ same_block v (pos 0) n xs (omega arith) filled in
     let says : int_signals xs ≡ replicate n (carry (cell_of c.args.item.now)) = ap int_signals same ∙ ints_same n v ∙ ap (λ i. replicate n (carry (cell_of i))) (sym c.in-Int.is) in
-    subst (λ ms. PutAll (g.E.Ends.view c.args.ends.now) c.args.to ms (g.E.Ends.view c.put_ints.new.self)) says c.put_ints.ensures.put
+    subst (λ ms. PutAll (g.E.Ends.view c.args.ends.now) c.args.to ms (g.E.Ends.view c.put_all-in-Int.new.self)) says c.put_all-in-Int.ensures.put

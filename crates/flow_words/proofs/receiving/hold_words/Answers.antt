@@ -7,7 +7,7 @@ use Rattle.flow_words.proofs.receiving.hold_words.Goals as goal
 pub returns-in-None-clause-come : goal.returns-in-None-clause-come
 returns-in-None-clause-come c =
     let plain : ArePlain c.args.words.now = c.if-are_plain.ensures (search rules) in
-    rw c.in-None.is (come_as _ _ _ _ (sym (plain_said c.args.words.now plain)) c.push_ints.ensures)
+    rw c.in-None.is (come_as _ _ _ _ (sym (plain_said c.args.words.now plain)) c.push_all.ensures)
 
 pub returns-in-None-clause-group : goal.returns-in-None-clause-group
 returns-in-None-clause-group c =

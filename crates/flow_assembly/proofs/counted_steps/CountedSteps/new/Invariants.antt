@@ -1,6 +1,6 @@
 use Rattle.std.proofs.Common.{◌≡◌, ℕ, ◌+◌, drop, get_or}
-use Rattle.flow_plans.specs.Layouts.{uses}
-use Rattle.flow_plans.specs.Views.{steps_of}
+use Rattle.flow_nodes.specs.plans.Layouts.{uses}
+use Rattle.flow_nodes.specs.plans.Views.{steps_of}
 use Rattle.flow_assembly.proofs.counted_steps.CountedSteps.new.Given as goal
 
 abbrev pub invariant-loop-step : goal.invariant-loop-step

@@ -2,9 +2,9 @@ use Rattle.std.proofs.Common.{◌≡◌, ◌+◌, ◌∙◌, refl, inr, sym, ap,
 use Rattle.std.proofs.lemmas.List.{length_push, length-append}
 use Rattle.flow_networks.specs.Graphs.{states_so_far, edges_so_far}
 use Rattle.flow_nodes.specs.StreamNodes.{state_of}
-use Rattle.flow_plans.specs.Layouts.{all_after}
-use Rattle.flow_plans.specs.Ports.{kinds_written}
-use Rattle.flow_plans.specs.Views.{operation_of, step_of}
+use Rattle.flow_nodes.specs.plans.Layouts.{all_after}
+use Rattle.flow_nodes.specs.plans.Ports.{kinds_written}
+use Rattle.flow_nodes.specs.plans.Views.{operation_of, step_of}
 use Rattle.snesl_data.specs.declared.refusal.Refusal.TheVariants.{TooBig, NoMemory}
 use Rattle.flow_assembly.specs.Ready.{plan_of, ports_of}
 use Rattle.flow_assembly.proofs.Counting.{step_now}

@@ -2,9 +2,9 @@ use Rattle.std.proofs.Common.{◌≡◌, ◌+◌, ◌∷◌, [], length, refl, s
 use Rattle.std.proofs.lemmas.List.{length_push}
 use Rattle.flow_networks.specs.Graphs.{states_so_far, edges_so_far}
 use Rattle.flow_nodes.specs.StreamNodes.{node_behaviour, state_of}
-use Rattle.flow_plans.specs.Plans.{fork, sink}
-use Rattle.flow_plans.specs.Ports.{kinds_after}
-use Rattle.flow_plans.specs.Layouts.{layout, uses, places_after}
+use Rattle.flow_nodes.specs.plans.Plans.{fork, sink}
+use Rattle.flow_nodes.specs.plans.Ports.{kinds_after}
+use Rattle.flow_nodes.specs.plans.Layouts.{layout, uses, places_after}
 use Rattle.flow_assembly.specs.Ready.{plan_of}
 use Rattle.flow_assembly.proofs.Putting.{left_to_come, one_after, put_may, none_put, sink_put, fork_put, put_same, plan_fits, sink_next, fork_next, sink_big, fork_big}
 use Rattle.flow_assembly.proofs.Fitting.{passed_on}

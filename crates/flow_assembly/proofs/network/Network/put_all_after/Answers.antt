@@ -1,7 +1,7 @@
 use Rattle.std.proofs.Common.{◌≡◌, ◌+◌, ◌∙◌, sym, ap, subst, arith, drop, length, get_or, refl}
 use Rattle.flow_messages.specs.declared.message.Kind.TheVariants.{Unit as UnitKind}
 use Rattle.snesl_data.specs.declared.refusal.Refusal.TheVariants.{TooBig}
-use Rattle.flow_plans.specs.Layouts.{uses, all_after}
+use Rattle.flow_nodes.specs.plans.Layouts.{uses, all_after}
 use Rattle.flow_networks.specs.Graphs.{states_so_far, edges_so_far}
 use Rattle.flow_assembly.specs.Ready.{plan_of, AreNextInLayout, IsPutTo}
 use Rattle.flow_assembly.proofs.Fitting.{passed_on}

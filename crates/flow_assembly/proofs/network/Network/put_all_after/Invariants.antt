@@ -1,6 +1,6 @@
 use Rattle.std.proofs.Common.{◌≡◌, ◌+◌, drop, length}
 use Rattle.flow_networks.specs.Graphs.{states_so_far, edges_so_far}
-use Rattle.flow_plans.specs.Layouts.{all_after}
+use Rattle.flow_nodes.specs.plans.Layouts.{all_after}
 use Rattle.flow_assembly.specs.Ready.{plan_of, AreNextInLayout, IsPutTo}
 use Rattle.flow_assembly.proofs.network.Network.put_all_after.Given as goal
 

@@ -2,8 +2,8 @@ use Rattle.std.proofs.Common.{◌+◌, ◌<◌, ◌∙◌, subst, ap, arith, dro
 use Rattle.std.proofs.lemmas.Option.{slice_get-get_or}
 use Rattle.snesl_data.specs.declared.refusal.Refusal.TheVariants.{TooBig}
 use Rattle.flow_networks.specs.Graphs.{states_so_far, edges_so_far}
-use Rattle.flow_plans.specs.Layouts.{uses}
-use Rattle.flow_plans.specs.Ports.{kinds_after}
+use Rattle.flow_nodes.specs.plans.Layouts.{uses}
+use Rattle.flow_nodes.specs.plans.Ports.{kinds_after}
 use Rattle.flow_assembly.specs.Ready.{plan_of, KeepsLimits}
 use Rattle.std.proofs.lemmas.List.{length-set}
 use Rattle.flow_assembly.specs.Joined.{supplier, port_after}

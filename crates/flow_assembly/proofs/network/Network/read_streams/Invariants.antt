@@ -1,6 +1,6 @@
 use Rattle.std.proofs.Common.{◌≡◌, ◌+◌, drop, length}
 use Rattle.flow_networks.specs.Graphs.{states_so_far, edges_so_far}
-use Rattle.flow_plans.specs.Layouts.{times, uses, layout}
+use Rattle.flow_nodes.specs.plans.Layouts.{times, uses, layout}
 use Rattle.flow_assembly.specs.Joined.{IsJoinedTo}
 use Rattle.flow_assembly.specs.Ready.{plan_of, KeepsLimits}
 use Rattle.flow_assembly.proofs.network.Network.read_streams.Given as goal

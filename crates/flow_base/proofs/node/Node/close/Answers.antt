@@ -2,10 +2,9 @@ use Rattle.std.proofs.Common.{◌||◌, refl, ◌∙◌, ap, subst}
 use Rattle.std.proofs.Math.Bool.{or-false}
 use Rattle.std.proofs.lemmas.Bool.{or_right}
 use Rattle.flow_base.specs.Members.{node_of}
-use Rattle.flow_base.specs.Visits.{Visited}
 use Rattle.flow_base.specs.NodeLaws.{behaviour_laws}
-use Rattle.flow_base.proofs.Carried.{same_ends_then}
-use Rattle.flow_base.proofs.Visits.{Made, made_none, made_visit, visited_on, broke_on, no_ok, on_err}
+use Rattle.flow_base.proofs.Visits.{Made, made_none, made_visit}
+use Rattle.flow_base.proofs.Walks.{then_broke, then_visited}
 use Rattle.flow_base.proofs.node.Node.close.Goals as goal
 
 pub loop-init : goal.loop-init
@@ -19,14 +18,9 @@ loop-init g c =
 
 pub returns-in_err-step : goal.returns-in_err-step
 returns-in_err-step g c =
-    let view = g.E.Ends.view in
-    let node = node_of g.W.Worker.state g.W.Worker.machine in
-    record {
-      same = g.met.E.Ends.same_trans c.args.ends.now c.loop.ends c.step.new.ends c.loop.invariant.same c.step.ensures.same;
-      ends = same_ends_then (view c.args.ends.now) (view c.loop.ends) (view c.step.new.ends) c.loop.invariant.made.ends c.step.ensures.ends;
-      visited = no_ok _ c.from_residual.result c.from_residual.ensures.0;
-      broke = on_err c.from_residual.result (broke_on (behaviour_laws _ g.met.W.Worker.laws) c.requires.placed c.loop.invariant.made c.in_err-step.ensures.broke);
-    }
+    let inv = c.loop.invariant in
+    then_broke g.E.Ends g.met.E.Ends.same_trans (behaviour_laws _ g.met.W.Worker.laws) c.args.ends.now c.loop.ends c.step.new.ends c.requires.placed inv.same inv.made
+    c.step.ensures.same c.step.ensures.ends c.from_residual.result c.from_residual.ensures.0 c.in_err-step.ensures.broke
 
 pub loop-preserved : goal.loop-preserved
 loop-preserved g c =
@@ -34,7 +28,8 @@ loop-preserved g c =
     let view = g.E.Ends.view in
     record {
       same = g.met.E.Ends.same_trans c.args.ends.now c.loop.ends c.step.new.ends c.loop.invariant.same c.step.ensures.same;
-      made = subst (Made node.behaviour c.args.inputs.now c.args.outputs.now (node.state c.args.self.now) (view c.args.ends.now) (node.state c.step.new.self) (view c.step.new.ends))
+      made = subst (Made node.behaviour c.args.edges.now.inputs.now c.args.edges.now.outputs.now (node.state c.args.self.now) (view c.args.ends.now)
+          (node.state c.step.new.self) (view c.step.new.ends))
           (or_right c.loop.moved c.in_ok-step.field-0 c.if-not-branch.false)
           (made_visit (behaviour_laws _ g.met.W.Worker.laws) c.requires.placed c.loop.invariant.made c.step.ensures.ends c.in_ok-step.ensures.visited);
       first = λ h. cc;
@@ -42,13 +37,6 @@ loop-preserved g c =
 
 pub returns-then-not-branch : goal.returns-then-not-branch
 returns-then-not-branch g c =
-    let node = node_of g.W.Worker.state g.W.Worker.machine in
-    let view = g.E.Ends.view in
-    record {
-      same = g.met.E.Ends.same_trans c.args.ends.now c.loop.ends c.step.new.ends c.loop.invariant.same c.step.ensures.same;
-      ends = same_ends_then (view c.args.ends.now) (view c.loop.ends) (view c.step.new.ends) c.loop.invariant.made.ends c.step.ensures.ends;
-      visited = subst (Visited c.args.inputs.now c.args.outputs.now node.behaviour (node.state c.args.self.now) (view c.args.ends.now) (node.state c.step.new.self) (view c.step.new.ends))
-          (ap (λ any. c.loop.moved || any) c.if-not-branch.true ∙ or-false c.loop.moved)
-          (visited_on (behaviour_laws _ g.met.W.Worker.laws) c.requires.placed c.loop.invariant.made c.step.ensures.ends c.in_ok-step.ensures.visited);
-      broke = tt;
-    }
+    let inv = c.loop.invariant in
+    then_visited g.E.Ends g.met.E.Ends.same_trans (behaviour_laws _ g.met.W.Worker.laws) c.args.ends.now c.loop.ends c.step.new.ends c.requires.placed inv.same inv.made
+    c.step.ensures.same c.step.ensures.ends c.loop.moved (ap (λ any. c.loop.moved || any) c.if-not-branch.true ∙ or-false c.loop.moved) c.in_ok-step.ensures.visited

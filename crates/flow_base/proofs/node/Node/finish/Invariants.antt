@@ -7,5 +7,5 @@ use Rattle.flow_base.proofs.node.Node.finish.Given as goal
 abbrev pub invariant-loop-made : goal.invariant-loop-made
 invariant-loop-made g l = let node = node_of g.W.Worker.state g.W.Worker.machine in record {
   same : g.E.Ends.same l.fn.ends l.ends;
-  made : Made node.behaviour l.fn.inputs l.fn.outputs (node.state l.fn.self) (g.E.Ends.view l.fn.ends) (node.state l.self) (g.E.Ends.view l.ends) (nat_lt 0 l.made);
+  made : Made node.behaviour l.fn.edges.inputs.now l.fn.edges.outputs.now (node.state l.fn.self) (g.E.Ends.view l.fn.ends) (node.state l.self) (g.E.Ends.view l.ends) (nat_lt 0 l.made);
 }

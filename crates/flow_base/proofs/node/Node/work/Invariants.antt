@@ -9,5 +9,5 @@ abbrev pub invariant-loop-made : goal.invariant-loop-made
 invariant-loop-made g l = let node = node_of g.W.Worker.state g.W.Worker.machine in record {
   same : g.E.Ends.same l.fn.ends l.ends;
   works : l.self.phase ≡ Working;
-  made : Made node.behaviour l.fn.inputs l.fn.outputs (node.state l.fn.self) (g.E.Ends.view l.fn.ends) (node.state l.self) (g.E.Ends.view l.ends) (nat_lt 0 l.made);
+  made : Made node.behaviour l.fn.edges.inputs.now l.fn.edges.outputs.now (node.state l.fn.self) (g.E.Ends.view l.fn.ends) (node.state l.self) (g.E.Ends.view l.ends) (nat_lt 0 l.made);
 }

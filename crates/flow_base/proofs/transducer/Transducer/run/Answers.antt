@@ -2,10 +2,9 @@ use Rattle.std.proofs.Common.{◌≡◌, true, refl, sym, ◌∙◌, ap, subst, 
 use Rattle.kahn.specs.declared.want.Want.TheVariants.{Read, Write}
 use Rattle.flow_messages.specs.Signals.{signal_of}
 use Rattle.flow_messages.specs.Kinds.{FitsEdge}
-use Rattle.flow_base.specs.Visits.{edge_of, IsStuck}
-use Rattle.flow_base.proofs.Carried.{same_ends_then}
-use Rattle.flow_base.proofs.Visits.{Made, made_none, input_there, output_there, put_fits, reads_at, made_read, made_wrote, made_looked, made_room}
-use Rattle.flow_base.proofs.Visits.{visited, broke_off, broke_reading, starves_err, no_room, on_err}
+use Rattle.flow_base.specs.Visits.{edge_of}
+use Rattle.flow_base.proofs.Visits.{Made, made_none, input_there, output_there, put_fits, reads_at, made_read, made_wrote, starves_err}
+use Rattle.flow_base.proofs.Visiting.{found_nothing, found_no_room, refused_read, refused_write}
 use Rattle.flow_base.proofs.transducer.Transducer.run.Goals.{in-Read+else-prove+in-Some+in_ok-give-in-Read, in-Write+else-prove-2+else-not-room+in_ok-message-in-Write}
 use Rattle.flow_base.proofs.transducer.Transducer.run.Goals as goal
 
@@ -18,105 +17,61 @@ loop-init g c = record {
 
 pub prove-unreachable-requires : goal.prove-unreachable-requires
 prove-unreachable-requires g c =
-    let b = g.Self.Transducer.behaviour in
-    let laws = g.met.Self.Transducer.laws in
-    let state = g.Self.Transducer.state in
-    let t = state c.loop.self in
-    let placed = c.requires.placed in
-    let made = c.loop.invariant.made in
-    let wants : b.process.want t ≡ Read c.in-Read.port = sym c.want.ensures ∙ c.in-Read.is in
-    omega (arith, c.if-prove.true, input_there laws placed made c.in-Read.port wants)
+    omega (arith, c.if-prove.true, input_there g.met.Self.Transducer.laws c.requires.placed c.loop.invariant.made c.in-Read.port (sym c.want.ensures ∙ c.in-Read.is))
 
 pub take-requires : goal.take-requires
-take-requires g c =
-    let laws = g.met.Self.Transducer.laws in
-    let placed = c.requires.placed in
-    let made = c.loop.invariant.made in
-    reads_at laws placed made c.in-Read.port c.if-prove.false
+take-requires g c = reads_at g.met.Self.Transducer.laws c.requires.placed c.loop.invariant.made c.in-Read.port c.if-prove.false
 
 pub prove-unreachable-requires-in-Write : goal.prove-unreachable-requires-in-Write
 prove-unreachable-requires-in-Write g c =
-    let b = g.Self.Transducer.behaviour in
-    let laws = g.met.Self.Transducer.laws in
-    let state = g.Self.Transducer.state in
-    let t = state c.loop.self in
-    let placed = c.requires.placed in
-    let made = c.loop.invariant.made in
-    let wants : b.process.want t ≡ Write c.in-Write.port = sym c.want.ensures ∙ c.in-Write.is in
-    omega (arith, c.if-prove-2.true, output_there laws placed made c.in-Write.port wants)
-
-pub returns-in_err-give-in-Read-clause-broke : goal.returns-in_err-give-in-Read-clause-broke
-returns-in_err-give-in-Read-clause-broke g c =
-    let b = g.Self.Transducer.behaviour in
-    let laws = g.met.Self.Transducer.laws in
-    let state = g.Self.Transducer.state in
-    let view = g.E.Ends.view in
-    let t = state c.loop.self in
-    let placed = c.requires.placed in
-    let made = c.loop.invariant.made in
-    let starves : b.takes_memory t ≡ true = starves_err (b.takes_memory t) c.give.result c.in_err-give-in-Read.field-0.0 c.in_err-give-in-Read.was c.give.ensures.sure in
-    on_err c.from_residual.result
-    (broke_reading laws placed made c.in-Read.port (signal_of c.in-Some.message) (state c.give.new.self) (view c.take.new.self)
-    (sym c.want.ensures ∙ c.in-Read.is) c.in-Some.ensures.some c.in_err-give-in-Read.ensures.err starves)
+    omega (arith, c.if-prove-2.true, output_there g.met.Self.Transducer.laws c.requires.placed c.loop.invariant.made c.in-Write.port (sym c.want.ensures ∙ c.in-Write.is))
 
 pub put_in_space-requires-clause-fits : goal.put_in_space-requires-clause-fits
 put_in_space-requires-clause-fits g c =
-    let b = g.Self.Transducer.behaviour in
-    let laws = g.met.Self.Transducer.laws in
-    let t = g.Self.Transducer.state c.loop.self in
-    let placed = c.requires.placed in
     let u = g.E.Ends.view c.room.new.self in
-    let wants : b.process.want t ≡ Write c.in-Write.port = sym c.want.ensures ∙ c.in-Write.is in
     subst (FitsEdge (u.kind (edge_of c.args.outputs.now c.in-Write.port))) (sym c.in_ok-message-in-Write.ensures.ok.0)
-    (put_fits laws placed c.loop.invariant.made c.in-Write.port u c.room.ensures.looked.ends wants)
+    (put_fits g.met.Self.Transducer.laws c.requires.placed c.loop.invariant.made c.in-Write.port u c.room.ensures.looked.ends (sym c.want.ensures ∙ c.in-Write.is))
 
-pub returns-in_err-message-in-Write-clause-broke : goal.returns-in_err-message-in-Write-clause-broke
-returns-in_err-message-in-Write-clause-broke g c =
+pub returns-in_err-give-in-Read : goal.returns-in_err-give-in-Read
+returns-in_err-give-in-Read g c =
     let b = g.Self.Transducer.behaviour in
-    let laws = g.met.Self.Transducer.laws in
     let state = g.Self.Transducer.state in
-    let view = g.E.Ends.view in
-    let t = state c.loop.self in
-    let placed = c.requires.placed in
-    let made = c.loop.invariant.made in
-    let wants : b.process.want t ≡ Write c.in-Write.port = sym c.want.ensures ∙ c.in-Write.is in
-    let u = view c.room.new.self in
-    let starves : b.takes_memory t ≡ true = starves_err (b.takes_memory t) c.emit.result c.in_err-message-in-Write.field-0.0 c.in_err-message-in-Write.was c.emit.ensures.sure in
-    let looked = made_room laws placed made c.in-Write.port u wants c.room.ensures.looked in
-    on_err c.from_residual-in_err-message-in-Write.result (broke_off laws placed looked (state c.emit.new.self) c.in_err-message-in-Write.ensures.err starves)
+    let inv = c.loop.invariant in
+    let refused = c.in_err-give-in-Read in
+    let starves = starves_err (b.takes_memory (state c.loop.self)) c.give.result refused.field-0.0 refused.was c.give.ensures.sure in
+    let same = g.met.E.Ends.same_trans c.args.ends.now c.loop.ends c.take.new.self inv.same c.take.ensures.same in
+    let it = refused_read g.E.Ends g.met.Self.Transducer.laws c.args.ends.now c.requires.placed inv.made c.take.new.self same (state c.give.new.self) refused.ensures.err starves
+    c.from_residual.result c.from_residual.ensures.0 c.in-Read.port (signal_of c.in-Some.message) (sym c.want.ensures ∙ c.in-Read.is) c.in-Some.ensures.some in
+    record { same = it.same; ends = it.ends; visited = it.visited; broke = it.broke }
 
-pub returns-in_default-clause-visited : goal.returns-in_default-clause-visited
-returns-in_default-clause-visited g c =
+pub returns-in_err-message-in-Write : goal.returns-in_err-message-in-Write
+returns-in_err-message-in-Write g c =
     let b = g.Self.Transducer.behaviour in
-    let laws = g.met.Self.Transducer.laws in
-    let ins = c.args.inputs.now in
-    let outs = c.args.outputs.now in
     let state = g.Self.Transducer.state in
-    let view = g.E.Ends.view in
-    let t = state c.loop.self in
-    let placed = c.requires.placed in
-    let made = c.loop.invariant.made in
-    let wants : b.process.want t ≡ Read c.in-Read.port = sym c.want.ensures ∙ c.in-Read.is in
-    let u = view c.take.new.self in
-    let looked = made_looked laws placed made c.in-Read.port u wants c.in_default.ensures.none.0 in
-    visited laws placed looked (λ h. subst (IsStuck ins outs u) (sym wants) c.in_default.ensures.none.1)
+    let inv = c.loop.invariant in
+    let refused = c.in_err-message-in-Write in
+    let answer = c.from_residual-in_err-message-in-Write in
+    let starves = starves_err (b.takes_memory (state c.loop.self)) c.emit.result refused.field-0.0 refused.was c.emit.ensures.sure in
+    let same = g.met.E.Ends.same_trans c.args.ends.now c.loop.ends c.room.new.self inv.same c.room.ensures.same in
+    let it = refused_write g.E.Ends g.met.Self.Transducer.laws c.args.ends.now c.requires.placed inv.made c.room.new.self same (state c.emit.new.self) refused.ensures.err starves
+    answer.result answer.ensures.0 c.in-Write.port (sym c.want.ensures ∙ c.in-Write.is) c.room.ensures.looked in
+    record { same = it.same; ends = it.ends; visited = it.visited; broke = it.broke }
 
-pub returns-then-not-room-clause-visited : goal.returns-then-not-room-clause-visited
-returns-then-not-room-clause-visited g c =
-    let b = g.Self.Transducer.behaviour in
-    let laws = g.met.Self.Transducer.laws in
-    let ins = c.args.inputs.now in
-    let outs = c.args.outputs.now in
-    let state = g.Self.Transducer.state in
-    let view = g.E.Ends.view in
-    let t = state c.loop.self in
-    let placed = c.requires.placed in
-    let made = c.loop.invariant.made in
-    let wants : b.process.want t ≡ Write c.in-Write.port = sym c.want.ensures ∙ c.in-Write.is in
-    let u = view c.room.new.self in
-    let full : u.room (edge_of outs c.in-Write.port) ≡ 0 = no_room c.room.result (u.room (edge_of outs c.in-Write.port)) c.room.ensures.value c.if-not-room.true in
-    let looked = made_room laws placed made c.in-Write.port u wants c.room.ensures.looked in
-    visited laws placed looked (λ h. subst (IsStuck ins outs u) (sym wants) full)
+pub returns-in_default : goal.returns-in_default
+returns-in_default g c =
+    let inv = c.loop.invariant in
+    let same = g.met.E.Ends.same_trans c.args.ends.now c.loop.ends c.take.new.self inv.same c.take.ensures.same in
+    let it = found_nothing g.E.Ends g.met.Self.Transducer.laws c.args.ends.now c.requires.placed inv.made c.take.new.self same c.in-Read.port (sym c.want.ensures ∙ c.in-Read.is)
+    c.in_default.ensures.none in
+    record { same = it.same; ends = it.ends; visited = it.visited; broke = it.broke }
+
+pub returns-then-not-room : goal.returns-then-not-room
+returns-then-not-room g c =
+    let inv = c.loop.invariant in
+    let same = g.met.E.Ends.same_trans c.args.ends.now c.loop.ends c.room.new.self inv.same c.room.ensures.same in
+    let it = found_no_room g.E.Ends g.met.Self.Transducer.laws c.args.ends.now c.requires.placed inv.made c.room.new.self same c.in-Write.port c.room.result (sym c.want.ensures ∙ c.in-Write.is)
+    c.room.ensures.looked c.room.ensures.value c.if-not-room.true in
+    record { same = it.same; ends = it.ends; visited = it.visited; broke = it.broke }
 
 pub loop-preserved : goal.loop-preserved
 loop-preserved g c =
@@ -155,34 +110,6 @@ loop-preserved g c =
             first = λ h. cc;
           })
     ]
-
-pub returns-in_default-clause-same : goal.returns-in_default-clause-same
-returns-in_default-clause-same g c = g.met.E.Ends.same_trans c.args.ends.now c.loop.ends c.take.new.self c.loop.invariant.same c.take.ensures.same
-
-pub returns-in_default-clause-ends : goal.returns-in_default-clause-ends
-returns-in_default-clause-ends g c = let view = g.E.Ends.view in
-    same_ends_then (view c.args.ends.now) (view c.loop.ends) (view c.take.new.self) c.loop.invariant.made.ends c.in_default.ensures.none.0.ends
-
-pub returns-in_err-give-in-Read-clause-same : goal.returns-in_err-give-in-Read-clause-same
-returns-in_err-give-in-Read-clause-same g c = g.met.E.Ends.same_trans c.args.ends.now c.loop.ends c.take.new.self c.loop.invariant.same c.take.ensures.same
-
-pub returns-in_err-give-in-Read-clause-ends : goal.returns-in_err-give-in-Read-clause-ends
-returns-in_err-give-in-Read-clause-ends g c = let view = g.E.Ends.view in
-    same_ends_then (view c.args.ends.now) (view c.loop.ends) (view c.take.new.self) c.loop.invariant.made.ends c.in-Some.ensures.some.ends
-
-pub returns-then-not-room-clause-same : goal.returns-then-not-room-clause-same
-returns-then-not-room-clause-same g c = g.met.E.Ends.same_trans c.args.ends.now c.loop.ends c.room.new.self c.loop.invariant.same c.room.ensures.same
-
-pub returns-then-not-room-clause-ends : goal.returns-then-not-room-clause-ends
-returns-then-not-room-clause-ends g c = let view = g.E.Ends.view in
-    same_ends_then (view c.args.ends.now) (view c.loop.ends) (view c.room.new.self) c.loop.invariant.made.ends c.room.ensures.looked.ends
-
-pub returns-in_err-message-in-Write-clause-same : goal.returns-in_err-message-in-Write-clause-same
-returns-in_err-message-in-Write-clause-same g c = g.met.E.Ends.same_trans c.args.ends.now c.loop.ends c.room.new.self c.loop.invariant.same c.room.ensures.same
-
-pub returns-in_err-message-in-Write-clause-ends : goal.returns-in_err-message-in-Write-clause-ends
-returns-in_err-message-in-Write-clause-ends g c = let view = g.E.Ends.view in
-    same_ends_then (view c.args.ends.now) (view c.loop.ends) (view c.room.new.self) c.loop.invariant.made.ends c.room.ensures.looked.ends
 
 pub returns-in-Ended-clause-same : goal.returns-in-Ended-clause-same
 returns-in-Ended-clause-same g c = c.loop.invariant.same

@@ -1,7 +1,7 @@
 use Rattle.std.proofs.Common.{ap}
 use Rattle.flow_networks.specs.Graphs.{edges_of}
 use Rattle.flow_boxes.specs.Contents.{view_of}
-use Rattle.flow_meetings.specs.BoxMeetings.{BoxesJoin, boxes_join_ends}
+use Rattle.flow_shares.specs.meetings.BoxMeetings.{BoxesJoin, boxes_join_ends}
 use Rattle.flow_drives.specs.Edges.{traffic_in}
 use Rattle.flow_drives.proofs.Holding.{ends_there, sent_counted, received_counted}
 use Rattle.flow_drives.proofs.parts.Gathered.counts.Goals as goal

@@ -1,6 +1,6 @@
 use Rattle.std.proofs.Common.{◌<◌, length, subst, sym, ◌∙◌, ap}
 use Rattle.flow_networks.specs.Networks.{state_at}
-use Rattle.flow_meetings.specs.Deals.{nodes_in}
+use Rattle.flow_shares.specs.meetings.Deals.{nodes_in}
 use Rattle.flow_drives.specs.Parts.{states_at}
 use Rattle.flow_drives.proofs.Apart.{count_apart}
 use Rattle.flow_drives.proofs.rested.Rested.node.Goals as goal

@@ -1,5 +1,5 @@
 use Rattle.std.proofs.Common.{length, sym, ◌∙◌, ap}
-use Rattle.flow_meetings.specs.Deals.{nodes_in}
+use Rattle.flow_shares.specs.meetings.Deals.{nodes_in}
 use Rattle.flow_drives.specs.Parts.{states_at}
 use Rattle.flow_drives.proofs.Apart.{count_apart}
 use Rattle.flow_drives.proofs.rested.Rested.nodes.Goals as goal

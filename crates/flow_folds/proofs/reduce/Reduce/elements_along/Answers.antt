@@ -1,7 +1,7 @@
 use Rattle.std.proofs.Common.{◌≡◌, ◌≤◌, take, Ok, sym, ◌∙◌, ap, arith}
 use Rattle.std.proofs.lemmas.List.{take-take, length-take}
 use Rattle.snesl_data.specs.declared.dialect.Dialect.{Dialect}
-use Rattle.snesl_operators.specs.declared.operator.Reduction.{Reduction}
+use Rattle.snesl_data.specs.declared.operators.operator.Reduction.{Reduction}
 use Rattle.flow_folds.specs.ReduceBlocks.{reduction_of_ints}
 use Rattle.flow_folds.proofs.ReduceBlocks.{reduces_none, first_reduced}
 use Rattle.flow_folds.proofs.reduce.Reduce.elements_along.Goals as goal

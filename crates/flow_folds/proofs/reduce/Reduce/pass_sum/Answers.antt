@@ -1,7 +1,7 @@
 use Rattle.std.proofs.Common.{true, false, Some, sym, ◌∙◌, ap, arith, rules}
 use Rattle.std.specs.Int.{w64}
 use mir.Val.{SFits}
-use Rattle.snesl_operators.specs.declared.scalar.Scalar.TheVariants.{Int}
+use Rattle.snesl_data.specs.declared.operators.scalar.Scalar.TheVariants.{Int}
 use Rattle.flow_messages.proofs.Widened.{widened}
 use Rattle.flow_folds.specs.declared.reduce.Stage.TheVariants.{Flag}
 use Rattle.flow_folds.proofs.ReduceBlocks.{last_flag}

@@ -3,7 +3,7 @@ use Rattle.std.specs.Int.{w64}
 use Rattle.std.proofs.lemmas.Int.{to_z-of_z}
 use mir.Val.{SFits}
 use Rattle.snesl_data.specs.declared.dialect.Dialect.{Dialect}
-use Rattle.snesl_operators.specs.declared.operator.Reduction.{Reduction}
+use Rattle.snesl_data.specs.declared.operators.operator.Reduction.{Reduction}
 use Rattle.flow_folds.specs.ReduceBlocks.{Reduces}
 use Rattle.flow_folds.specs.declared.reduce.Stage.TheVariants.{Start}
 use Rattle.flow_folds.proofs.ReduceBlocks.{reduces_none, rest_of, length_rest, some_flag, elements_more, end_more}

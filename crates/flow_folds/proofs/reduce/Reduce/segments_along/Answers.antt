@@ -1,7 +1,7 @@
 use Rattle.std.proofs.Common.{◌≡◌, take, Some, sym, ◌∙◌, ap, subst, rules, to_z, of_z}
 use Rattle.std.specs.Int.{w64}
-use Rattle.snesl_operators.specs.declared.operator.Reduction.TheVariants.{Sum}
-use Rattle.snesl_operators.specs.declared.scalar.Scalar.TheVariants.{Int}
+use Rattle.snesl_data.specs.declared.operators.operator.Reduction.TheVariants.{Sum}
+use Rattle.snesl_data.specs.declared.operators.scalar.Scalar.TheVariants.{Int}
 use Rattle.flow_folds.specs.ReduceMachine.{reduced_kind}
 use Rattle.flow_folds.specs.ReduceBlocks.{stage_of_sum, AwaitsFlag, Reduces}
 use Rattle.flow_folds.proofs.reduce.Reduce.segments_along.Goals as goal

@@ -2,7 +2,7 @@ use Rattle.std.proofs.Common.{◌≡◌, ◌*◌, ◌≤◌, length, take, refl,
 use Rattle.std.proofs.lemmas.Bool.{cases_lt}
 use Rattle.std.proofs.lemmas.List.{length-take-le, take-take}
 use Rattle.snesl_data.specs.declared.dialect.Dialect.{Dialect}
-use Rattle.snesl_operators.specs.declared.operator.Reduction.{Reduction}
+use Rattle.snesl_data.specs.declared.operators.operator.Reduction.{Reduction}
 use Rattle.flow_messages.specs.Blocks.{flag_signals, int_signals}
 use Rattle.flow_base.specs.Along.{MovesAlong, written_signals}
 use Rattle.flow_base.specs.declared.slices.Moved.{Moved}

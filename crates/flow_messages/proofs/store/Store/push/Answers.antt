@@ -8,25 +8,20 @@ use Rattle.flow_messages.specs.declared.message.Msg.TheVariants.{Item as ItemMsg
 use Rattle.flow_messages.specs.declared.message.Item.TheVariants.{Unit as UnitItem, Bool as BoolItem, Int as IntItem}
 use Rattle.flow_messages.specs.Runs.{run_items}
 use Rattle.flow_messages.specs.Contents.{content}
-use Rattle.flow_messages.proofs.Contents.{length-content, put_queue, put_units, put_flags, put_ints}
+use Rattle.flow_messages.proofs.Contents.{length-content, put_units, put_flags, put_ints}
+use Rattle.flow_messages.proofs.Stores.{length-held, queued}
 use Rattle.flow_messages.proofs.store.Store.push.Goals as goal
 
 pub put-requires : goal.put-requires
 put-requires c =
     let s = c.args.self.now in
-    let flags = run_items s.flags in
-    let ints = run_items s.ints in
-    let queue = s.queue.items in
-    let room : length ints < s.ints.most = omega (arith, length-content s.units flags ints queue) in
+    let room : length (run_items s.ints) < s.ints.most = omega (arith, length-held s) in
     record { room = room }
 
 pub invariant_of-self-clause-counts : goal.invariant_of-self-clause-counts
 invariant_of-self-clause-counts c =
     let s = c.args.self.now in
-    let flags = run_items s.flags in
-    let ints = run_items s.ints in
-    let queue = s.queue.items in
-    omega (arith, length-content s.units flags ints queue, length-content s.units flags (run_items c.put.new.self) queue, simp length-append at (ap length c.put.ensures.items))
+    omega (arith, length-held s, length-content s.units (run_items s.flags) (run_items c.put.new.self) s.queue.items, simp length-append at (ap length c.put.ensures.items))
 
 pub returns-in-Ok : goal.returns-in-Ok
 returns-in-Ok c = record {
@@ -51,22 +46,16 @@ returns-in-Ok c = record {
 pub put-requires-in-Item-Bool : goal.put-requires-in-Item-Bool
 put-requires-in-Item-Bool c =
     let s = c.args.self.now in
-    let flags = run_items s.flags in
-    let ints = run_items s.ints in
-    let queue = s.queue.items in
-    let room : length flags < s.flags.most = omega (arith, length-content s.units flags ints queue) in
+    let room : length (run_items s.flags) < s.flags.most = omega (arith, length-held s) in
     record { room = room }
 
 pub invariant_of-self-in-Item-Bool-clause-counts : goal.invariant_of-self-in-Item-Bool-clause-counts
 invariant_of-self-in-Item-Bool-clause-counts c =
     let s = c.args.self.now in
-    let flags = run_items s.flags in
-    let ints = run_items s.ints in
-    let queue = s.queue.items in
     omega (
       arith,
-      length-content s.units flags ints queue,
-      length-content s.units (run_items c.put-in-Item-Bool.new.self) ints queue,
+      length-held s,
+      length-content s.units (run_items c.put-in-Item-Bool.new.self) (run_items s.ints) s.queue.items,
       simp length-append at (ap length c.put-in-Item-Bool.ensures.items),
     )
 
@@ -88,10 +77,7 @@ returns-in-Item-Bool c = record {
 pub invariant_of-self-in-Item-Unit-clause-counts : goal.invariant_of-self-in-Item-Unit-clause-counts
 invariant_of-self-in-Item-Unit-clause-counts c =
     let s = c.args.self.now in
-    let flags = run_items s.flags in
-    let ints = run_items s.ints in
-    let queue = s.queue.items in
-    omega (arith, length-content s.units flags ints queue, length-content (s.units + 1) flags ints queue)
+    omega (arith, length-held s, length-content (s.units + 1) (run_items s.flags) (run_items s.ints) s.queue.items)
 
 pub returns-in-Item-Unit : goal.returns-in-Item-Unit
 returns-in-Item-Unit c = record {
@@ -99,34 +85,24 @@ returns-in-Item-Unit c = record {
       let flags = run_items s.flags in
       let ints = run_items s.ints in
       let queue = s.queue.items in
-      let sum = length-content s.units flags ints queue in
+      let sum = length-held s in
       let is : c.args.message ≡ ItemMsg UnitItem = search rules in
       put_units s.units 1 flags ints queue (omega arith) (omega arith) (omega arith) ∙ ap (λ (m : Msg). content s.units flags ints queue ++ m ∷ []) (sym is));
   capacity = refl;
 }
 
 pub push_back_reserved-requires : goal.push_back_reserved-requires
-push_back_reserved-requires c =
-    let s = c.args.self.now in
-    let flags = run_items s.flags in
-    let ints = run_items s.ints in
-    let queue = s.queue.items in
-    omega (arith, length-content s.units flags ints queue)
+push_back_reserved-requires c = omega (arith, length-held c.args.self.now)
 
 pub invariant_of-self-2-clause-counts : goal.invariant_of-self-2-clause-counts
 invariant_of-self-2-clause-counts c =
     let s = c.args.self.now in
-    let flags = run_items s.flags in
-    let ints = run_items s.ints in
-    let queue = s.queue.items in
-    omega (arith, length-content s.units flags ints queue, length-content s.units flags ints c.push_back_reserved.new.self.items, simp length-append at (ap length c.push_back_reserved.ensures.items))
+    omega (
+      arith,
+      length-held s,
+      length-content s.units (run_items s.flags) (run_items s.ints) c.push_back_reserved.new.self.items,
+      simp length-append at (ap length c.push_back_reserved.ensures.items),
+    )
 
 pub returns : goal.returns
-returns c = record {
-  content = (let s = c.args.self.now in
-      let flags = run_items s.flags in
-      let ints = run_items s.ints in
-      let queue = s.queue.items in
-      ap (content s.units flags ints) c.push_back_reserved.ensures.items ∙ put_queue s.units flags ints queue (c.args.message ∷ []));
-  capacity = refl;
-}
+returns c = record { content = queued c.args.self.now _ (c.args.message ∷ []) c.push_back_reserved.ensures.items; capacity = refl }

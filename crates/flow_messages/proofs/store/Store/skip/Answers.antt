@@ -1,68 +1,52 @@
-use Rattle.std.proofs.Common.{◌≡◌, ◌-◌, ◌≤◌, min, [], length, drop, ap, sym, ◌∙◌, arith, rules, length-drop, refl}
+use Rattle.std.proofs.Common.{◌≡◌, ℕ, ℤ, ◌-◌, ◌≤◌, min, Bool, List, [], length, drop, ap, sym, ◌∙◌, arith, rules, length-drop, refl}
 use Rattle.std.specs.Ordering.{nat_cmp, ord_min}
-use Rattle.std.specs.VecDeque.{deque_len}
+use Rattle.flow_messages.specs.declared.message.Msg.{Msg}
+use Rattle.flow_messages.specs.declared.store.Store.{Store}
 use Rattle.flow_messages.specs.Runs.{run_items}
 use Rattle.flow_messages.specs.Contents.{content}
+use Rattle.flow_messages.specs.Stores.{content_of}
 use Rattle.flow_messages.proofs.Contents.{length-content, empty_of, skip_units, skip_flags, skip_ints, least, skip_all}
+use Rattle.flow_messages.proofs.Stores.{length-held}
 use Rattle.flow_messages.proofs.store.Store.skip.Goals as goal
+
+-- so many of each kind are skipped: the most that are there, and that are to be
+module _ (s : Store) (n a b d f i : ℕ) (is_a : a ≡ ord_min nat_cmp n s.units) (is_f : f ≡ length (run_items s.flags)) (is_b : b ≡ ord_min nat_cmp (n - a) f)
+    (is_i : i ≡ length (run_items s.ints)) (is_d : d ≡ ord_min nat_cmp (n - a - b) i) where
+  of_units : a ≡ min n s.units
+  of_units = least a n s.units is_a
+
+  of_flags : b ≡ min (n - a) (length (run_items s.flags))
+  of_flags = least b (n - a) (length (run_items s.flags)) (is_b ∙ ap (ord_min nat_cmp (n - a)) is_f)
+
+  of_ints : d ≡ min (n - a - b) (length (run_items s.ints))
+  of_ints = least d (n - a - b) (length (run_items s.ints)) (is_d ∙ ap (ord_min nat_cmp (n - a - b)) is_i)
+
+  low : n ≤ length (content_of s) → n - a - b - d ≤ length s.queue.items
+  low there = omega (arith, there, of_units, of_flags, of_ints, length-held s)
+
+  left : (fs : List Bool) (is : List ℤ) (queue : List Msg) → fs ≡ drop b (run_items s.flags) → is ≡ drop d (run_items s.ints) →
+      queue ≡ drop (n - a - b - d) s.queue.items → content (s.units - a) fs is queue ≡ drop n (content_of s)
+  left fs is queue of_fs of_is of_queue =
+      ap (λ l. content (s.units - a) l is queue) of_fs ∙ ap (λ l. content (s.units - a) (drop b (run_items s.flags)) l queue) of_is
+      ∙ ap (content (s.units - a) (drop b (run_items s.flags)) (drop d (run_items s.ints))) of_queue
+      ∙ sym (skip_all n s.units (run_items s.flags) (run_items s.ints) s.queue.items a b d of_units of_flags of_ints)
 
 pub drop_front-requires : goal.drop_front-requires
 drop_front-requires c =
-    let s = c.args.self.now in
-    let flags = run_items s.flags in
-    let ints = run_items s.ints in
-    let queue = s.queue.items in
-    let n = c.args.count in
-    let a = c.min-units.result in
-    let b = c.min-flags.result in
-    let d = c.min-ints.result in
-    let of_units : a ≡ min n s.units = least a n s.units c.min-units.ensures in
-    let of_flags : b ≡ min (n - a) (length flags) = least b (n - a) (length flags) (c.min-flags.ensures ∙ ap (ord_min nat_cmp (n - a)) c.len-2.ensures) in
-    let of_ints : d ≡ min (n - a - b) (length ints) = least d (n - a - b) (length ints) (c.min-ints.ensures ∙ ap (ord_min nat_cmp (n - a - b)) c.len-3.ensures) in
-    let low : n - a - b - d ≤ deque_len s.queue = omega (arith, length-content s.units flags ints queue) in
-    record { there = low }
+    let few = low c.args.self.now c.args.count c.min-units.result c.min-flags.result c.min-ints.result c.len-2.result c.len-3.result c.min-units.ensures c.len-2.ensures
+    c.min-flags.ensures c.len-3.ensures c.min-ints.ensures c.requires.there in
+    record { there = omega (arith, few) }
 
 pub invariant_of-self-2-clause-counts : goal.invariant_of-self-2-clause-counts
 invariant_of-self-2-clause-counts c =
-    let s = c.args.self.now in
-    let flags = run_items s.flags in
-    let ints = run_items s.ints in
-    let queue = s.queue.items in
-    let n = c.args.count in
-    let a = c.min-units.result in
-    let b = c.min-flags.result in
-    let d = c.min-ints.result in
-    let of_units : a ≡ min n s.units = least a n s.units c.min-units.ensures in
-    let of_flags : b ≡ min (n - a) (length flags) = least b (n - a) (length flags) (c.min-flags.ensures ∙ ap (ord_min nat_cmp (n - a)) c.len-2.ensures) in
-    let of_ints : d ≡ min (n - a - b) (length ints) = least d (n - a - b) (length ints) (c.min-ints.ensures ∙ ap (ord_min nat_cmp (n - a - b)) c.len-3.ensures) in
-    let left = skip_all n s.units flags ints queue a b d of_units of_flags of_ints in
-    let new : content (s.units - a) (run_items c.skip-2.new.self) (run_items c.skip-3.new.self) c.drop_front.new.queue.items ≡ drop n (content s.units flags ints queue) =
-    ap (λ l. content (s.units - a) l (run_items c.skip-3.new.self) c.drop_front.new.queue.items) c.skip-2.ensures.items
-    ∙ ap (λ l. content (s.units - a) (drop b flags) l c.drop_front.new.queue.items) c.skip-3.ensures.items
-    ∙ ap (content (s.units - a) (drop b flags) (drop d ints)) c.drop_front.ensures.items
-    ∙ sym left in
-    omega (arith, ap length new, length-drop n (content s.units flags ints queue))
+    let rest = left c.args.self.now c.args.count c.min-units.result c.min-flags.result c.min-ints.result c.len-2.result c.len-3.result c.min-units.ensures c.len-2.ensures
+    c.min-flags.ensures c.len-3.ensures c.min-ints.ensures _ _ _ c.skip-2.ensures.items c.skip-3.ensures.items c.drop_front.ensures.items in
+    omega (arith, ap length rest, length-drop c.args.count (content_of c.args.self.now))
 
 pub returns : goal.returns
 returns c = record {
-  content = (let s = c.args.self.now in
-      let flags = run_items s.flags in
-      let ints = run_items s.ints in
-      let queue = s.queue.items in
-      let n = c.args.count in
-      let a = c.min-units.result in
-      let b = c.min-flags.result in
-      let d = c.min-ints.result in
-      let of_units : a ≡ min n s.units = least a n s.units c.min-units.ensures in
-      let of_flags : b ≡ min (n - a) (length flags) = least b (n - a) (length flags) (c.min-flags.ensures ∙ ap (ord_min nat_cmp (n - a)) c.len-2.ensures) in
-      let of_ints : d ≡ min (n - a - b) (length ints) = least d (n - a - b) (length ints) (c.min-ints.ensures ∙ ap (ord_min nat_cmp (n - a - b)) c.len-3.ensures) in
-      let left = skip_all n s.units flags ints queue a b d of_units of_flags of_ints in
-      let new : content (s.units - a) (run_items c.skip-2.new.self) (run_items c.skip-3.new.self) c.drop_front.new.queue.items ≡ drop n (content s.units flags ints queue) =
-      ap (λ l. content (s.units - a) l (run_items c.skip-3.new.self) c.drop_front.new.queue.items) c.skip-2.ensures.items
-      ∙ ap (λ l. content (s.units - a) (drop b flags) l c.drop_front.new.queue.items) c.skip-3.ensures.items
-      ∙ ap (content (s.units - a) (drop b flags) (drop d ints)) c.drop_front.ensures.items
-      ∙ sym left in
-      new);
+  content = left c.args.self.now c.args.count c.min-units.result c.min-flags.result c.min-ints.result c.len-2.result c.len-3.result c.min-units.ensures c.len-2.ensures
+      c.min-flags.ensures c.len-3.ensures c.min-ints.ensures _ _ _ c.skip-2.ensures.items c.skip-3.ensures.items c.drop_front.ensures.items;
   capacity = refl;
 }
 
@@ -77,10 +61,7 @@ returns-then-count-self c = record {
 pub invariant_of-self-clause-counts : goal.invariant_of-self-clause-counts
 invariant_of-self-clause-counts c =
     let s = c.args.self.now in
-    let flags = run_items s.flags in
-    let ints = run_items s.ints in
-    let queue = s.queue.items in
-    omega (arith, length-content s.units flags ints queue, length-content (s.units - c.args.count) flags ints queue, c.if-count-self.true)
+    omega (arith, length-held s, length-content (s.units - c.args.count) (run_items s.flags) (run_items s.ints) s.queue.items, c.if-count-self.true)
 
 -- all are truth values
 pub returns-then-count-len : goal.returns-then-count-len
@@ -102,11 +83,16 @@ returns-then-count-len c = record {
 pub invariant_of-self-then-count-len-clause-counts : goal.invariant_of-self-then-count-len-clause-counts
 invariant_of-self-then-count-len-clause-counts c =
     let s = c.args.self.now in
-    let flags = run_items s.flags in
-    let ints = run_items s.ints in
-    let queue = s.queue.items in
     let left = run_items c.skip.new.self in
-    omega (arith, length-content s.units flags ints queue, length-content s.units left ints queue, ap length c.skip.ensures.items, length-drop c.args.count flags, c.if-count-len.true, c.len.ensures)
+    omega (
+      arith,
+      length-held s,
+      length-content s.units left (run_items s.ints) s.queue.items,
+      ap length c.skip.ensures.items,
+      length-drop c.args.count (run_items s.flags),
+      c.if-count-len.true,
+      c.len.ensures,
+    )
 
 -- all are integers
 pub returns-then-count-len-2 : goal.returns-then-count-len-2
@@ -129,16 +115,13 @@ returns-then-count-len-2 c = record {
 pub invariant_of-self-then-count-len-2-clause-counts : goal.invariant_of-self-then-count-len-2-clause-counts
 invariant_of-self-then-count-len-2-clause-counts c =
     let s = c.args.self.now in
-    let flags = run_items s.flags in
-    let ints = run_items s.ints in
-    let queue = s.queue.items in
     let left = run_items c.skip-then-count-len-2.new.self in
     omega (
       arith,
-      length-content s.units flags ints queue,
-      length-content s.units flags left queue,
+      length-held s,
+      length-content s.units (run_items s.flags) left s.queue.items,
       ap length c.skip-then-count-len-2.ensures.items,
-      length-drop c.args.count ints,
+      length-drop c.args.count (run_items s.ints),
       c.if-count-len-2.true,
       c.len-then-is_empty.ensures,
     )

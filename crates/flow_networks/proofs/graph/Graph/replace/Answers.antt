@@ -1,27 +1,23 @@
-use Rattle.std.proofs.Common.{◌≡◌, ◌<◌, length, set, sym, ◌∙◌, ap, subst, arith}
-use Rattle.std.proofs.lemmas.List.{length-map}
+use Rattle.std.proofs.Common.{◌≡◌, set, sym, ◌∙◌, ap, subst}
 use Rattle.flow_networks.specs.Graphs.{states_of, edges_of}
 use Rattle.flow_networks.specs.Networks.{AreOpened}
 use Rattle.flow_networks.specs.Places.{placed_state, states_in}
 use Rattle.flow_networks.specs.Kept.{IsBuilt}
+use Rattle.flow_networks.proofs.GraphNodes.{is_node, input_count, output_count}
 use Rattle.flow_networks.proofs.Reached.{states_set}
 use Rattle.flow_networks.proofs.Replacements.{built_replaced, opened_replaced}
-use Rattle.flow_networks.proofs.Seats.{inputs_here, outputs_here, seated_same}
+use Rattle.flow_networks.proofs.Seats.{seated_same}
 use Rattle.flow_networks.proofs.graph.Graph.replace.Goals as goal
 
 pub replace-requires-clause-inputs : goal.replace-requires-clause-inputs
 replace-requires-clause-inputs g c =
-    let nodes = c.args.self.now.nodes.items in
-    let x = c.index_mut.result.now in
-    let l : c.args.number < length nodes = omega (arith, c.requires.node, length-map nodes placed_state) in
-    c.requires.inputs ∙ sym (inputs_here nodes c.args.number x l c.index_mut.ensures.value) ∙ x.each_input
+    let at = is_node c.args.self.now c.args.number c.index_mut.result.now c.requires.node c.index_mut.ensures.value in
+    c.requires.inputs ∙ sym (input_count at) ∙ c.index_mut.result.now.each_input
 
 pub replace-requires-clause-outputs : goal.replace-requires-clause-outputs
 replace-requires-clause-outputs g c =
-    let nodes = c.args.self.now.nodes.items in
-    let x = c.index_mut.result.now in
-    let l : c.args.number < length nodes = omega (arith, c.requires.node, length-map nodes placed_state) in
-    c.requires.outputs ∙ sym (outputs_here nodes c.args.number x l c.index_mut.ensures.value) ∙ x.each_output
+    let at = is_node c.args.self.now c.args.number c.index_mut.result.now c.requires.node c.index_mut.ensures.value in
+    c.requires.outputs ∙ sym (output_count at) ∙ c.index_mut.result.now.each_output
 
 pub invariant_of-self : goal.invariant_of-self
 invariant_of-self g c =
@@ -32,11 +28,11 @@ invariant_of-self g c =
     let s = g.T.Transducer.state c.args.node in
     let x = c.index_mut.result.now in
     let y = c.replace.new.self in
-    let l : k < length nodes = omega (arith, c.requires.node, length-map nodes placed_state) in
+    let at = is_node c.args.self.now c.args.number c.index_mut.result.now c.requires.node c.index_mut.ensures.value in
     let is : states_in (set nodes k y) ≡ set (states_of graph) k s = states_set placed_state nodes k y s (ap g.T.Transducer.state c.replace.ensures.node) in
     record {
       built = subst (λ l. IsBuilt b l (edges_of graph)) (sym is) (built_replaced b (states_of graph) k s c.requires (edges_of graph) graph.built);
-      seated = seated_same nodes k x l c.index_mut.ensures.value y c.replace.ensures.number c.replace.ensures.inputs c.replace.ensures.outputs (edges_of graph) graph.seated;
+      seated = seated_same nodes k x at.inside at.is y c.replace.ensures.number c.replace.ensures.inputs c.replace.ensures.outputs (edges_of graph) graph.seated;
     }
 
 pub returns-clause-nodes : goal.returns-clause-nodes

@@ -1,54 +1,19 @@
-use Rattle.std.proofs.Common.{◌<◌, length, ◌∙◌, ap, arith}
-use Rattle.std.proofs.lemmas.List.{length-map, get_or_default}
-use Rattle.flow_networks.specs.Places.{placed_state, states_in}
-use Rattle.flow_networks.specs.Networks.{inputs_at}
-use Rattle.flow_networks.proofs.Reached.{wants_input}
-use Rattle.flow_networks.proofs.Seats.{state_here, inputs_here, input_here}
+use Rattle.std.proofs.Common.{arith}
+use Rattle.flow_networks.proofs.GraphNodes.{is_node, wanted_in, wanted_in_port, wanted_in_edge}
 use Rattle.flow_networks.proofs.graph.Graph.wanted_input.Goals as goal
 
 pub index-requires-2 : goal.index-requires-2
 index-requires-2 g c =
-    let b = g.T.Transducer.behaviour in
-    let nodes = c.args.self.now.nodes.items in
     let x = c.index.result.now in
-    let l : c.args.node < length nodes = omega (arith, c.requires.inside, length-map nodes placed_state) in
-    omega (
-      arith,
-      wants_input b g.met.T.Transducer.laws (placed_state x) c.args.port
-          (ap b.process.want (state_here nodes c.args.node x l c.index.ensures) ∙ c.requires.wants) x.reached,
-      x.each_input,
-      x.inputs.ok.0,
-    )
+    let at = is_node c.args.self.now c.args.node x c.requires.inside c.index.ensures in
+    omega (arith, wanted_in at g.met.T.Transducer.laws c.args.port c.requires.wants, x.inputs.ok.0)
 
 pub returns-clause-port : goal.returns-clause-port
 returns-clause-port g c =
-    let b = g.T.Transducer.behaviour in
-    let nodes = c.args.self.now.nodes.items in
-    let x = c.index.result.now in
-    let l : c.args.node < length nodes = omega (arith, c.requires.inside, length-map nodes placed_state) in
-    omega (
-      arith,
-      wants_input b g.met.T.Transducer.laws (placed_state x) c.args.port
-          (ap b.process.want (state_here nodes c.args.node x l c.index.ensures) ∙ c.requires.wants) x.reached,
-      x.each_input,
-      inputs_here nodes c.args.node x l c.index.ensures,
-    )
+    let at = is_node c.args.self.now c.args.node c.index.result.now c.requires.inside c.index.ensures in
+    wanted_in_port at g.met.T.Transducer.laws c.args.port c.requires.wants
 
 pub returns-clause-edge : goal.returns-clause-edge
 returns-clause-edge g c =
-    let b = g.T.Transducer.behaviour in
-    let graph = c.args.self.now in
-    let nodes = graph.nodes.items in
-    let x = c.index.result.now in
-    let l : c.args.node < length nodes = omega (arith, c.requires.inside, length-map nodes placed_state) in
-    let port : c.args.port < inputs_at b (states_in nodes) c.args.node =
-    omega (
-      arith,
-      wants_input b g.met.T.Transducer.laws (placed_state x) c.args.port
-          (ap b.process.want (state_here nodes c.args.node x l c.index.ensures) ∙ c.requires.wants) x.reached,
-      x.each_input,
-      inputs_here nodes c.args.node x l c.index.ensures,
-    ) in
-    c.index-2.ensures ∙ get_or_default x.inputs.items c.args.port c.index-2.result.now 0
-    (omega (arith, port, inputs_here nodes c.args.node x l c.index.ensures))
-    ∙ input_here nodes c.args.node x l c.index.ensures graph.edges.items graph.built.joined graph.seated c.args.port port
+    let at = is_node c.args.self.now c.args.node c.index.result.now c.requires.inside c.index.ensures in
+    wanted_in_edge at g.met.T.Transducer.laws c.args.port c.requires.wants c.index-2.result.now c.index-2.ensures

@@ -1,212 +1,85 @@
-use Rattle.std.proofs.Common.{◌≡◌, ◌<◌, ◌↔◌, length, not, IsTrue, true, refl, sym, ◌∙◌, subst, arith}
+use Rattle.std.proofs.Common.{◌≡◌, ℕ, ◌<◌, ◌↔◌, Bool, get_or, not, IsTrue, sym, ◌∙◌, ap, subst, arith}
 use Rattle.std.proofs.lemmas.List.{get_or_read}
+use Rattle.kahn.specs.declared.want.Want.{Want}
 use Rattle.kahn.specs.declared.want.Want.TheVariants.{Read, Write}
-use Rattle.std.specs.Prelude.{None}
 use Rattle.flow_messages.specs.Ends.{View, LookedForMessages, LookedForRoom, held}
-use Rattle.flow_base.specs.Visits.{edge_of, IsPlaced, IsStuck}
-use Rattle.flow_base.proofs.Visits.{made_none, input_there, output_there, reads_at, writes_at}
+use Rattle.flow_base.specs.Transducers.{BehaviourLaws}
+use Rattle.flow_base.specs.declared.transducer.Transducer.{Ghosts}
+use Rattle.flow_base.specs.Visits.{edge_of, IsStuck}
 use Rattle.flow_base.proofs.Kernels.{alone_looked, alone_room}
+use Rattle.flow_networks.specs.declared.placed.Placed.{Placed}
+use Rattle.flow_networks.specs.InPlace.{PlaceIsStuck, PlaceLeavesAlone}
+use Rattle.flow_networks.specs.Places.{placed_state}
 use Rattle.flow_networks.proofs.Looks.{not_there}
+use Rattle.flow_networks.proofs.Seats.{input_inside, output_inside}
 use Rattle.flow_networks.proofs.placed.Placed.is_stuck.Goals as goal
 
--- the same edges, of no kind: what a node wants does not hang on kinds
-abbrev any_kind : View → View
-any_kind v = record v { kind = λ e. None }
+-- it looks at the end of the edge, e, at the port that it wants
+module _ {X : Type 0} {t : Ghosts X} (laws : BehaviourLaws t.behaviour) (x : Placed X t) (before after : View) (p e : ℕ) {w : Want} (told : w ≡ t.behaviour.process.want (placed_state x)) where
+  module _ (wants : w ≡ Read p) (read : e ≡ get_or x.inputs.items p e) where
+    input_edge : e ≡ edge_of x.inputs.items p
+    input_edge = get_or_read x.inputs.items p e (input_inside laws x p told wants) read 0
 
-pub ready-requires : goal.ready-requires
-ready-requires g c =
-    let b = g.T.Transducer.behaviour in
-    let laws = g.met.T.Transducer.laws in
-    let x = c.args.self.now in
-    let s = g.T.Transducer.state x.node in
-    let ins = x.inputs.items in
-    let outs = x.outputs.items in
-    let view = g.E.Ends.view in
-    let placed : IsPlaced b ins outs s (any_kind (view c.args.ends.now)) =
-    record {
-      reached = x.reached;
-      each_input = x.each_input;
-      each_output = x.each_output;
-      reads = c.requires.reads;
-      writes = c.requires.writes;
-      kinds = λ q l s is. refl;
-    } in
-    let made = made_none laws placed in
-    let wants : b.process.want s ≡ Read c.in-Read.port = sym c.want.ensures ∙ c.in-Read.is in
-    let inside : c.in-Read.port < length x.inputs.items = input_there laws placed made c.in-Read.port wants in
-    let at : c.index.result.now ≡ edge_of ins c.in-Read.port = get_or_read ins c.in-Read.port c.index.result.now inside c.index.ensures 0 in
-    subst (λ e. (view c.args.ends.now).reads e ≡ true) (sym at) (reads_at laws placed made c.in-Read.port inside)
+    looked_reading : LookedForMessages before e after → PlaceLeavesAlone x before after
+    looked_reading looked = alone_looked x.inputs.items x.outputs.items before after p (input_inside laws x p told wants) (subst (λ f. LookedForMessages before f after) input_edge looked)
 
-pub returns-in-Read-clause-looked : goal.returns-in-Read-clause-looked
-returns-in-Read-clause-looked g c =
-    let b = g.T.Transducer.behaviour in
-    let laws = g.met.T.Transducer.laws in
-    let x = c.args.self.now in
-    let s = g.T.Transducer.state x.node in
-    let ins = x.inputs.items in
-    let outs = x.outputs.items in
-    let view = g.E.Ends.view in
-    let placed : IsPlaced b ins outs s (any_kind (view c.args.ends.now)) =
-    record {
-      reached = x.reached;
-      each_input = x.each_input;
-      each_output = x.each_output;
-      reads = c.requires.reads;
-      writes = c.requires.writes;
-      kinds = λ q l s is. refl;
-    } in
-    let made = made_none laws placed in
-    let wants : b.process.want s ≡ Read c.in-Read.port = sym c.want.ensures ∙ c.in-Read.is in
-    let inside : c.in-Read.port < length x.inputs.items = input_there laws placed made c.in-Read.port wants in
-    let at : c.index.result.now ≡ edge_of ins c.in-Read.port = get_or_read ins c.in-Read.port c.index.result.now inside c.index.ensures 0 in
-    let u = view c.ready.new.self in
-    let looked = subst (λ e. LookedForMessages (view c.args.ends.now) e u) at c.ready.ensures.looked in
-    alone_looked ins outs (view c.args.ends.now) u c.in-Read.port inside looked
+    stuck_reading : (ready : Bool) → IsTrue ready ↔ (0 < held after e) → IsTrue (not ready) ↔ PlaceIsStuck x after
+    stuck_reading ready value =
+        subst (λ want. IsTrue (not ready) ↔ IsStuck x.inputs.items x.outputs.items after want) (sym wants ∙ told)
+        (not_there ready _ (subst (λ f. IsTrue ready ↔ (0 < held after f)) input_edge value))
 
-pub returns-in-Read-clause-stuck : goal.returns-in-Read-clause-stuck
-returns-in-Read-clause-stuck g c =
-    let b = g.T.Transducer.behaviour in
-    let laws = g.met.T.Transducer.laws in
-    let x = c.args.self.now in
-    let s = g.T.Transducer.state x.node in
-    let ins = x.inputs.items in
-    let outs = x.outputs.items in
-    let view = g.E.Ends.view in
-    let placed : IsPlaced b ins outs s (any_kind (view c.args.ends.now)) =
-    record {
-      reached = x.reached;
-      each_input = x.each_input;
-      each_output = x.each_output;
-      reads = c.requires.reads;
-      writes = c.requires.writes;
-      kinds = λ q l s is. refl;
-    } in
-    let made = made_none laws placed in
-    let wants : b.process.want s ≡ Read c.in-Read.port = sym c.want.ensures ∙ c.in-Read.is in
-    let inside : c.in-Read.port < length x.inputs.items = input_there laws placed made c.in-Read.port wants in
-    let at : c.index.result.now ≡ edge_of ins c.in-Read.port = get_or_read ins c.in-Read.port c.index.result.now inside c.index.ensures 0 in
-    let u = view c.ready.new.self in
-    let value = subst (λ e. IsTrue c.ready.result ↔ (0 < held u e)) at c.ready.ensures.value in
-    subst (λ w. IsTrue (not c.ready.result) ↔ IsStuck ins outs u w) (sym wants) (not_there c.ready.result _ value)
+  module _ (wants : w ≡ Write p) (read : e ≡ get_or x.outputs.items p e) where
+    output_edge : e ≡ edge_of x.outputs.items p
+    output_edge = get_or_read x.outputs.items p e (output_inside laws x p told wants) read 0
 
-pub index-requires-in-Write : goal.index-requires-in-Write
-index-requires-in-Write g c =
-    let b = g.T.Transducer.behaviour in
-    let laws = g.met.T.Transducer.laws in
-    let x = c.args.self.now in
-    let s = g.T.Transducer.state x.node in
-    let ins = x.inputs.items in
-    let outs = x.outputs.items in
-    let view = g.E.Ends.view in
-    let placed : IsPlaced b ins outs s (any_kind (view c.args.ends.now)) =
-    record {
-      reached = x.reached;
-      each_input = x.each_input;
-      each_output = x.each_output;
-      reads = c.requires.reads;
-      writes = c.requires.writes;
-      kinds = λ q l s is. refl;
-    } in
-    let made = made_none laws placed in
-    let wants : b.process.want s ≡ Write c.in-Write.port = sym c.want.ensures ∙ c.in-Write.is in
-    let inside : c.in-Write.port < length x.outputs.items = output_there laws placed made c.in-Write.port wants in
-    omega (arith, inside, x.outputs.ok.0)
+    looked_writing : LookedForRoom before e after → PlaceLeavesAlone x before after
+    looked_writing looked = alone_room x.inputs.items x.outputs.items before after p (output_inside laws x p told wants) (subst (λ f. LookedForRoom before f after) output_edge looked)
 
-pub room-requires : goal.room-requires
-room-requires g c =
-    let b = g.T.Transducer.behaviour in
-    let laws = g.met.T.Transducer.laws in
-    let x = c.args.self.now in
-    let s = g.T.Transducer.state x.node in
-    let ins = x.inputs.items in
-    let outs = x.outputs.items in
-    let view = g.E.Ends.view in
-    let placed : IsPlaced b ins outs s (any_kind (view c.args.ends.now)) =
-    record {
-      reached = x.reached;
-      each_input = x.each_input;
-      each_output = x.each_output;
-      reads = c.requires.reads;
-      writes = c.requires.writes;
-      kinds = λ q l s is. refl;
-    } in
-    let made = made_none laws placed in
-    let wants : b.process.want s ≡ Write c.in-Write.port = sym c.want.ensures ∙ c.in-Write.is in
-    let inside : c.in-Write.port < length x.outputs.items = output_there laws placed made c.in-Write.port wants in
-    let at : c.index-in-Write.result.now ≡ edge_of outs c.in-Write.port = get_or_read outs c.in-Write.port c.index-in-Write.result.now inside c.index-in-Write.ensures 0 in
-    subst (λ e. (view c.args.ends.now).writes e ≡ true) (sym at) (writes_at laws placed made c.in-Write.port inside)
-
-pub returns-in-Write-clause-looked : goal.returns-in-Write-clause-looked
-returns-in-Write-clause-looked g c =
-    let b = g.T.Transducer.behaviour in
-    let laws = g.met.T.Transducer.laws in
-    let x = c.args.self.now in
-    let s = g.T.Transducer.state x.node in
-    let ins = x.inputs.items in
-    let outs = x.outputs.items in
-    let view = g.E.Ends.view in
-    let placed : IsPlaced b ins outs s (any_kind (view c.args.ends.now)) =
-    record {
-      reached = x.reached;
-      each_input = x.each_input;
-      each_output = x.each_output;
-      reads = c.requires.reads;
-      writes = c.requires.writes;
-      kinds = λ q l s is. refl;
-    } in
-    let made = made_none laws placed in
-    let wants : b.process.want s ≡ Write c.in-Write.port = sym c.want.ensures ∙ c.in-Write.is in
-    let inside : c.in-Write.port < length x.outputs.items = output_there laws placed made c.in-Write.port wants in
-    let at : c.index-in-Write.result.now ≡ edge_of outs c.in-Write.port = get_or_read outs c.in-Write.port c.index-in-Write.result.now inside c.index-in-Write.ensures 0 in
-    let u = view c.room.new.self in
-    let looked = subst (λ e. LookedForRoom (view c.args.ends.now) e u) at c.room.ensures.looked in
-    alone_room ins outs (view c.args.ends.now) u c.in-Write.port inside looked
-
-pub returns-in-Write-clause-stuck : goal.returns-in-Write-clause-stuck
-returns-in-Write-clause-stuck g c =
-    let b = g.T.Transducer.behaviour in
-    let laws = g.met.T.Transducer.laws in
-    let x = c.args.self.now in
-    let s = g.T.Transducer.state x.node in
-    let ins = x.inputs.items in
-    let outs = x.outputs.items in
-    let view = g.E.Ends.view in
-    let placed : IsPlaced b ins outs s (any_kind (view c.args.ends.now)) =
-    record {
-      reached = x.reached;
-      each_input = x.each_input;
-      each_output = x.each_output;
-      reads = c.requires.reads;
-      writes = c.requires.writes;
-      kinds = λ q l s is. refl;
-    } in
-    let made = made_none laws placed in
-    let wants : b.process.want s ≡ Write c.in-Write.port = sym c.want.ensures ∙ c.in-Write.is in
-    let inside : c.in-Write.port < length x.outputs.items = output_there laws placed made c.in-Write.port wants in
-    let at : c.index-in-Write.result.now ≡ edge_of outs c.in-Write.port = get_or_read outs c.in-Write.port c.index-in-Write.result.now inside c.index-in-Write.ensures 0 in
-    let u = view c.room.new.self in
-    let value = subst (λ e. IsTrue c.room.result ↔ (0 < u.room e)) at c.room.ensures.value in
-    subst (λ w. IsTrue (not c.room.result) ↔ IsStuck ins outs u w) (sym wants) (not_there c.room.result _ value)
+    stuck_writing : (room : Bool) → IsTrue room ↔ (0 < after.room e) → IsTrue (not room) ↔ PlaceIsStuck x after
+    stuck_writing room value =
+        subst (λ want. IsTrue (not room) ↔ IsStuck x.inputs.items x.outputs.items after want) (sym wants ∙ told)
+        (not_there room _ (subst (λ f. IsTrue room ↔ (0 < after.room f)) output_edge value))
 
 pub index-requires : goal.index-requires
 index-requires g c =
-    let b = g.T.Transducer.behaviour in
-    let laws = g.met.T.Transducer.laws in
     let x = c.args.self.now in
-    let s = g.T.Transducer.state x.node in
-    let ins = x.inputs.items in
-    let outs = x.outputs.items in
+    omega (arith, input_inside g.met.T.Transducer.laws x c.in-Read.port c.want.ensures c.in-Read.is, x.inputs.ok.0)
+
+pub ready-requires : goal.ready-requires
+ready-requires g c =
+    let inside = input_inside g.met.T.Transducer.laws c.args.self.now c.in-Read.port c.want.ensures c.in-Read.is in
+    ap (g.E.Ends.view c.args.ends.now).reads c.index.ensures ∙ c.requires.reads c.in-Read.port c.index.result.now inside
+
+pub returns-in-Read-clause-looked : goal.returns-in-Read-clause-looked
+returns-in-Read-clause-looked g c =
     let view = g.E.Ends.view in
-    let placed : IsPlaced b ins outs s (any_kind (view c.args.ends.now)) =
-    record {
-      reached = x.reached;
-      each_input = x.each_input;
-      each_output = x.each_output;
-      reads = c.requires.reads;
-      writes = c.requires.writes;
-      kinds = λ q l s is. refl;
-    } in
-    let made = made_none laws placed in
-    let wants : b.process.want s ≡ Read c.in-Read.port = sym c.want.ensures ∙ c.in-Read.is in
-    let inside : c.in-Read.port < length x.inputs.items = input_there laws placed made c.in-Read.port wants in
-    omega (arith, inside, x.inputs.ok.0)
+    looked_reading g.met.T.Transducer.laws c.args.self.now (view c.args.ends.now) (view c.ready.new.self) c.in-Read.port c.index.result.now
+    c.want.ensures c.in-Read.is c.index.ensures c.ready.ensures.looked
+
+pub returns-in-Read-clause-stuck : goal.returns-in-Read-clause-stuck
+returns-in-Read-clause-stuck g c =
+    let view = g.E.Ends.view in
+    stuck_reading g.met.T.Transducer.laws c.args.self.now (view c.args.ends.now) (view c.ready.new.self) c.in-Read.port c.index.result.now
+    c.want.ensures c.in-Read.is c.index.ensures c.ready.result c.ready.ensures.value
+
+pub index-requires-in-Write : goal.index-requires-in-Write
+index-requires-in-Write g c =
+    let x = c.args.self.now in
+    omega (arith, output_inside g.met.T.Transducer.laws x c.in-Write.port c.want.ensures c.in-Write.is, x.outputs.ok.0)
+
+pub room-requires : goal.room-requires
+room-requires g c =
+    let inside = output_inside g.met.T.Transducer.laws c.args.self.now c.in-Write.port c.want.ensures c.in-Write.is in
+    ap (g.E.Ends.view c.args.ends.now).writes c.index-in-Write.ensures ∙ c.requires.writes c.in-Write.port c.index-in-Write.result.now inside
+
+pub returns-in-Write-clause-looked : goal.returns-in-Write-clause-looked
+returns-in-Write-clause-looked g c =
+    let view = g.E.Ends.view in
+    looked_writing g.met.T.Transducer.laws c.args.self.now (view c.args.ends.now) (view c.room.new.self) c.in-Write.port c.index-in-Write.result.now
+    c.want.ensures c.in-Write.is c.index-in-Write.ensures c.room.ensures.looked
+
+pub returns-in-Write-clause-stuck : goal.returns-in-Write-clause-stuck
+returns-in-Write-clause-stuck g c =
+    let view = g.E.Ends.view in
+    stuck_writing g.met.T.Transducer.laws c.args.self.now (view c.args.ends.now) (view c.room.new.self) c.in-Write.port c.index-in-Write.result.now
+    c.want.ensures c.in-Write.is c.index-in-Write.ensures c.room.result c.room.ensures.value

@@ -1,7 +1,7 @@
-use Rattle.std.proofs.Common.{◌≡◌, refl, sym, subst}
-use Rattle.flow_base.specs.Visits.{IsPlaced}
+use Rattle.std.proofs.Common.{◌≡◌, refl}
 use Rattle.flow_networks.proofs.Reached.{Follows, follows_inputs, follows_outputs}
 use Rattle.flow_networks.proofs.Carried.{follows_visit}
+use Rattle.flow_networks.proofs.Seats.{is_placed}
 use Rattle.flow_networks.proofs.placed.Placed.run.Goals as goal
 
 pub invariant_of-self : goal.invariant_of-self
@@ -29,19 +29,6 @@ returns-clause-place g c =
 
 pub run-requires-clause-placed : goal.run-requires-clause-placed
 run-requires-clause-placed g c =
-    let x = c.args.self.now in
-    let b = g.T.Transducer.behaviour in
-    let s = g.T.Transducer.state x.node in
-    let v = g.E.Ends.view c.args.ends.now in
-    let ins : c.deref.result.now ≡ x.inputs.items = cc in
-    let outs : c.deref-2.result.now ≡ x.outputs.items = cc in
-    let placed : IsPlaced b x.inputs.items x.outputs.items s v =
-    record {
-      reached = x.reached;
-      each_input = x.each_input;
-      each_output = x.each_output;
-      reads = c.requires.reads;
-      writes = c.requires.writes;
-      kinds = c.requires.kinds;
-    } in
-    subst (λ l. IsPlaced b l c.deref-2.result.now s v) (sym ins) (subst (λ l. IsPlaced b x.inputs.items l s v) (sym outs) placed)
+    let ins : c.deref.result.now ≡ c.args.self.now.inputs.items = cc in
+    let outs : c.deref-2.result.now ≡ c.args.self.now.outputs.items = cc in
+    is_placed c.args.self.now c.requires.reads c.requires.writes c.requires.kinds ins outs

@@ -1,10 +1,10 @@
 use Rattle.std.proofs.Common.{◌≡◌, ◌*◌, pos, false, length, take, refl, sym, ◌∙◌, ap, subst, arith}
 use Rattle.snesl_data.specs.declared.dialect.Dialect.{Dialect}
-use Rattle.snesl_operators.specs.declared.operator.BinaryOperator.{BinaryOperator}
-use Rattle.snesl_operators.specs.declared.scalar.Scalar.TheVariants.{Int, Bool as Truth}
+use Rattle.snesl_data.specs.declared.operators.operator.BinaryOperator.{BinaryOperator}
+use Rattle.snesl_data.specs.declared.operators.scalar.Scalar.TheVariants.{Int, Bool as Truth}
 use Rattle.flow_folds.specs.Scalars.{kind_of_type}
-use Rattle.flow_messages.specs.Blocks.{int_signals}
-use Rattle.flow_base.specs.Along.{MovesAlong, shown_signals, written_signals}
+use Rattle.flow_messages.specs.Blocks.{int_signals, item_signals}
+use Rattle.flow_base.specs.Along.{MovesAlong, written_signals}
 use Rattle.flow_base.specs.declared.slices.Moved.{Moved}
 use Rattle.flow_base.specs.declared.slices.Written.{Written}
 use Rattle.flow_base.proofs.Along.{moved_nothing, single_ran}
@@ -38,10 +38,10 @@ returns-in-Int c =
     let values = c.ints_of-count.ensures in
     let written : Written = record { flags = c.args.block.now.flags; ints = zs } in
     let made : Moved = record { first = count; second = count; units = 0; flags = 0; ints = count; steps = 3 * count } in
-    let all_first : length (shown_signals first) ≡ length xs = ap (λ s. length (shown_signals s)) c.in-Ints-Ints.is-0 ∙ length_ints xs in
-    let all_second : length (shown_signals second) ≡ length ys = ap (λ s. length (shown_signals s)) c.in-Ints-Ints.is-1 ∙ length_ints ys in
-    let firsts : int_signals (take count xs) ≡ take count (shown_signals first) = sym (take_ints count xs) ∙ ap (λ s. take count (shown_signals s)) (sym c.in-Ints-Ints.is-0) in
-    let seconds : int_signals (take count ys) ≡ take count (shown_signals second) = sym (take_ints count ys) ∙ ap (λ s. take count (shown_signals s)) (sym c.in-Ints-Ints.is-1) in
+    let all_first : length (item_signals first) ≡ length xs = ap (λ s. length (item_signals s)) c.in-Ints-Ints.is-0 ∙ length_ints xs in
+    let all_second : length (item_signals second) ≡ length ys = ap (λ s. length (item_signals s)) c.in-Ints-Ints.is-1 ∙ length_ints ys in
+    let firsts : int_signals (take count xs) ≡ take count (item_signals first) = sym (take_ints count xs) ∙ ap (λ s. take count (item_signals s)) (sym c.in-Ints-Ints.is-0) in
+    let seconds : int_signals (take count ys) ≡ take count (item_signals second) = sym (take_ints count ys) ∙ ap (λ s. take count (item_signals s)) (sym c.in-Ints-Ints.is-1) in
     let told : values_said Int (take count zs) ≡ written_signals written made (m.kind_out p 0) = ap (λ t. written_signals written made (kind_of_type t)) (sym c.in-Int.is ∙ c.result.ensures) in
     let ran = single_ran m p (int_signals (take count xs)) (int_signals (take count ys)) (values_said Int (take count zs))
     (block n.dialect n.operator Int (pos 0) xs ys zs count values.lefts values.rights values.block values.values) first second written made refl
@@ -72,10 +72,10 @@ returns-in-Bool c =
     let values = c.flags_of-count.ensures in
     let written : Written = record { flags = zs; ints = c.args.block.now.ints } in
     let made : Moved = record { first = count; second = count; units = 0; flags = count; ints = 0; steps = 3 * count } in
-    let all_first : length (shown_signals first) ≡ length xs = ap (λ s. length (shown_signals s)) c.in-Ints-Ints.is-0 ∙ length_ints xs in
-    let all_second : length (shown_signals second) ≡ length ys = ap (λ s. length (shown_signals s)) c.in-Ints-Ints.is-1 ∙ length_ints ys in
-    let firsts : int_signals (take count xs) ≡ take count (shown_signals first) = sym (take_ints count xs) ∙ ap (λ s. take count (shown_signals s)) (sym c.in-Ints-Ints.is-0) in
-    let seconds : int_signals (take count ys) ≡ take count (shown_signals second) = sym (take_ints count ys) ∙ ap (λ s. take count (shown_signals s)) (sym c.in-Ints-Ints.is-1) in
+    let all_first : length (item_signals first) ≡ length xs = ap (λ s. length (item_signals s)) c.in-Ints-Ints.is-0 ∙ length_ints xs in
+    let all_second : length (item_signals second) ≡ length ys = ap (λ s. length (item_signals s)) c.in-Ints-Ints.is-1 ∙ length_ints ys in
+    let firsts : int_signals (take count xs) ≡ take count (item_signals first) = sym (take_ints count xs) ∙ ap (λ s. take count (item_signals s)) (sym c.in-Ints-Ints.is-0) in
+    let seconds : int_signals (take count ys) ≡ take count (item_signals second) = sym (take_ints count ys) ∙ ap (λ s. take count (item_signals s)) (sym c.in-Ints-Ints.is-1) in
     let told : values_said Truth (take count zs) ≡ written_signals written made (m.kind_out p 0) = ap (λ t. written_signals written made (kind_of_type t)) (sym c.in-Bool.is ∙ c.result.ensures) in
     let ran = single_ran m p (int_signals (take count xs)) (int_signals (take count ys)) (values_said Truth (take count zs))
     (block n.dialect n.operator Truth false xs ys zs count values.lefts values.rights values.block values.values) first second written made refl

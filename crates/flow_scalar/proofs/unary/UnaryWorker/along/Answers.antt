@@ -1,8 +1,8 @@
 use Rattle.std.proofs.Common.{◌≡◌, ◌*◌, pos, false, [], length, take, refl, sym, ◌∙◌, ap, subst, arith}
 use Rattle.snesl_data.specs.declared.dialect.Dialect.{Dialect}
-use Rattle.snesl_operators.specs.declared.operator.UnaryOperator.{UnaryOperator}
-use Rattle.snesl_operators.specs.declared.scalar.Scalar.TheVariants.{Int, Bool as Truth}
-use Rattle.flow_base.specs.Along.{MovesAlong, shown_signals}
+use Rattle.snesl_data.specs.declared.operators.operator.UnaryOperator.{UnaryOperator}
+use Rattle.snesl_data.specs.declared.operators.scalar.Scalar.TheVariants.{Int, Bool as Truth}
+use Rattle.flow_base.specs.Along.{MovesAlong}
 use Rattle.flow_base.specs.declared.slices.Moved.{Moved}
 use Rattle.flow_base.specs.declared.slices.Written.{Written}
 use Rattle.flow_base.proofs.Along.{moved_nothing, single_ran}
@@ -12,6 +12,7 @@ use Rattle.flow_scalar.proofs.Leading.{nothing}
 use Rattle.flow_scalar.proofs.UnaryBlocks.{block, flags_written, ints_written}
 use Rattle.flow_scalar.proofs.ValueBlocks.{values_said}
 use Rattle.flow_scalar.proofs.unary.UnaryWorker.along.Goals as goal
+use Rattle.flow_messages.specs.Blocks.{item_signals}
 
 -- it moved nothing
 pub returns-then-is_some : goal.returns-then-is_some
@@ -36,8 +37,8 @@ returns-in-Ints c =
     let values = c.ints_of-count.ensures in
     let written : Written = record { flags = c.args.block.now.flags; ints = zs } in
     let made : Moved = record { first = count; second = 0; units = 0; flags = 0; ints = count; steps = 2 * count } in
-    let all : length (shown_signals first) ≡ length xs = ap (λ s. length (shown_signals s)) c.in-Ints.is ∙ length_ints xs in
-    let firsts : values_said Int (take count xs) ≡ take count (shown_signals first) = sym (take_ints count xs) ∙ ap (λ s. take count (shown_signals s)) (sym c.in-Ints.is) in
+    let all : length (item_signals first) ≡ length xs = ap (λ s. length (item_signals s)) c.in-Ints.is ∙ length_ints xs in
+    let firsts : values_said Int (take count xs) ≡ take count (item_signals first) = sym (take_ints count xs) ∙ ap (λ s. take count (item_signals s)) (sym c.in-Ints.is) in
     let ran = single_ran m p (values_said Int (take count xs)) [] (values_said Int (take count zs))
     (block n.dialect n.operator Int (pos 0) xs zs count values.operands values.block values.values) first second written made refl firsts refl
     (ints_written n.dialect n.operator xs zs c.args.block.now.flags count values.values) refl in
@@ -67,8 +68,8 @@ returns-in-Flags c =
     let values = c.flags_of-count.ensures in
     let written : Written = record { flags = zs; ints = c.args.block.now.ints } in
     let made : Moved = record { first = count; second = 0; units = 0; flags = count; ints = 0; steps = 2 * count } in
-    let all : length (shown_signals first) ≡ length xs = ap (λ s. length (shown_signals s)) c.in-Flags.is ∙ length_flags xs in
-    let firsts : values_said Truth (take count xs) ≡ take count (shown_signals first) = sym (take_flags count xs) ∙ ap (λ s. take count (shown_signals s)) (sym c.in-Flags.is) in
+    let all : length (item_signals first) ≡ length xs = ap (λ s. length (item_signals s)) c.in-Flags.is ∙ length_flags xs in
+    let firsts : values_said Truth (take count xs) ≡ take count (item_signals first) = sym (take_flags count xs) ∙ ap (λ s. take count (item_signals s)) (sym c.in-Flags.is) in
     let ran = single_ran m p (values_said Truth (take count xs)) [] (values_said Truth (take count zs))
     (block n.dialect n.operator Truth false xs zs count values.operands values.block values.values) first second written made refl firsts refl
     (flags_written n.dialect n.operator xs zs c.args.block.now.ints count values.values) refl in

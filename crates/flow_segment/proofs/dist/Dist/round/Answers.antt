@@ -1,9 +1,10 @@
 use Rattle.std.proofs.Common.{◌≡◌, ◌+◌, ◌*◌, ◌<◌, suc, true, false, [], ◌∷◌, ◌++◌, length, take, sym, ◌∙◌, ap, subst, arith}
 use Rattle.std.specs.Prelude.{replicate}
 use Rattle.flow_messages.specs.Cells.{cell_of, flag}
-use Rattle.flow_messages.specs.Blocks.{flag_signals}
+use Rattle.flow_messages.specs.Blocks.{flag_signals, item_signals}
 use Rattle.flow_messages.specs.Signals.{carry}
 use Rattle.flow_messages.specs.Kinds.{TakesKind}
+use Rattle.flow_messages.proofs.Blocks.{prefix_then}
 use Rattle.flow_messages.proofs.Fitting.{kind_fits}
 use Rattle.flow_base.specs.Nodes.{behaviour_of, node_state}
 use Rattle.flow_base.specs.Visits.{edge_of, Went}
@@ -56,6 +57,7 @@ returns-then-ends_at-clause-went g c =
     let v = view c.space.new.self in
     let w = view c.skip.new.self in
     let z = view c.put_copies.new.ends in
+    let seen = prefix_then (flag_signals xs) (item_signals c.shown.result) (v.coming (edge_of ins 1)) c.flags-shown.ensures c.shown.ensures in
     let reads : 1 < length ins = omega (arith, c.requires.wired.each_input) in
     let writes : 0 < length outs = omega (arith, c.requires.wired.each_output) in
     let within : n < length xs = c.ends_at.ensures.shown c.if-ends_at.true in
@@ -63,7 +65,7 @@ returns-then-ends_at-clause-went g c =
     let flags = flag_signals (replicate n false) ++ carry (flag true) ∷ [] in
     let block : take (n + 1) (flag_signals xs) ≡ flags = take_flags (n + 1) xs ∙ ap (λ k. flag_signals (take k xs)) next
     ∙ segment_block n xs within c.elements_ahead-count.ensures.ahead (c.ends_at.ensures.ends c.if-ends_at.true) in
-    let taken = skipped (n + 1) (flag_signals xs) flags v (edge_of ins 1) w c.flags-shown.ensures (omega (arith, length_flags xs)) block c.skip.ensures.taken in
+    let taken = skipped (n + 1) (flag_signals xs) flags v (edge_of ins 1) w seen (omega (arith, length_flags xs)) block c.skip.ensures.taken in
     λ at.
     let went = copies_went ins outs m.kind at x flags n reads writes a v w z c.space.ensures.looked (segment_rounds ins outs m.kind at x n) (omega arith) taken c.put_copies.ensures.put in
     subst (λ q. Went ins outs b (node_state (m.kind, q) Working at) a (node_state (m.kind, at_start) Working at) z (2 * n + 1))
@@ -84,12 +86,13 @@ returns-clause-went g c =
     let v = view c.space.new.self in
     let w = view c.skip-2.new.self in
     let z = view c.put_copies-2.new.ends in
+    let seen = prefix_then (flag_signals xs) (item_signals c.shown.result) (v.coming (edge_of ins 1)) c.flags-shown.ensures c.shown.ensures in
     let reads : 1 < length ins = omega (arith, c.requires.wired.each_input) in
     let writes : 0 < length outs = omega (arith, c.requires.wired.each_output) in
     let made = c.elements_ahead-count.ensures in
     let flags = flag_signals (replicate n false) in
     let block : take n (flag_signals xs) ≡ flags = take_flags n xs ∙ ap flag_signals (same_block false true n xs made.shown made.ahead) in
-    let taken = skipped n (flag_signals xs) flags v (edge_of ins 1) w c.flags-shown.ensures (omega (arith, length_flags xs, made.shown)) block c.skip-2.ensures.taken in
+    let taken = skipped n (flag_signals xs) flags v (edge_of ins 1) w seen (omega (arith, length_flags xs, made.shown)) block c.skip-2.ensures.taken in
     λ at.
     let went = copies_went ins outs m.kind at x flags n reads writes a v w z c.space.ensures.looked (copies_rounds ins outs m.kind at x n)
     (omega (arith, c.if-count-eq0.false)) taken c.put_copies-2.ensures.put in

@@ -1,8 +1,8 @@
 use Rattle.std.proofs.Common.{◌≡◌, ◌+◌, ◌≤◌, ℕ, eqb, length, take, refl, sym, ◌∙◌, ap, arith, inl, inr}
 use Rattle.std.proofs.lemmas.Bool.{cases_eq}
 use Rattle.std.proofs.lemmas.List.{length-take-le}
-use Rattle.flow_messages.specs.Blocks.{flag_signals}
-use Rattle.flow_base.specs.Along.{shown_signals, written_at}
+use Rattle.flow_messages.specs.Blocks.{flag_signals, item_signals}
+use Rattle.flow_base.specs.Along.{written_at}
 use Rattle.flow_base.specs.declared.slices.Moved.{Moved}
 use Rattle.flow_base.specs.declared.slices.Written.{Written}
 use Rattle.flow_base.proofs.Along.{first_only, no_writes, nothing_said, only, ran_as}
@@ -28,10 +28,10 @@ returns g c =
     let in_first : ran.first ≤ length (flag_signals xs) = omega (arith, did.first, length_flags xs) in
     let in_second : ran.second ≤ length (flag_signals ys) = omega (arith, did.second, length_flags ys) in
     let in_block : ran.written ≤ length zs = omega (arith, did.written, did.block, c.room_in-room.ensures.within, c.requires) in
-    let firsts : flag_signals (take ran.first xs) ≡ take ran.first (shown_signals first) = sym (take_flags ran.first xs)
-    ∙ sym (shown (flag_signals xs) (shown_signals first) ran.first c.flags-firsts.ensures in_first) in
-    let seconds : flag_signals (take ran.second ys) ≡ take ran.second (shown_signals second) = sym (take_flags ran.second ys)
-    ∙ sym (shown (flag_signals ys) (shown_signals second) ran.second c.flags-seconds.ensures in_second) in
+    let firsts : flag_signals (take ran.first xs) ≡ take ran.first (item_signals first) = sym (take_flags ran.first xs)
+    ∙ sym (shown (flag_signals xs) (item_signals first) ran.first c.flags-firsts.ensures in_first) in
+    let seconds : flag_signals (take ran.second ys) ≡ take ran.second (item_signals second) = sym (take_flags ran.second ys)
+    ∙ sym (shown (flag_signals ys) (item_signals second) ran.second c.flags-seconds.ensures in_second) in
     let written : (q : ℕ) → only (flag_signals (take ran.written zs)) q ≡ written_at m tt block made q = λ q. elim (cases_eq t.outputs 1) [
       | inl one ↦ first_only m tt block made (flag_signals (take ran.written zs)) one refl q
       | inr other ↦ (let none : ran.written ≡ 0 = omega (arith, did.written, c.room_in-room.ensures.none other) in
@@ -41,12 +41,12 @@ returns g c =
     omega (arith, length-take-le ran.first xs did.first, length-take-le ran.second ys did.second, length-take-le ran.written zs in_block) in
     record {
       within = record {
-        first = omega (arith, in_first, prefix_long (flag_signals xs) (shown_signals first) c.flags-firsts.ensures);
-        second = omega (arith, in_second, prefix_long (flag_signals ys) (shown_signals second) c.flags-seconds.ensures);
+        first = omega (arith, in_first, prefix_long (flag_signals xs) (item_signals first) c.flags-firsts.ensures);
+        second = omega (arith, in_second, prefix_long (flag_signals ys) (item_signals second) c.flags-seconds.ensures);
         units = omega arith;
         flags = omega (arith, did.written, c.room_in-room.ensures.within);
         ints = omega arith;
         steps = did.within;
       };
-      ran = ran_as m tt did.ran (take ran.first (shown_signals first)) (take ran.second (shown_signals second)) (written_at m tt block made) made.steps firsts seconds written steps;
+      ran = ran_as m tt did.ran (take ran.first (item_signals first)) (take ran.second (item_signals second)) (written_at m tt block made) made.steps firsts seconds written steps;
     }

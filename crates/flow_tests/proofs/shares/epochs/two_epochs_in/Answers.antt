@@ -1,6 +1,6 @@
 use Rattle.std.proofs.Common.{◌≡◌, sym, subst, rules}
-use Rattle.flow_meetings.specs.SharedNetworks.{AreFed}
-use Rattle.flow_rounds.specs.Epochs.{AreOfOneGraph}
+use Rattle.flow_shares.specs.meetings.SharedNetworks.{AreFed}
+use Rattle.flow_drives.specs.loops.Epochs.{AreOfOneGraph}
 use Rattle.flow_drives.specs.Dealings.{network_under}
 use Rattle.flow_tests.proofs.shares.epochs.two_epochs_in.Goals as goal
 

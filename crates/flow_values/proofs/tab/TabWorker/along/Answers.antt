@@ -4,7 +4,8 @@ use Rattle.snesl_data.specs.Builders.{built_in}
 use Rattle.snesl_data.specs.Types.{Ty, ty_of}
 use Rattle.snesl_data.specs.Values.{Value, values_of}
 use Rattle.flow_messages.specs.Cells.{cell_of}
-use Rattle.flow_base.specs.Along.{MovesAlong, shown_signals}
+use Rattle.flow_messages.specs.Blocks.{item_signals}
+use Rattle.flow_base.specs.Along.{MovesAlong}
 use Rattle.flow_base.proofs.Along.{moved_nothing}
 use Rattle.flow_values.specs.Shapes.{all_are}
 use Rattle.flow_values.specs.TabMachine.{TabState, tab_machine, tab_state}
@@ -28,7 +29,7 @@ returns-then-added-eq0 c =
     let block = c.args.block.now in
     let before : Ty × TabState = (ty_of old.element, tab_state old.stage (built_in old.elements) (map cell_of old.items.items)) in
     let after : List Value → Ty × TabState = λ es. (ty_of self.element, tab_state self.stage es (map cell_of self.items.items)) in
-    let none = nothing_added (ty_of self.element) (shown_signals second) push.result (built_in self.elements) (built_in push.new.elements) c.if-added-eq0.true push.ensures.added in
+    let none = nothing_added (ty_of self.element) (item_signals second) push.result (built_in self.elements) (built_in push.new.elements) c.if-added-eq0.true push.ensures.added in
     let same : after (built_in push.new.elements) ≡ before = ap after none ∙ c.awaits_flag.ensures.same in
     let still = moved_nothing tab_machine before first second space most block made.result made.ensures in
     subst (λ s. MovesAlong tab_machine before s first second space most block made.result) (sym same) still

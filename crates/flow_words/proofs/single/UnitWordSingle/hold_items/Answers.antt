@@ -3,4 +3,4 @@ use Rattle.flow_words.proofs.Coming.{come_as}
 use Rattle.flow_words.proofs.single.UnitWordSingle.hold_items.Goals as goal
 
 pub returns-clause-held : goal.returns-clause-held
-returns-clause-held c = λ _. come_as _ _ _ _ (sym (c.if-not-are_units.ensures (search rules))) c.push_units.ensures
+returns-clause-held c = λ _. come_as _ _ _ _ (sym (c.if-not-are_units.ensures (search rules))) c.push_all.ensures

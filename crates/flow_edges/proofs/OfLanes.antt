@@ -1,0 +1,14 @@
+pub mod Lists
+pub mod Came
+pub mod InTurn
+pub mod Followed
+pub mod Beside
+pub mod GathersMany
+pub mod Owing
+pub mod Drained
+pub mod Told
+pub mod Settled
+pub mod RingLines
+pub mod InPlace
+pub mod Meetings
+pub mod Sends

@@ -1,0 +1,10 @@
+pub mod Decoding
+pub mod Edges
+pub mod Encoded
+pub mod FlagRows
+pub mod Mapped
+pub mod Options
+pub mod ScalarRows
+pub mod SegmentRows
+pub mod ValueDecoding
+pub mod ValueRows

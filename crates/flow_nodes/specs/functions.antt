@@ -1,0 +1,4 @@
+pub mod Decoded
+pub mod Lists
+pub mod Made
+pub mod RowsAreFunctions

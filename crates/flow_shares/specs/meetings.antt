@@ -1,0 +1,13 @@
+pub mod Met
+pub mod BoxMeetings
+pub mod RingMeetings
+pub mod Joints
+pub mod RoundTheorems
+pub mod EndTheorems
+pub mod Deals
+pub mod Everywhere
+pub mod Open
+pub mod Opens
+pub mod BoxOpenings
+pub mod RingOpenings
+pub mod SharedNetworks
