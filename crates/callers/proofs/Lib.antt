@@ -1,3 +1,4 @@
+pub mod OfStrangers
 mod Checked
 mod Passing
 mod Running

@@ -1,5 +1,7 @@
 -- How a network came out that was driven until no node could step.
 use Rattle.std.specs.Prelude.{◌≡◌, ◌++◌, ℕ, List, Some}
+use Rattle.flow_drive.specs.Config.{Config}
+use Rattle.flow_drive.specs.Drive.TheVariants.{Rings}
 use Rattle.flow_drive.specs.Starts.{each_again}
 use Rattle.flow_graph.specs.Configurations.{Configuration, IsSound}
 use Rattle.flow_graph.specs.Networks.{network_of}
@@ -20,3 +22,7 @@ pub record CameOutAs {S : Type 0} (b : Behaviour S) (states : List S) (edges : L
 -- a start was asked for so many threads in turn, as often as there were epochs
 abbrev pub AskedInTurn : (threads : ℕ) → (before after : List ℕ) → Type 0
 AskedInTurn threads before after = (epochs : ℕ) × (after ≡ before ++ each_again epochs threads)
+
+-- so it was where each edge is a ring: for the threads of the configuration
+abbrev pub AskedByRings : Config → (before after : List ℕ) → Type 0
+AskedByRings config before after = config.drive ≡ Rings → AskedInTurn config.threads before after

@@ -1,3 +1,4 @@
+pub mod strangers
 pub mod Values
 pub mod Types
 pub mod Flatten

@@ -1,11 +1,10 @@
 // Networks that run in threads.
-ghost use Rattle.std.specs.Prelude.{◌≡◌, ◌⊎◌, [], true, false, Err, IfErr, IfOk};
-ghost use Rattle.flow_drive.specs.Drive.TheVariants.{Rings};
+ghost use Rattle.std.specs.Prelude.{◌≡◌, ◌⊎◌, [], true, false, Err, IfErr, IfOk, OnOk};
 ghost use Rattle.flow_drive.specs.DriveError.TheVariants.{NoMemory, NoThread};
 ghost use Rattle.flow_drive.specs.StreamNodes.{node_behaviour};
 ghost use Rattle.flow_graph.specs.Graphs.{states_of, edges_of};
 ghost use Rattle.flow_graph.specs.Networks.{AreOpened};
-ghost use Rattle.callers.specs.Drive.{CameOutAs, AskedInTurn};
+ghost use Rattle.callers.specs.Drive.{AskedByRings, CameOutAs};
 
 use flow_drive::{
     Config, Drive, DriveError, History, NoGate, Outcome, Start, drive, drive_with, rested_is_sound,
@@ -92,8 +91,7 @@ pub fn outcome_of_some_starts(
     start: &mut SomeStarts,
 ) -> Result<Outcome, DriveError>
     requires { AreOpened node_behaviour (states_of graph) }
-    ensures asked { IfOk result (λ _. config.now.drive ≡ Rings →
-        AskedInTurn config.now.threads start.old.asked.items start.new.asked.items) }
+    ensures asked { OnOk result (AskedByRings config.now start.old.asked.items start.new.asked.items) }
     ensures refused { start.new.said_no ≡ true →
         (start.old.said_no ≡ true) ⊎ (result ≡ Err NoThread) }
 {

@@ -12,6 +12,7 @@ pub mod plans;
 pub mod run;
 pub mod scalar;
 pub mod segment;
+pub mod strangers;
 pub mod syntax;
 pub mod types;
 pub mod values;

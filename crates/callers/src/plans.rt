@@ -1,9 +1,8 @@
 // Programs that are kept with their types and their plans.
-ghost use Rattle.std.specs.Prelude.{◌≡◌, All, IfOk, length, vec_len};
-ghost use Rattle.std.specs.List.{zip};
-ghost use Rattle.snesl_flatten.specs.Graphs.{states_of, edges_of};
+ghost use Rattle.std.specs.Prelude.{◌≡◌, IfOk, length, vec_len};
+ghost use Rattle.snesl_flatten.specs.GraphsOfPlans.{HoldsOfGraph};
 ghost use Rattle.snesl_flatten.specs.PlanViews.{plan_typed};
-ghost use Rattle.callers.specs.Flatten.{IsNetworkOf, IsNetworkOfTyped};
+ghost use Rattle.callers.specs.Flatten.{HoldsOfEach, IsNetworkOf, IsNetworkOfTyped};
 
 use flow_graph::Graph;
 use snesl_flatten::{Plan, flatten};
@@ -15,8 +14,7 @@ use std::alloc::Global;
 /// The network of a plan, with the values that an input text gives in its sources. A refusal is that of
 /// the input text, or want of memory.
 pub fn network_of_plan(alloc: Global, plan: Plan, input: &[u8]) -> Result<Graph, Refusal>
-    ensures { IfOk result (λ graph.
-        IsNetworkOfTyped (plan_typed plan.entry) input.now (states_of graph) (edges_of graph)) }
+    ensures { IfOk result (HoldsOfGraph (IsNetworkOfTyped (plan_typed plan.entry) input.now)) }
 {
     let typed = plan.typed();
     let inputs = read_inputs(typed.dialect(), alloc, typed.decls(), input)?;
@@ -28,9 +26,7 @@ pub fn network_of_plan(alloc: Global, plan: Plan, input: &[u8]) -> Result<Graph,
 /// A refusal is that of the program, or else of the first input text that has one.
 pub fn networks_of(alloc: Global, text: &[u8], inputs: &[Vec<u8>]) -> Result<Vec<Graph>, Refusal>
     ensures count { IfOk result (λ graphs. vec_len graphs ≡ length inputs.now) }
-    ensures each { IfOk result (λ graphs. All
-        (λ pair. IsNetworkOf text.now pair.0.items (states_of pair.1) (edges_of pair.1))
-        (zip inputs.now graphs.items)) }
+    ensures each { IfOk result (HoldsOfEach (IsNetworkOf text.now) inputs.now) }
 {
     let program = parse(alloc, text)?;
     let typed = check(alloc, &program)?;

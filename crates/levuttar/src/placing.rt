@@ -3,7 +3,7 @@
 use crate::reading::Job;
 use crate::voice::Voice;
 use snesl_data::Refusal;
-use snesl_findings::place_of;
+use snesl_look::findings::place_of;
 use snesl_look::{Position, position_of};
 use std::alloc::{AllocError, Global};
 use std::io::Write;

@@ -1,7 +1,7 @@
 // What is said on standard error.
 
-use snesl_console::send;
 use snesl_data::Counted;
+use snesl_run::console::send;
 use std::cell::Cell;
 use std::io::Write;
 

@@ -1,8 +1,8 @@
 // A line that says that a run goes on.
 
 use clap::{Arg, ArgAction, ArgMatches};
-use snesl_console::send;
 use snesl_data::{Counted, Refusal};
+use snesl_run::console::send;
 use snesl_run::{Config, Gate, Report, RunError, run};
 use std::alloc::Global;
 use std::io::Write;

@@ -1,8 +1,8 @@
 // Answers the job on standard input.
 #![tactic(auto)]
 
-use snesl_console::{complain, send};
 use snesl_data::{Counted, Refusal};
+use snesl_run::console::{complain, send};
 use snesl_run::{answer, settings};
 use std::alloc::{AllocError, Global};
 use std::env::{self, FillError};

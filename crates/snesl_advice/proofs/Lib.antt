@@ -1,2 +1,4 @@
+pub mod OfCulprits
+pub mod OfReach
 mod Advised
 mod Made

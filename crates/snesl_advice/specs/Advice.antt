@@ -5,7 +5,7 @@ use Rattle.snesl_data.specs.declared.refusal.Refusal.TheVariants.{Lex, Syntax, N
 use Rattle.snesl_grammar.specs.declared.program.Program.{Program}
 use Rattle.snesl_grammar.specs.View.{program_of}
 use Rattle.snesl_types.specs.Clashes.{Clash, ProgramClashes}
-use Rattle.snesl_culprits.specs.Culprits.{BeginsOne, IsCulpritOf}
+use Rattle.snesl_advice.specs.culprits.Culprits.{BeginsOne, IsCulpritOf}
 use Rattle.snesl_look.specs.Messages.{IsRefusalMessage, refusal_message}
 use Rattle.snesl_advice.specs.declared.refusals.Advice.{Advice}
 use Rattle.snesl_advice.specs.Told.{IsToldAt, IsToldOfInput, shown_place}
@@ -19,6 +19,10 @@ IsToldOfRefusal (Mismatch at) program input message = IsToldAt program at messag
 IsToldOfRefusal (Streamed at) program input message = IsToldAt program at message
 IsToldOfRefusal (BadInput at) program input message = IsToldOfInput input at message
 IsToldOfRefusal refusal program input message = IsRefusalMessage refusal program input message
+
+-- so has the message of this advice, at the refusal that it shows
+abbrev pub TellsOfRefusal : (program input : List ℕ) → Advice → Type 0
+TellsOfRefusal program input advice = IsToldOfRefusal advice.shown program input advice.message.items
 
 -- the message of types that do not fit at the offset has its caret at the place
 pub data IsToldOfMismatch (text : List ℕ) (at : ℕ) (message : List ℕ) : (place : ℕ) → Type 0 where

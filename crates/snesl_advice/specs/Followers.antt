@@ -1,7 +1,7 @@
 -- What a program may go on with.
 use Rattle.std.specs.Prelude.{ℕ, ◌++◌, ◌⊎◌, List, Ok, Err, codes, length, take}
 use Rattle.snesl_data.specs.declared.refusal.Refusal.TheVariants.{Syntax}
-use Rattle.snesl_tree.specs.Tree.{ProgramTree}
+use Rattle.snesl_grammar.specs.tree.Tree.{ProgramTree}
 use Rattle.snesl_syntax.specs.Parse.{Parses}
 use Rattle.snesl_advice.specs.declared.following.Follower.{Follower}
 use Rattle.snesl_advice.specs.declared.following.Follower.TheVariants as next

@@ -1,3 +1,5 @@
+pub mod culprits
+pub mod reach
 pub mod Advice
 pub mod Brackets
 pub mod Followers

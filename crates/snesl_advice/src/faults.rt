@@ -1,7 +1,7 @@
 // What is said of a fault.
 
 ghost use Rattle.std.specs.Prelude.{IfOk};
-ghost use Rattle.snesl_advice.specs.Told.{IsToldAt};
+ghost use Rattle.snesl_advice.specs.Told.{IsAdviceAt};
 
 use crate::telling::tell;
 use crate::tokens::quoted;
@@ -17,7 +17,7 @@ pub fn noted_fault_message(
     program: &[u8],
     note: Vec<u8>,
 ) -> Result<Vec<u8>, AllocError>
-    ensures { IfOk result (λ message. IsToldAt program.now fault.at message.items) }
+    ensures { IfOk result (IsAdviceAt program.now fault.at) }
 {
     let mut notes = Vec::new(alloc);
     notes.push(note)?;

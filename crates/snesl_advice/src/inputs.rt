@@ -1,7 +1,7 @@
 // What is said of an input text that is not as the program declares its inputs.
 
 ghost use Rattle.std.specs.Prelude.{◌≤◌, IfOk, length};
-ghost use Rattle.snesl_advice.specs.Told.{IsToldOfInput};
+ghost use Rattle.snesl_advice.specs.Told.{IsAdviceOnInput};
 
 use crate::telling::tell_of_input;
 use crate::tokens::{
@@ -24,7 +24,7 @@ pub fn input_message(
     input: &[u8],
     at: usize,
 ) -> Result<Vec<u8>, AllocError>
-    ensures { IfOk result (λ message. IsToldOfInput input.now at message.items) }
+    ensures { IfOk result (IsAdviceOnInput input.now at) }
 {
     let within = at.min(input.len());
     let number = semicolons(&input[..within]);
@@ -58,7 +58,7 @@ fn end_message(
     at: usize,
     number: usize,
 ) -> Result<Vec<u8>, AllocError>
-    ensures { IfOk result (λ message. IsToldOfInput input.now at message.items) }
+    ensures { IfOk result (IsAdviceOnInput input.now at) }
 {
     let mut notes = Vec::new(alloc);
     for further in 0..MOST_TOLD {

@@ -1,7 +1,7 @@
 // What is said where no token begins.
 
 ghost use Rattle.std.specs.Prelude.{IfOk};
-ghost use Rattle.snesl_advice.specs.Told.{IsToldAt};
+ghost use Rattle.snesl_advice.specs.Told.{IsAdviceAt};
 
 use crate::habits::habit_at;
 use crate::telling::tell;
@@ -11,7 +11,7 @@ use std::alloc::{AllocError, Global};
 /// What is said where no token begins: of an integer that it is too great, and of another character that it is none of the
 /// language. The offset counts bytes of the program from 0. The error is that memory was refused.
 pub fn lexical_message(alloc: Global, program: &[u8], at: usize) -> Result<Vec<u8>, AllocError>
-    ensures { IfOk result (λ message. IsToldAt program.now at message.items) }
+    ensures { IfOk result (IsAdviceAt program.now at) }
 {
     let within = at.min(program.len());
     let rest = &program[within..];
@@ -35,7 +35,7 @@ pub fn lexical_message(alloc: Global, program: &[u8], at: usize) -> Result<Vec<u
 
 // Of an integer that is too great.
 fn great_integer(alloc: Global, program: &[u8], at: usize) -> Result<Vec<u8>, AllocError>
-    ensures { IfOk result (λ message. IsToldAt program.now at message.items) }
+    ensures { IfOk result (IsAdviceAt program.now at) }
 {
     let (sentence, hint): (&[u8], &[u8]) = if names_dialect(program) {
         (

@@ -3,6 +3,7 @@
 #![tactic(auto)]
 
 pub mod brackets;
+pub mod culprits;
 mod faults;
 pub mod following;
 pub mod habits;
@@ -11,6 +12,7 @@ pub mod lexemes;
 pub mod mismatches;
 pub mod names;
 mod near;
+pub mod reach;
 mod refusals;
 pub mod streams;
 pub mod syntax;

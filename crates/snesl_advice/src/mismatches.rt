@@ -1,7 +1,7 @@
 // What is said of types that do not fit.
 
 ghost use Rattle.std.specs.Prelude.{IfOk};
-ghost use Rattle.snesl_advice.specs.Told.{IsToldAt};
+ghost use Rattle.snesl_advice.specs.Told.{IsAdviceAt};
 
 use crate::telling::tell;
 use crate::tokens::{quoted, token_at};
@@ -74,7 +74,7 @@ pub fn mismatch_message(
     clash: &Clash,
     place: usize,
 ) -> Result<Vec<u8>, AllocError>
-    ensures { IfOk result (λ message. IsToldAt program.now place message.items) }
+    ensures { IfOk result (IsAdviceAt program.now place) }
 {
     let found = token_at(program, at.min(program.len()));
     let mut notes = Vec::new(alloc);

@@ -1,7 +1,7 @@
 // What is said of names that are not bound, or bound twice.
 
 ghost use Rattle.std.specs.Prelude.{◌≤◌, IfOk, length};
-ghost use Rattle.snesl_advice.specs.Told.{IsToldAt};
+ghost use Rattle.snesl_advice.specs.Told.{IsAdviceAt};
 
 use crate::habits::habit_of_name;
 use crate::near::near_name;
@@ -15,7 +15,7 @@ use std::alloc::{AllocError, Global};
 /// What is said of a name that is not bound, or that is bound twice: which of the two it is, and what may help. The offset
 /// counts bytes of the program from 0. The error is that memory was refused.
 pub fn name_message(alloc: Global, program: &Program, at: usize) -> Result<Vec<u8>, AllocError>
-    ensures { IfOk result (λ message. IsToldAt program.now.text.items at message.items) }
+    ensures { IfOk result (IsAdviceAt program.now.text.items at) }
 {
     let text = program.text.as_slice();
     let within = at.min(text.len());

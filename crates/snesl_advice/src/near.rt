@@ -2,12 +2,12 @@
 
 ghost use Rattle.std.specs.Prelude.{◌<◌, ◌≤◌, length};
 
+use crate::reach::{Candidates, candidates_at};
 use crate::tokens::{BUILT_INS, begins_word, is_among, stands_in};
 use snesl_data::word_len;
 use snesl_grammar::Program;
+use snesl_grammar::tree::Span;
 use snesl_look::{near_name as near_anywhere, nearest_of};
-use snesl_reach::{Candidates, candidates_at};
-use snesl_tree::Span;
 use std::alloc::{AllocError, Global};
 
 // The candidate that is meant by a name at a place, or else another one of the program, if one is.

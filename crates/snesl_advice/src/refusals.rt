@@ -3,9 +3,10 @@
 ghost use Rattle.std.specs.Prelude.{IfOk};
 ghost use Rattle.snesl_grammar.specs.View.{program_of};
 ghost use Rattle.snesl_types.specs.Clashes.{ProgramClashes, clash_of};
-ghost use Rattle.snesl_advice.specs.Advice.{IsMismatchAdvice, IsShown, IsToldOfRefusal};
-ghost use Rattle.snesl_advice.specs.Told.{IsToldAt};
+ghost use Rattle.snesl_advice.specs.Advice.{IsMismatchAdvice, IsShown, TellsOfRefusal};
+ghost use Rattle.snesl_advice.specs.Told.{IsAdviceAt};
 
+use crate::culprits::culprit_of;
 use crate::inputs::input_message;
 use crate::lexemes::lexical_message;
 use crate::mismatches::mismatch_message;
@@ -13,7 +14,6 @@ use crate::names::name_message;
 use crate::streams::streamed_message;
 use crate::syntax::{shown_place, syntax_message};
 use crate::telling::tell;
-use snesl_culprits::culprit_of;
 use snesl_data::Refusal;
 use snesl_grammar::Program;
 use snesl_look::{refusal_message, refusal_sentence};
@@ -40,8 +40,7 @@ pub fn advice_on(
     program: &[u8],
     input: &[u8],
 ) -> Result<Advice, AllocError>
-    ensures told { IfOk result (λ advice.
-        IsToldOfRefusal advice.shown program.now input.now advice.message.items) }
+    ensures told { IfOk result (TellsOfRefusal program.now input.now) }
     ensures shown { IfOk result (IsShown refusal program.now) }
 {
     match refusal {
@@ -118,7 +117,7 @@ fn plain_advice(alloc: Global, program: &[u8], at: usize) -> Result<Advice, Allo
 
 // What is said of a name; of one in what is no program it is the sentence alone.
 fn name_advice(alloc: Global, program: &[u8], at: usize) -> Result<Vec<u8>, AllocError>
-    ensures { IfOk result (λ message. IsToldAt program.now at message.items) }
+    ensures { IfOk result (IsAdviceAt program.now at) }
 {
     match parse(alloc, program) {
         Ok(parsed) => name_message(alloc, &parsed, at),

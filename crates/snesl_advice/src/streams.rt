@@ -1,7 +1,7 @@
 // What is said where a sequence stands and only a value in memory may stand.
 
 ghost use Rattle.std.specs.Prelude.{IfOk};
-ghost use Rattle.snesl_advice.specs.Told.{IsToldAt};
+ghost use Rattle.snesl_advice.specs.Told.{IsAdviceAt};
 
 use crate::telling::tell;
 use crate::tokens::{quoted, token_at};
@@ -14,7 +14,7 @@ const TAKE_THE_VECTOR: &[u8] =
 /// name that it is bound outside of the comprehension. The offset counts bytes of the program from 0. The error is that memory was
 /// refused.
 pub fn streamed_message(alloc: Global, program: &[u8], at: usize) -> Result<Vec<u8>, AllocError>
-    ensures { IfOk result (λ message. IsToldAt program.now at message.items) }
+    ensures { IfOk result (IsAdviceAt program.now at) }
 {
     let found = token_at(program, at.min(program.len()));
     match found {

@@ -1,7 +1,7 @@
 // What is said of a program that is no program.
 
 ghost use Rattle.std.specs.Prelude.{◌≡◌, ◌≤◌, IfOk, length};
-ghost use Rattle.snesl_advice.specs.Told.{IsToldAt, shown_place};
+ghost use Rattle.snesl_advice.specs.Told.{IsAdviceAt, shown_place};
 
 use crate::brackets::open_bracket;
 use crate::following::{Follower, followers};
@@ -17,8 +17,7 @@ use std::alloc::{AllocError, Global};
 /// What is said of a program that a token ends, or that ends too early: what stands there; what could stand there; which bracket
 /// is open, and since where; and what may help. The error is that memory was refused.
 pub fn syntax_message(alloc: Global, program: &[u8], at: usize) -> Result<Vec<u8>, AllocError>
-    ensures { IfOk result (λ message.
-        IsToldAt program.now (shown_place program.now at) message.items) }
+    ensures { IfOk result (IsAdviceAt program.now (shown_place program.now at)) }
 {
     let place = shown_place(program, at);
     let at = at.min(program.len());

@@ -1,7 +1,7 @@
 // What is told at a place of a text.
 
 ghost use Rattle.std.specs.Prelude.{IfOk};
-ghost use Rattle.snesl_advice.specs.Told.{IsToldAt, IsToldOf, IsToldOfInput};
+ghost use Rattle.snesl_advice.specs.Told.{IsAdviceAt, IsAdviceOnInput, IsToldOf};
 
 use snesl_look::noted_message;
 use std::alloc::{AllocError, Global};
@@ -15,7 +15,7 @@ pub(crate) fn tell(
     notes: &[Vec<u8>],
     hint: &[u8],
 ) -> Result<Vec<u8>, AllocError>
-    ensures { IfOk result (λ message. IsToldAt program.now place message.items) }
+    ensures { IfOk result (IsAdviceAt program.now place) }
 {
     tell_of(alloc, program, place, "", sentence, notes, hint)
 }
@@ -29,7 +29,7 @@ pub(crate) fn tell_of_input(
     notes: &[Vec<u8>],
     hint: &[u8],
 ) -> Result<Vec<u8>, AllocError>
-    ensures { IfOk result (λ message. IsToldOfInput input.now place message.items) }
+    ensures { IfOk result (IsAdviceOnInput input.now place) }
 {
     tell_of(
         alloc,

@@ -1,7 +1,7 @@
 // The words and signs of a program.
 
-ghost use Rattle.std.specs.Prelude.{◌≡◌, ◌++◌, ◌≤◌, IfOk, codes, length};
-ghost use Rattle.snesl_advice.specs.Told.{length_without_blanks};
+ghost use Rattle.std.specs.Prelude.{◌≡◌, ◌≤◌, IfOk, length};
+ghost use Rattle.snesl_advice.specs.Told.{in_quotes, length_without_blanks};
 
 use snesl_data::{is_blank, word_len};
 use std::alloc::{AllocError, Global};
@@ -59,8 +59,7 @@ pub(crate) fn quoted(
     text: &[u8],
     after: &[u8],
 ) -> Result<Vec<u8>, AllocError>
-    ensures { IfOk result (λ made. made.items
-        ≡ before.now ++ codes "`" ++ text.now ++ codes "`" ++ after.now) }
+    ensures { IfOk result (λ made. made.items ≡ in_quotes before.now text.now after.now) }
 {
     let mut made = Vec::new(alloc);
     made.extend_from_slice(before)?;

@@ -1,3 +1,4 @@
+pub mod OfOperators
 pub mod Data
 pub mod Places
 pub mod SameTypes

@@ -1,3 +1,4 @@
+pub mod operators
 pub mod Integers
 pub mod Types
 pub mod Values

@@ -13,6 +13,7 @@ pub mod dialect;
 pub mod elements;
 pub mod fault;
 pub mod numbers;
+pub mod operators;
 pub mod refusal;
 pub mod text;
 pub mod ty;

@@ -1,10 +1,10 @@
 -- Extents in lists, item by item.
 use Rattle.std.proofs.Common.{◌≡◌, ◌∙◌, ℕ, Bool, true, false, suc, ◌+◌, ◌<◌, ◌≤◌, List, [], ◌∷◌, map, drop, length, get_or, drop-cons, drop_of_length-le, Option, Some, None, refl, sym, ap, add-one}
 use Rattle.std.specs.Option.{is_some, option_or}
-use Rattle.snesl_tree.specs.declared.declaration.Declaration.{Declaration}
-use Rattle.snesl_tree.specs.declared.expr.Binder.{Binder}
-use Rattle.snesl_tree.specs.declared.expr.Expr.{Expr}
-use Rattle.snesl_tree.specs.View.{tree_of, trees_of, binders_of, declaration_of}
+use Rattle.snesl_grammar.specs.declared.tree.declaration.Declaration.{Declaration}
+use Rattle.snesl_grammar.specs.declared.tree.expr.Binder.{Binder}
+use Rattle.snesl_grammar.specs.declared.tree.expr.Expr.{Expr}
+use Rattle.snesl_grammar.specs.tree.View.{tree_of, trees_of, binders_of, declaration_of}
 use Rattle.snesl_draw.specs.Forms.{extent_among, extent_in, extent_in_declaration, extent_in_declarations, extent_in_sources}
 use Rattle.snesl_draw.specs.declared.extent.Extent.{Extent}
 

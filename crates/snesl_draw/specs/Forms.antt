@@ -1,15 +1,16 @@
 -- Which piece of a program a form is.
-use Rattle.std.specs.Prelude.{ℕ, zero, suc, ◌+◌, ◌-◌, List, [], ◌∷◌, ◌++◌, Bool, ◌==◌, ◌||◌, ◌&&◌, if◌then◌else◌, Option, Some, None, drop, fold, map}
+use Rattle.std.specs.Prelude.{◌≡◌, ℕ, zero, suc, ◌+◌, ◌-◌, List, [], ◌∷◌, ◌++◌, Bool, ◌==◌, ◌||◌, ◌&&◌, if◌then◌else◌, Option, Some, None, drop, fold, map}
 use Rattle.std.specs.List.{list_any, prefix_len}
 use Rattle.std.specs.Option.{option_or}
 use Rattle.snesl_data.specs.Characters.{is_word}
-use Rattle.snesl_tree.specs.declared.span.Span.{Span}
-use Rattle.snesl_tree.specs.Tree.{Tree, Trees, Binders, Condition, integer, truth, name, binary, prefix, call, apply, group, pair, binding, choice}
-use Rattle.snesl_tree.specs.Tree.{literal, filter, each, none, both, none_bound, binder, always, only_where, offset, DeclarationTree, declares_input}
-use Rattle.snesl_tree.specs.Tree.{declares_function}
-use Rattle.snesl_tree.specs.View.{tree_of, declaration_of}
+use Rattle.snesl_grammar.specs.declared.tree.span.Span.{Span}
+use Rattle.snesl_grammar.specs.tree.Tree.{Tree, Trees, Binders, Condition, integer, truth, name, binary, prefix, call, apply, group, pair, binding, choice}
+use Rattle.snesl_grammar.specs.tree.Tree.{literal, filter, each, none, both, none_bound, binder, always, only_where, offset, DeclarationTree, declares_input}
+use Rattle.snesl_grammar.specs.tree.Tree.{declares_function}
+use Rattle.snesl_grammar.specs.tree.View.{tree_of, declaration_of}
 use Rattle.snesl_grammar.specs.declared.program.Program.{Program}
-use Rattle.snesl_culprits.specs.Offsets.{first_offset}
+use Rattle.snesl_advice.specs.culprits.Offsets.{first_offset}
+use Rattle.snesl_draw.specs.declared.drawing.Drawing.{Drawing}
 use Rattle.snesl_draw.specs.declared.drawing.DrawnForm.{DrawnForm}
 use Rattle.snesl_draw.specs.declared.drawing.DrawnNode.{DrawnNode}
 use Rattle.snesl_draw.specs.declared.extent.Extent.{Extent}
@@ -162,3 +163,7 @@ one_more_form program forms node =
 
 abbrev pub forms_of : Program → List DrawnNode → List DrawnForm
 forms_of program nodes = fold (one_more_form program) [] nodes
+
+-- a drawing has the forms that its nodes come from
+abbrev pub HasForms : Program → Drawing → Type 0
+HasForms program drawing = drawing.forms.items ≡ forms_of program drawing.nodes.items

@@ -2,7 +2,7 @@
 use Rattle.std.specs.Prelude.{ℕ, ◌+◌, ◌/◌, ◌++◌, List, [], ◌∷◌, Bool, true, false, ◌==◌, nat_lt, if◌then◌else◌, Option, Some, None, codes, decimal, length, min, take}
 use Rattle.snesl_data.specs.Blanks.{is_blank}
 use Rattle.snesl_look.specs.Places.{column_of, line_of}
-use Rattle.snesl_tree.specs.Spelling.{spelling}
+use Rattle.snesl_grammar.specs.tree.Spelling.{spelling}
 use Rattle.snesl_draw.specs.Quoting.{quoted}
 use Rattle.snesl_draw.specs.Words.{kind_word}
 use Rattle.snesl_draw.specs.declared.drawing.DrawnEdge.{DrawnEdge}

@@ -6,6 +6,7 @@ use Rattle.flow_messages.specs.declared.message.Kind.TheVariants as kind
 use Rattle.snesl_draw.specs.Forms.{has_form}
 use Rattle.snesl_draw.specs.Lines.{edge_label, form_title, line_and_column, node_title, width_of}
 use Rattle.snesl_draw.specs.Words.{is_kind, kind_colour, kind_word}
+use Rattle.snesl_draw.specs.declared.drawing.Drawing.{Drawing}
 use Rattle.snesl_draw.specs.declared.drawing.DrawnEdge.{DrawnEdge}
 use Rattle.snesl_draw.specs.declared.drawing.DrawnForm.{DrawnForm}
 use Rattle.snesl_draw.specs.declared.drawing.DrawnNode.{DrawnNode}
@@ -30,8 +31,8 @@ node_text program edges node =
     node_head program node ++ flat_map (read_by node.number) edges ++ flat_map (written_by node.number) edges ++ codes "\n"
 
 -- a line for each node
-abbrev pub network_text : List ℕ → List DrawnNode → List DrawnEdge → List ℕ
-network_text program nodes edges = flat_map (node_text program edges) nodes
+abbrev pub network_text : List ℕ → Drawing → List ℕ
+network_text program drawing = flat_map (node_text program drawing.edges.items) drawing.nodes.items
 
 -- a node in DOT
 abbrev pub node_line : List ℕ → DrawnNode → List ℕ
@@ -64,9 +65,21 @@ frame_head program form =
     codes "  subgraph cluster_" ++ decimal form.at ++ codes " {\n  color=\"#cccccc\"; bgcolor=\"#f4f4f4\";\n"
     ++ title_line program form ++ title_place form
 
+-- the nodes outside all frames
+abbrev pub outside : List ℕ → List DrawnForm → List DrawnNode → List ℕ
+outside program forms nodes = flat_map (free_node program forms) nodes
+
+-- those that come from this form
+abbrev pub form_nodes : List ℕ → ℕ → List DrawnNode → List ℕ
+form_nodes program at nodes = flat_map (node_of_form program at) nodes
+
 -- the nodes of a form, in a frame
 abbrev pub frame : List ℕ → List DrawnNode → DrawnForm → List ℕ
-frame program nodes form = frame_head program form ++ flat_map (node_of_form program form.at) nodes ++ codes "  }\n"
+frame program nodes form = frame_head program form ++ form_nodes program form.at nodes ++ codes "  }\n"
+
+-- the frames of all forms, with their nodes
+abbrev pub framed : List ℕ → List DrawnNode → List DrawnForm → List ℕ
+framed program nodes forms = flat_map (frame program nodes) forms
 
 -- an arrow of DOT, from the writer of an edge to its reader
 abbrev pub arrow : DrawnEdge → List ℕ
@@ -111,7 +124,7 @@ head =
     ++ codes "  edge [arrowsize=0.6, fontname=\"Helvetica\", fontsize=8];\n"
 
 -- the nodes that stand free, the frames of the forms, the edges, and the legend
-abbrev pub network_dot : List ℕ → List DrawnNode → List DrawnEdge → List DrawnForm → List ℕ
-network_dot program nodes edges forms =
-    head ++ flat_map (free_node program forms) nodes ++ flat_map (frame program nodes) forms ++ flat_map edge_line edges
-    ++ legend edges ++ codes "}\n"
+abbrev pub network_dot : List ℕ → Drawing → List ℕ
+network_dot program drawing =
+    head ++ outside program drawing.forms.items drawing.nodes.items ++ framed program drawing.nodes.items drawing.forms.items
+    ++ flat_map edge_line drawing.edges.items ++ legend drawing.edges.items ++ codes "}\n"

@@ -1,15 +1,15 @@
 -- What nodes and messages are called.
 use Rattle.std.specs.Prelude.{ℕ, List, Bool, true, false, codes}
-use Rattle.snesl_operators.specs.declared.operator.UnaryOperator.{UnaryOperator}
-use Rattle.snesl_operators.specs.declared.operator.UnaryOperator.TheVariants.{Negate, Not}
-use Rattle.snesl_operators.specs.declared.operator.BinaryOperator.{BinaryOperator}
-use Rattle.snesl_operators.specs.declared.operator.BinaryOperator.TheVariants.{Add, Subtract, Multiply, Divide, Remainder, EqualIntegers, EqualTruths, Less, AtMost, Greater, AtLeast, And, Or}
-use Rattle.snesl_operators.specs.declared.operator.Reduction.{Reduction}
-use Rattle.snesl_operators.specs.declared.operator.Reduction.TheVariants.{Sum, Max, All, Any}
+use Rattle.snesl_data.specs.declared.operators.operator.UnaryOperator.{UnaryOperator}
+use Rattle.snesl_data.specs.declared.operators.operator.UnaryOperator.TheVariants.{Negate, Not}
+use Rattle.snesl_data.specs.declared.operators.operator.BinaryOperator.{BinaryOperator}
+use Rattle.snesl_data.specs.declared.operators.operator.BinaryOperator.TheVariants.{Add, Subtract, Multiply, Divide, Remainder, EqualIntegers, EqualTruths, Less, AtMost, Greater, AtLeast, And, Or}
+use Rattle.snesl_data.specs.declared.operators.operator.Reduction.{Reduction}
+use Rattle.snesl_data.specs.declared.operators.operator.Reduction.TheVariants.{Sum, Max, All, Any}
 use Rattle.flow_messages.specs.declared.message.Kind.{Kind}
 use Rattle.flow_messages.specs.declared.message.Kind.TheVariants as kind
-use Rattle.flow_plans.specs.declared.operation.Operation.{Operation}
-use Rattle.flow_plans.specs.declared.operation.Operation.TheVariants as held
+use Rattle.flow_nodes.specs.declared.plans.operation.Operation.{Operation}
+use Rattle.flow_nodes.specs.declared.plans.operation.Operation.TheVariants as held
 
 -- what the items of a kind are called
 abbrev pub kind_word : Kind → List ℕ

@@ -2,7 +2,7 @@
 
 ghost use Rattle.std.specs.Prelude.{◌≡◌, ◌++◌, IfOk, OnOk, flat_map};
 ghost use Rattle.std.specs.List.{list_any};
-ghost use Rattle.snesl_draw.specs.Texts.{arrow, beside_first, edge_line, frame, frame_head, free_node, kind_cell, legend, legend_cell, legend_cells, network_dot, node_line, node_of_form, title_line, title_place, traffic_part};
+ghost use Rattle.snesl_draw.specs.Texts.{arrow, beside_first, edge_line, form_nodes, frame, frame_head, framed, free_node, kind_cell, legend, legend_cell, legend_cells, network_dot, node_line, node_of_form, outside, title_line, title_place, traffic_part};
 ghost use Rattle.snesl_draw.specs.Words.{is_kind};
 
 use crate::drawing::{Drawing, DrawnEdge, DrawnForm, DrawnNode};
@@ -34,9 +34,7 @@ const LEGEND: &str = "  label=<<table border=\"1\" cellborder=\"0\" color=\"#ccc
 /// an arrow for each edge, in the colour of the kind of its items, with how many messages went over it, where that is known, and
 /// a legend of the colours. The error is that memory was refused.
 pub fn network_dot(alloc: Global, program: &[u8], drawing: &Drawing) -> Result<Vec<u8>, AllocError>
-    ensures { IfOk result (λ text. text.items
-        ≡ network_dot program.now drawing.now.nodes.items drawing.now.edges.items
-        drawing.now.forms.items) }
+    ensures { IfOk result (λ text. text.items ≡ network_dot program.now drawing.now) }
 {
     let mut text = Vec::new(alloc);
     append_text(&mut text, HEAD)?;
@@ -57,7 +55,7 @@ fn append_free(
     nodes: &[DrawnNode],
 ) -> Result<(), AllocError>
     ensures { OnOk result (text.new.items
-        ≡ text.old.items ++ flat_map (free_node program.now forms.now) nodes.now) }
+        ≡ text.old.items ++ outside program.now forms.now nodes.now) }
 {
     for node in nodes {
         append_free_node(text, alloc, program, forms, *node)?;
@@ -105,7 +103,7 @@ fn append_frames(
     forms: &[DrawnForm],
 ) -> Result<(), AllocError>
     ensures { OnOk result (text.new.items
-        ≡ text.old.items ++ flat_map (frame program.now nodes.now) forms.now) }
+        ≡ text.old.items ++ framed program.now nodes.now forms.now) }
 {
     for form in forms {
         append_frame(text, alloc, program, nodes, *form)?;
@@ -185,8 +183,7 @@ fn append_nodes(
     nodes: &[DrawnNode],
     at: usize,
 ) -> Result<(), AllocError>
-    ensures { OnOk result (text.new.items
-        ≡ text.old.items ++ flat_map (node_of_form program.now at) nodes.now) }
+    ensures { OnOk result (text.new.items ≡ text.old.items ++ form_nodes program.now at nodes.now) }
 {
     for node in nodes {
         append_node_of_form(text, alloc, program, *node, at)?;

@@ -2,7 +2,7 @@
 
 use flow_messages::Kind;
 use flow_networks::Edge;
-use snesl_tree::Span;
+use snesl_grammar::tree::Span;
 
 /// The network of a program, as it is drawn.
 #[derive(Debug, Drop)]

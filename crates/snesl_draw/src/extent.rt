@@ -1,14 +1,14 @@
 // Where the first and the last word of a form stand.
 
 ghost use Rattle.std.specs.Prelude.{◌≡◌, map};
-ghost use Rattle.snesl_tree.specs.Tree.{offset};
-ghost use Rattle.snesl_tree.specs.View.{binders_of, declaration_of, tree_of, trees_of};
+ghost use Rattle.snesl_grammar.specs.tree.Tree.{offset};
+ghost use Rattle.snesl_grammar.specs.tree.View.{binders_of, declaration_of, tree_of, trees_of};
 ghost use Rattle.snesl_types.specs.Names.{condition_in};
 ghost use Rattle.snesl_draw.specs.Forms.{extent_among, extent_at, extent_in, extent_in_condition, extent_in_declaration, extent_in_declarations, extent_in_sources, extent_inside, extent_of, last_among, last_bound, last_offset, last_tested, own_extent};
 
-use snesl_culprits::first_offset;
+use snesl_advice::culprits::first_offset;
 use snesl_grammar::Program;
-use snesl_tree::{Binder, Declaration, Expr};
+use snesl_grammar::tree::{Binder, Declaration, Expr};
 
 // Where the first and the last word of a form stand.
 #[derive(Clone, Copy)]

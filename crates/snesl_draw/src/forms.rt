@@ -1,15 +1,15 @@
 // Which piece of a program a form is.
 
 ghost use Rattle.std.specs.Prelude.{◌≡◌, ◌<◌, IfOk, OnOk, drop};
-ghost use Rattle.snesl_tree.specs.View.{tree_of};
+ghost use Rattle.snesl_grammar.specs.tree.View.{tree_of};
 ghost use Rattle.snesl_draw.specs.Forms.{closed_len, closes, depth_after, drawn_form, forms_of, has_form, is_closed, is_outermost, one_more_form, opens, piece_of, word_end};
 
 use crate::drawing::{DrawnForm, DrawnNode};
 use crate::extent::{Extent, extent_at};
-use snesl_culprits::first_offset;
+use snesl_advice::culprits::first_offset;
 use snesl_data::word_len;
 use snesl_grammar::Program;
-use snesl_tree::{Expr, Span};
+use snesl_grammar::tree::{Expr, Span};
 use std::alloc::{AllocError, Global};
 
 // The forms that nodes come from, each once, but for the outermost one.

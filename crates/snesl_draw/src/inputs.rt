@@ -2,7 +2,7 @@
 
 use crate::drawing::InputStream;
 use snesl_grammar::Program;
-use snesl_tree::{Declaration, Span, WrittenType};
+use snesl_grammar::tree::{Declaration, Span, WrittenType};
 use std::alloc::{AllocError, Global};
 
 // The streams of the inputs of a program, in the order of their nodes.

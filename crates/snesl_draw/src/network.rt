@@ -1,10 +1,10 @@
 // A network, for a drawing.
 
-ghost use Rattle.std.specs.Prelude.{◌≡◌, ◌<◌, IfOk, length, map};
+ghost use Rattle.std.specs.Prelude.{◌≡◌, ◌<◌, IfOk, length};
 ghost use Rattle.flow_networks.specs.Edges.{edge_at};
 ghost use Rattle.flow_networks.specs.Graphs.{edges_of, states_of};
-ghost use Rattle.snesl_draw.specs.Forms.{forms_of};
-ghost use Rattle.snesl_draw.specs.Networks.{drawn_edge};
+ghost use Rattle.snesl_draw.specs.Forms.{HasForms};
+ghost use Rattle.snesl_draw.specs.Networks.{drawn_edge, drawn_edges};
 ghost use Rattle.snesl_types.specs.Typed.{program_of};
 
 use crate::drawing::{Drawing, DrawnEdge, DrawnNode, InputStream};
@@ -15,7 +15,7 @@ use crate::words::operation_word;
 use flow_base::Transducer;
 use flow_networks::{Graph, graph_is_a_network};
 use flow_nodes::StreamNode;
-use flow_plans::{Operation, Step};
+use flow_nodes::plans::{Operation, Step};
 use snesl_data::Refusal;
 use snesl_types::TypedProgram;
 use std::alloc::{AllocError, Global};
@@ -35,10 +35,8 @@ pub fn drawing_of(
 ) -> Result<Drawing, Refusal>
     ensures nodes { IfOk result (λ drawing. length drawing.nodes.items
         ≡ length (states_of graph.now)) }
-    ensures edges { IfOk result (λ drawing. drawing.edges.items
-        ≡ map (drawn_edge (states_of graph.now)) (edges_of graph.now)) }
-    ensures forms { IfOk result (λ drawing. drawing.forms.items
-        ≡ forms_of (program_of typed.now) drawing.nodes.items) }
+    ensures edges { IfOk result (λ drawing. drawing.edges.items ≡ drawn_edges graph.now) }
+    ensures forms { IfOk result (HasForms (program_of typed.now)) }
 {
     let steps = steps_of_program(alloc, typed)?;
     let inputs = input_streams(alloc, typed.program())?;
@@ -93,8 +91,7 @@ fn drawn_nodes(
 
 // The edges, by their numbers.
 fn drawn_edges(alloc: Global, graph: &Graph<StreamNode>) -> Result<Vec<DrawnEdge>, AllocError>
-    ensures { IfOk result (λ edges. edges.items
-        ≡ map (drawn_edge (states_of graph.now)) (edges_of graph.now)) }
+    ensures { IfOk result (λ edges. edges.items ≡ drawn_edges graph.now) }
 {
     let mut edges = Vec::new(alloc);
     for number in 0..graph.edges() {
@@ -106,7 +103,7 @@ fn drawn_edges(alloc: Global, graph: &Graph<StreamNode>) -> Result<Vec<DrawnEdge
 // The edge of this number, of which no traffic is known.
 fn drawn_edge(graph: &Graph<StreamNode>, number: usize) -> DrawnEdge
     requires { number < length (edges_of graph.now) }
-    ensures { result ≡ drawn_edge (states_of graph.now) (edge_at (edges_of graph.now) number) }
+    ensures { result ≡ drawn_edge graph.now (edge_at (edges_of graph.now) number) }
 {
     graph_is_a_network(graph);
     let edge = graph.edge(number);

@@ -1,10 +1,10 @@
 // The steps of a program, made as snesl_flatten makes them for its network.
 
-use flow_plans::{Operation, Step};
-use snesl_culprits::first_offset;
+use flow_nodes::plans::{Operation, Step};
+use snesl_advice::culprits::first_offset;
 use snesl_data::{Refusal, Ty};
-use snesl_scopes::Scope;
-use snesl_steps::{Binding, Steps};
+use snesl_translator::scopes::Scope;
+use snesl_translator::steps::{Binding, Steps};
 use snesl_translator::{ProgramContext, translate};
 use snesl_types::TypedProgram;
 use std::alloc::Global;

@@ -11,8 +11,7 @@ use std::alloc::{AllocError, Global};
 /// of the form that it comes from, and each edge that it reads and that it writes, with the node at the other end, the kind of its
 /// items, and how many messages went over it, where that is known. The error is that memory was refused.
 pub fn network_text(alloc: Global, program: &[u8], drawing: &Drawing) -> Result<Vec<u8>, AllocError>
-    ensures { IfOk result (λ text. text.items
-        ≡ network_text program.now drawing.now.nodes.items drawing.now.edges.items) }
+    ensures { IfOk result (λ text. text.items ≡ network_text program.now drawing.now) }
 {
     let mut text = Vec::new(alloc);
     for node in &drawing.nodes {

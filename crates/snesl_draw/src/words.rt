@@ -4,8 +4,8 @@ ghost use Rattle.std.specs.Prelude.{◌≡◌};
 ghost use Rattle.snesl_draw.specs.Words.{binary_word, is_kind, kind_colour, kind_word, operation_word, reduction_word, unary_word};
 
 use flow_messages::Kind;
-use flow_plans::Operation;
-use snesl_operators::{BinaryOperator, Reduction, UnaryOperator};
+use flow_nodes::plans::Operation;
+use snesl_data::operators::{BinaryOperator, Reduction, UnaryOperator};
 
 /// What the node of an operation is called.
 pub fn operation_word(operation: &Operation) -> &'static str

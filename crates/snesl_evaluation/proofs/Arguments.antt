@@ -2,10 +2,10 @@
 use Rattle.std.proofs.Common.{◌≡◌, ℕ, zero, suc, ◌+◌, ◌<◌, ◌≤◌, List, [], ◌∷◌, ◌++◌, drop, length, get_or, sym, ap, ◌∙◌, arith}
 use Rattle.snesl_data.specs.declared.fault.FaultKind.{FaultKind}
 use Rattle.snesl_data.specs.Values.{Value}
-use Rattle.snesl_tree.specs.declared.expr.Expr.{Expr}
-use Rattle.snesl_tree.specs.declared.expr.Binder.{Binder}
-use Rattle.snesl_tree.specs.Spelling.{spelling}
-use Rattle.snesl_tree.specs.View.{tree_of, trees_of, binders_of}
+use Rattle.snesl_grammar.specs.declared.tree.expr.Expr.{Expr}
+use Rattle.snesl_grammar.specs.declared.tree.expr.Binder.{Binder}
+use Rattle.snesl_grammar.specs.tree.Spelling.{spelling}
+use Rattle.snesl_grammar.specs.tree.View.{tree_of, trees_of, binders_of}
 use Rattle.snesl_evaluation.specs.declared.scope.Scope.{Scope}
 use Rattle.snesl_evaluation.specs.declared.scope.ProgramContext.{ProgramContext}
 use Rattle.snesl_evaluation.specs.Answer.{Answer, gives, faults, go}
@@ -27,11 +27,13 @@ module _ (context : ProgramContext) (scope : Scope) where
       ∙ one_more done v (all_in context scope (trees_of exprs))
   values_next done (x ∷ exprs) (suc i) expr v l is e = values_next done exprs i expr v (omega arith) is e
 
-  pub values_given : (done : List Value) (exprs : List Expr) (i : ℕ) (expr : Expr) (v : Value) → i < length exprs → expr ≡ get_or exprs i expr → eval_in context scope (tree_of expr) ≡ gives v
-      → behind done (all_in context scope (trees_of (drop i exprs))) ≡ behind (done ++ v ∷ []) (all_in context scope (trees_of (drop (i + 1) exprs)))
-  values_given done exprs i expr v l is e =
+  pub values_given : (done : List Value) {news : List Value} (exprs : List Expr) (i : ℕ) (expr : Expr) (v : Value) → i < length exprs → expr ≡ get_or exprs i expr
+      → eval_in context scope (tree_of expr) ≡ gives v → news ≡ done ++ v ∷ []
+      → behind done (all_in context scope (trees_of (drop i exprs))) ≡ behind news (all_in context scope (trees_of (drop (i + 1) exprs)))
+  values_given done exprs i expr v l is e grown =
       let same : suc i ≡ i + 1 = omega arith in
       values_next done exprs i expr v l is e ∙ ap (λ j. behind (done ++ v ∷ []) (all_in context scope (trees_of (drop j exprs)))) same
+      ∙ ap (λ given. behind given (all_in context scope (trees_of (drop (i + 1) exprs)))) (sym grown)
 
   pub values_faults : (done : List Value) (exprs : List Expr) (i : ℕ) (expr : Expr) (kind : FaultKind) (at : ℕ) → i < length exprs → expr ≡ get_or exprs i expr
       → eval_in context scope (tree_of expr) ≡ faults kind at → behind done (all_in context scope (trees_of (drop i exprs))) ≡ faults kind at
@@ -64,14 +66,15 @@ module _ (context : ProgramContext) (scope : Scope) where
       ∙ one_more done (spelling context.text.now binder.name, vs) (binders_in context scope (binders_of binders))
   columns_next done (x ∷ binders) (suc i) binder v vs l is e f = columns_next done binders i binder v vs (omega arith) is e f
 
-  pub columns_given : (done : BoundItems) (binders : List Binder) (i : ℕ) (binder : Binder) (v : Value) (vs : List Value) → i < length binders → binder ≡ get_or binders i binder
-      → eval_in context scope (tree_of binder.source) ≡ gives v → items_at binder.name.at v ≡ gives vs
-      → behind done (binders_in context scope (binders_of (drop i binders)))
-      ≡ behind (done ++ (spelling context.text.now binder.name, vs) ∷ []) (binders_in context scope (binders_of (drop (i + 1) binders)))
-  columns_given done binders i binder v vs l is e f =
+  pub columns_given : (done : BoundItems) {news : BoundItems} (binders : List Binder) (i : ℕ) (binder : Binder) (v : Value) (vs : List Value) → i < length binders
+      → binder ≡ get_or binders i binder → eval_in context scope (tree_of binder.source) ≡ gives v → items_at binder.name.at v ≡ gives vs
+      → news ≡ done ++ (spelling context.text.now binder.name, vs) ∷ []
+      → behind done (binders_in context scope (binders_of (drop i binders))) ≡ behind news (binders_in context scope (binders_of (drop (i + 1) binders)))
+  columns_given done binders i binder v vs l is e f grown =
       let same : suc i ≡ i + 1 = omega arith in
       columns_next done binders i binder v vs l is e f
       ∙ ap (λ j. behind (done ++ (spelling context.text.now binder.name, vs) ∷ []) (binders_in context scope (binders_of (drop j binders)))) same
+      ∙ ap (λ given. behind given (binders_in context scope (binders_of (drop (i + 1) binders)))) (sym grown)
 
   -- the sequence of a binder faults, or is none
   pub columns_faults : (done : BoundItems) (binders : List Binder) (i : ℕ) (binder : Binder) (kind : FaultKind) (at : ℕ) → i < length binders → binder ≡ get_or binders i binder

@@ -3,13 +3,13 @@ use Rattle.std.proofs.Common.{◌≡◌, ℕ, ◌+◌, ◌≤◌, List, [], ◌�
 use Rattle.std.specs.Str.{bytes_eq}
 use Rattle.snesl_data.specs.declared.dialect.Dialect.{Dialect}
 use Rattle.snesl_data.specs.Values.{Value}
-use Rattle.snesl_tree.specs.declared.declaration.Function.{Function}
-use Rattle.snesl_tree.specs.Spelling.{spelling}
+use Rattle.snesl_grammar.specs.declared.tree.declaration.Function.{Function}
+use Rattle.snesl_grammar.specs.tree.Spelling.{spelling}
 use Rattle.std.proofs.lemmas.List.{map-append}
-use Rattle.snesl_tree.specs.declared.declaration.Declaration.{Declaration}
-use Rattle.snesl_tree.specs.declared.declaration.Declaration.TheVariants.{Input, Function as FunctionDeclaration}
-use Rattle.snesl_tree.specs.Tree.{DeclarationTree}
-use Rattle.snesl_tree.specs.View.{declaration_of}
+use Rattle.snesl_grammar.specs.declared.tree.declaration.Declaration.{Declaration}
+use Rattle.snesl_grammar.specs.declared.tree.declaration.Declaration.TheVariants.{Input, Function as FunctionDeclaration}
+use Rattle.snesl_grammar.specs.tree.Tree.{DeclarationTree}
+use Rattle.snesl_grammar.specs.tree.View.{declaration_of}
 use Rattle.snesl_evaluation.specs.Eval.{Calls, calls_after, calls_of, no_calls, with_declaration}
 use Rattle.snesl_evaluation.specs.Scopes.{entered, weight, weight_of}
 

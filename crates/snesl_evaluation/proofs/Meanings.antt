@@ -6,10 +6,10 @@ use Rattle.snesl_data.specs.declared.fault.FaultKind.TheVariants.{Shape}
 use Rattle.snesl_values.specs.Inputs.{Environment, value_in}
 use Rattle.snesl_data.specs.Values.{Value, an_int, a_bool, a_pair, a_vec, a_seq}
 use Rattle.snesl_data.proofs.Data.{list_values}
-use Rattle.snesl_tree.specs.declared.operator.Builtin.TheVariants.{Concat, The}
-use Rattle.snesl_tree.specs.declared.operator.Prefix.TheVariants.{Not}
-use Rattle.snesl_tree.specs.Spelling.{spelling}
-use Rattle.snesl_tree.specs.Tree.{Tree, Trees, none, both}
+use Rattle.snesl_grammar.specs.declared.tree.operator.Builtin.TheVariants.{Concat, The}
+use Rattle.snesl_grammar.specs.declared.tree.operator.Prefix.TheVariants.{Not}
+use Rattle.snesl_grammar.specs.tree.Spelling.{spelling}
+use Rattle.snesl_grammar.specs.tree.Tree.{Tree, Trees, none, both}
 use Rattle.snesl_grammar.specs.Expressions.{added}
 use Rattle.snesl_evaluation.specs.Answer.{Answer, gives, faults, go, go_all, go_join, or_fault}
 use Rattle.snesl_evaluation.specs.Builtins.{append_answer, applied, items_at, prefix_answer, seq_answer, sequence, truth_at}

@@ -5,9 +5,9 @@ use Rattle.snesl_data.specs.declared.fault.FaultKind.TheVariants.{Shape}
 use Rattle.snesl_data.specs.declared.datum.Datum.{Datum}
 use Rattle.snesl_values.specs.Inputs.{Environment}
 use Rattle.snesl_data.specs.Values.{Value, value_of}
-use Rattle.snesl_tree.specs.declared.declaration.Typing.{Typing}
-use Rattle.snesl_tree.specs.Spelling.{spelling}
-use Rattle.snesl_tree.specs.View.{typed_of}
+use Rattle.snesl_grammar.specs.declared.tree.declaration.Typing.{Typing}
+use Rattle.snesl_grammar.specs.tree.Spelling.{spelling}
+use Rattle.snesl_grammar.specs.tree.View.{typed_of}
 use Rattle.snesl_evaluation.specs.declared.halt.Halt.{Halt}
 use Rattle.snesl_evaluation.specs.declared.halt.Halt.TheVariants.{NoMemory, Faulted}
 use Rattle.snesl_evaluation.specs.Answer.{Answer, gives, faults, go}

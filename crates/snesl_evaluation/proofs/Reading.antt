@@ -11,7 +11,7 @@ pub one_more : {B : Type 0} (done : List B) (y : B) (answer : Answer (List B)) �
 one_more done y (gives ys) = ap gives (sym (append_assoc done (y ∷ []) ys))
 one_more done y (faults kind at) = refl
 
-some_more : {B : Type 0} (done ys : List B) (answer : Answer (List B)) → behind done (go answer (λ zs. gives (ys ++ zs))) ≡ behind (done ++ ys) answer
+pub some_more : {B : Type 0} (done ys : List B) (answer : Answer (List B)) → behind done (go answer (λ zs. gives (ys ++ zs))) ≡ behind (done ++ ys) answer
 some_more done ys (gives zs) = ap gives (sym (append_assoc done ys zs))
 some_more done ys (faults kind at) = refl
 
@@ -29,11 +29,12 @@ module _ {D A B : Type 0} (f : A → Answer B) (view : D → A) where
       ∙ one_more done y (go_all f (map view xs))
   read_next done (w ∷ xs) (suc i) x y l is e = read_next done xs i x y (omega arith) is e
 
-  pub read_given : (done : List B) (xs : List D) (i : ℕ) (x : D) (y : B) → i < length xs → x ≡ get_or xs i x → f (view x) ≡ gives y
-      → behind done (go_all f (map view (drop i xs))) ≡ behind (done ++ y ∷ []) (go_all f (map view (drop (i + 1) xs)))
-  read_given done xs i x y l is e =
+  pub read_given : (done : List B) {news : List B} (xs : List D) (i : ℕ) (x : D) (y : B) → i < length xs → x ≡ get_or xs i x → f (view x) ≡ gives y
+      → news ≡ done ++ y ∷ [] → behind done (go_all f (map view (drop i xs))) ≡ behind news (go_all f (map view (drop (i + 1) xs)))
+  read_given done xs i x y l is e grown =
       let same : suc i ≡ i + 1 = omega arith in
       read_next done xs i x y l is e ∙ ap (λ j. behind (done ++ y ∷ []) (go_all f (map view (drop j xs)))) same
+      ∙ ap (λ read. behind read (go_all f (map view (drop (i + 1) xs)))) (sym grown)
 
   -- the item at this place is not what it is read as
   pub read_faults : (done : List B) (xs : List D) (i : ℕ) (x : D) (kind : FaultKind) (at : ℕ) → i < length xs → x ≡ get_or xs i x → f (view x) ≡ faults kind at
@@ -60,11 +61,12 @@ module _ {D A B : Type 0} (f : A → Answer (List B)) (view : D → A) where
       ∙ some_more done ys (go_join f (map view xs))
   joined_next done (w ∷ xs) (suc i) x ys l is e = joined_next done xs i x ys (omega arith) is e
 
-  pub joined_given : (done : List B) (xs : List D) (i : ℕ) (x : D) (ys : List B) → i < length xs → x ≡ get_or xs i x → f (view x) ≡ gives ys
-      → behind done (go_join f (map view (drop i xs))) ≡ behind (done ++ ys) (go_join f (map view (drop (i + 1) xs)))
-  joined_given done xs i x ys l is e =
+  pub joined_given : (done : List B) {news : List B} (xs : List D) (i : ℕ) (x : D) (ys : List B) → i < length xs → x ≡ get_or xs i x → f (view x) ≡ gives ys
+      → news ≡ done ++ ys → behind done (go_join f (map view (drop i xs))) ≡ behind news (go_join f (map view (drop (i + 1) xs)))
+  joined_given done xs i x ys l is e grown =
       let same : suc i ≡ i + 1 = omega arith in
       joined_next done xs i x ys l is e ∙ ap (λ j. behind (done ++ ys) (go_join f (map view (drop j xs)))) same
+      ∙ ap (λ read. behind read (go_join f (map view (drop (i + 1) xs)))) (sym grown)
 
   pub joined_faults : (done : List B) (xs : List D) (i : ℕ) (x : D) (kind : FaultKind) (at : ℕ) → i < length xs → x ≡ get_or xs i x → f (view x) ≡ faults kind at
       → behind done (go_join f (map view (drop i xs))) ≡ faults kind at

@@ -3,8 +3,8 @@ use Rattle.std.proofs.Common.{◌≡◌, ℕ, zero, suc, ◌+◌, ◌<◌, List,
 use Rattle.snesl_data.specs.declared.dialect.Dialect.{Dialect}
 use Rattle.snesl_data.specs.declared.fault.FaultKind.{FaultKind}
 use Rattle.snesl_data.specs.Values.{Value, an_int}
-use Rattle.snesl_operators.specs.Operators.{ranged}
-use Rattle.snesl_operators.specs.Reductions.{and_then, scan_from}
+use Rattle.snesl_data.specs.operators.Operators.{ranged}
+use Rattle.snesl_data.specs.operators.Reductions.{and_then, scan_from}
 use Rattle.snesl_evaluation.specs.Answer.{Answer, gives, faults, go, answer_at}
 
 -- the sums that are given, and those after them

@@ -5,22 +5,22 @@ use Rattle.snesl_data.specs.declared.dialect.Dialect.{Dialect}
 use Rattle.snesl_data.specs.declared.fault.FaultKind.{FaultKind}
 use Rattle.snesl_data.specs.declared.fault.FaultKind.TheVariants.{NegativeCount, Part as PartFault, The as TheFault, Index as IndexFault, Shape}
 use Rattle.snesl_data.specs.Values.{Value, an_int, a_bool, a_pair, a_vec, a_seq, list_of, values_of}
-use Rattle.snesl_operators.specs.declared.operator.UnaryOperator.{UnaryOperator}
-use Rattle.snesl_operators.specs.declared.operator.UnaryOperator.TheVariants as unary
-use Rattle.snesl_operators.specs.declared.operator.BinaryOperator.{BinaryOperator}
-use Rattle.snesl_operators.specs.declared.operator.BinaryOperator.TheVariants as binary
-use Rattle.snesl_operators.specs.declared.operator.Reduction.{Reduction}
-use Rattle.snesl_operators.specs.declared.operator.Reduction.TheVariants.{Sum, Max, All, Any}
-use Rattle.snesl_operators.specs.declared.scalar.Scalar.{Scalar}
-use Rattle.snesl_operators.specs.declared.scalar.Scalar.TheVariants.{Int, Bool as Truth}
-use Rattle.snesl_operators.specs.Operators.{ranged, unary_value, binary_value}
-use Rattle.snesl_operators.specs.Reductions.{reduction_of, scan_of}
-use Rattle.snesl_tree.specs.declared.operator.Builtin.{Builtin}
-use Rattle.snesl_tree.specs.declared.operator.Builtin.TheVariants.{Iota, ScanAdd, ReduceAdd, ReduceMax, ReduceAnd, ReduceOr, Length, Concat, Part, The, Tab, Seq, Fst, Snd}
-use Rattle.snesl_tree.specs.declared.operator.Operator.{Operator}
-use Rattle.snesl_tree.specs.declared.operator.Operator.TheVariants.{Or, And, Equal, Less, AtMost, Greater, AtLeast, Append, Add, Subtract, Multiply, Divide, Remainder, Index}
-use Rattle.snesl_tree.specs.declared.operator.Prefix.{Prefix}
-use Rattle.snesl_tree.specs.declared.operator.Prefix.TheVariants.{Negate, Not}
+use Rattle.snesl_data.specs.declared.operators.operator.UnaryOperator.{UnaryOperator}
+use Rattle.snesl_data.specs.declared.operators.operator.UnaryOperator.TheVariants as unary
+use Rattle.snesl_data.specs.declared.operators.operator.BinaryOperator.{BinaryOperator}
+use Rattle.snesl_data.specs.declared.operators.operator.BinaryOperator.TheVariants as binary
+use Rattle.snesl_data.specs.declared.operators.operator.Reduction.{Reduction}
+use Rattle.snesl_data.specs.declared.operators.operator.Reduction.TheVariants.{Sum, Max, All, Any}
+use Rattle.snesl_data.specs.declared.operators.scalar.Scalar.{Scalar}
+use Rattle.snesl_data.specs.declared.operators.scalar.Scalar.TheVariants.{Int, Bool as Truth}
+use Rattle.snesl_data.specs.operators.Operators.{ranged, unary_value, binary_value}
+use Rattle.snesl_data.specs.operators.Reductions.{reduction_of, scan_of}
+use Rattle.snesl_grammar.specs.declared.tree.operator.Builtin.{Builtin}
+use Rattle.snesl_grammar.specs.declared.tree.operator.Builtin.TheVariants.{Iota, ScanAdd, ReduceAdd, ReduceMax, ReduceAnd, ReduceOr, Length, Concat, Part, The, Tab, Seq, Fst, Snd}
+use Rattle.snesl_grammar.specs.declared.tree.operator.Operator.{Operator}
+use Rattle.snesl_grammar.specs.declared.tree.operator.Operator.TheVariants.{Or, And, Equal, Less, AtMost, Greater, AtLeast, Append, Add, Subtract, Multiply, Divide, Remainder, Index}
+use Rattle.snesl_grammar.specs.declared.tree.operator.Prefix.{Prefix}
+use Rattle.snesl_grammar.specs.declared.tree.operator.Prefix.TheVariants.{Negate, Not}
 use Rattle.snesl_evaluation.specs.Answer.{Answer, gives, faults, go, go_all, go_join, or_fault, answer_at}
 
 -- parts of values; where a value is of another kind, Shape at this offset

@@ -6,8 +6,8 @@ use Rattle.snesl_data.specs.declared.datum.Datum.{Datum}
 use Rattle.snesl_data.specs.declared.dialect.Dialect.{Dialect}
 use Rattle.snesl_data.specs.declared.fault.FaultKind.TheVariants.{Part as PartFault}
 use Rattle.snesl_data.specs.Values.{Value, a_vec, an_int, value_of, values_of}
-use Rattle.snesl_operators.specs.Reductions.{scan_of}
-use Rattle.snesl_tree.specs.declared.operator.Builtin.{Builtin}
+use Rattle.snesl_data.specs.operators.Reductions.{scan_of}
+use Rattle.snesl_grammar.specs.declared.tree.operator.Builtin.{Builtin}
 use Rattle.snesl_evaluation.specs.declared.halt.Halt.{Halt}
 use Rattle.snesl_evaluation.specs.Answer.{Answer, answer_at, gives, go, go_join, or_fault}
 use Rattle.snesl_evaluation.specs.Builtins.{applied, elements_at, int_at, item_answer, items_at, parts_answer, seq_answer, sequence}

@@ -3,12 +3,12 @@ use Rattle.std.specs.Prelude.{◌≡◌, ℕ, List, ◌∷◌, true}
 use Rattle.snesl_data.specs.declared.dialect.Dialect.{Dialect}
 use Rattle.snesl_values.specs.Inputs.{Environment}
 use Rattle.snesl_data.specs.Values.{Value}
-use Rattle.snesl_tree.specs.declared.operator.Builtin.TheVariants.{Concat, The}
-use Rattle.snesl_tree.specs.declared.operator.Operator.TheVariants.{Append}
-use Rattle.snesl_tree.specs.declared.operator.Prefix.TheVariants.{Not}
-use Rattle.snesl_tree.specs.declared.span.Span.{Span}
-use Rattle.snesl_tree.specs.Spelling.{spelling}
-use Rattle.snesl_tree.specs.Tree.{Tree, Trees, Binders, truth, name, prefix, binary, call, binding, choice, literal, filter, each, none, both, always, only_where}
+use Rattle.snesl_grammar.specs.declared.tree.operator.Builtin.TheVariants.{Concat, The}
+use Rattle.snesl_grammar.specs.declared.tree.operator.Operator.TheVariants.{Append}
+use Rattle.snesl_grammar.specs.declared.tree.operator.Prefix.TheVariants.{Not}
+use Rattle.snesl_grammar.specs.declared.tree.span.Span.{Span}
+use Rattle.snesl_grammar.specs.tree.Spelling.{spelling}
+use Rattle.snesl_grammar.specs.tree.Tree.{Tree, Trees, Binders, truth, name, prefix, binary, call, binding, choice, literal, filter, each, none, both, always, only_where}
 use Rattle.snesl_grammar.specs.Expressions.{added}
 use Rattle.snesl_evaluation.specs.Eval.{Calls, eval}
 

@@ -6,10 +6,10 @@ use Rattle.snesl_data.specs.declared.dialect.Dialect.{Dialect}
 use Rattle.snesl_data.specs.declared.fault.FaultKind.TheVariants.{Length, Shape}
 use Rattle.snesl_values.specs.Inputs.{Environment, value_in}
 use Rattle.snesl_data.specs.Values.{Value, an_int, a_bool, a_pair}
-use Rattle.snesl_tree.specs.Spelling.{spelling}
-use Rattle.snesl_tree.specs.Tree.{Tree, Trees, Binders, integer, truth, name, binary, prefix, call, apply, group, pair, binding, choice, literal}
-use Rattle.snesl_tree.specs.Tree.{filter, each, none, both, none_bound, binder, always, only_where, TypedName, DeclarationTree, declares_input}
-use Rattle.snesl_tree.specs.Tree.{declares_function, ProgramTree}
+use Rattle.snesl_grammar.specs.tree.Spelling.{spelling}
+use Rattle.snesl_grammar.specs.tree.Tree.{Tree, Trees, Binders, integer, truth, name, binary, prefix, call, apply, group, pair, binding, choice, literal}
+use Rattle.snesl_grammar.specs.tree.Tree.{filter, each, none, both, none_bound, binder, always, only_where, TypedName, DeclarationTree, declares_input}
+use Rattle.snesl_grammar.specs.tree.Tree.{declares_function, ProgramTree}
 use Rattle.snesl_evaluation.specs.Answer.{Answer, gives, faults, go, go_all, go_join, or_fault}
 use Rattle.snesl_evaluation.specs.Builtins.{truth_at, items_at, seq_answer, prefix_answer, binary_answer, applied}
 

@@ -6,16 +6,16 @@ use Rattle.snesl_values.specs.declared.environment.Inputs.{Inputs}
 use Rattle.snesl_values.specs.Inputs.{environment_of}
 use Rattle.snesl_grammar.specs.declared.program.Program.{Program}
 use Rattle.snesl_grammar.specs.View.{program_of}
-use Rattle.snesl_tree.specs.declared.declaration.Declaration.{Declaration}
-use Rattle.snesl_tree.specs.declared.declaration.Function.{Function}
-use Rattle.snesl_tree.specs.declared.expr.Expr.{Expr}
-use Rattle.snesl_tree.specs.declared.operator.Builtin.{Builtin}
-use Rattle.snesl_tree.specs.declared.operator.Operator.{Operator}
-use Rattle.snesl_tree.specs.declared.operator.Prefix.{Prefix}
-use Rattle.snesl_tree.specs.declared.span.Span.{Span}
-use Rattle.snesl_tree.specs.Spelling.{spelling}
-use Rattle.snesl_tree.specs.Tree.{Tree, apply, binary, binding, call, choice, filter, prefix}
-use Rattle.snesl_tree.specs.View.{tree_of, trees_of}
+use Rattle.snesl_grammar.specs.declared.tree.declaration.Declaration.{Declaration}
+use Rattle.snesl_grammar.specs.declared.tree.declaration.Function.{Function}
+use Rattle.snesl_grammar.specs.declared.tree.expr.Expr.{Expr}
+use Rattle.snesl_grammar.specs.declared.tree.operator.Builtin.{Builtin}
+use Rattle.snesl_grammar.specs.declared.tree.operator.Operator.{Operator}
+use Rattle.snesl_grammar.specs.declared.tree.operator.Prefix.{Prefix}
+use Rattle.snesl_grammar.specs.declared.tree.span.Span.{Span}
+use Rattle.snesl_grammar.specs.tree.Spelling.{spelling}
+use Rattle.snesl_grammar.specs.tree.Tree.{Tree, apply, binary, binding, call, choice, filter, prefix}
+use Rattle.snesl_grammar.specs.tree.View.{tree_of, trees_of}
 use Rattle.snesl_evaluation.specs.declared.halt.Halt.{Halt}
 use Rattle.snesl_evaluation.specs.declared.scope.ProgramContext.{ProgramContext}
 use Rattle.snesl_evaluation.specs.declared.scope.Scope.{Scope}

@@ -7,3 +7,4 @@ pub mod Scopes
 pub mod Derived
 pub mod Data
 pub mod Forms
+pub mod Comprehensions

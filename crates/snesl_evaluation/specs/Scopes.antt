@@ -8,15 +8,15 @@ use Rattle.snesl_data.specs.declared.dialect.Dialect.{Dialect}
 use Rattle.snesl_data.specs.declared.fault.FaultKind.TheVariants.{Shape}
 use Rattle.snesl_values.specs.Inputs.{Environment}
 use Rattle.snesl_data.specs.Values.{Value, value_of}
-use Rattle.snesl_tree.specs.declared.declaration.Declaration.{Declaration}
-use Rattle.snesl_tree.specs.declared.declaration.Declaration.TheVariants.{Input, Function as FunctionDeclaration}
-use Rattle.snesl_tree.specs.declared.declaration.Function.{Function}
-use Rattle.snesl_tree.specs.declared.declaration.Typing.{Typing}
-use Rattle.snesl_tree.specs.declared.expr.Expr.{Expr, size-Expr}
-use Rattle.snesl_tree.specs.declared.span.Span.{Span}
-use Rattle.snesl_tree.specs.Spelling.{spelling}
-use Rattle.snesl_tree.specs.Tree.{Tree, Trees, Binders}
-use Rattle.snesl_tree.specs.View.{declaration_of, tree_of, typed_of}
+use Rattle.snesl_grammar.specs.declared.tree.declaration.Declaration.{Declaration}
+use Rattle.snesl_grammar.specs.declared.tree.declaration.Declaration.TheVariants.{Input, Function as FunctionDeclaration}
+use Rattle.snesl_grammar.specs.declared.tree.declaration.Function.{Function}
+use Rattle.snesl_grammar.specs.declared.tree.declaration.Typing.{Typing}
+use Rattle.snesl_grammar.specs.declared.tree.expr.Expr.{Expr, size-Expr}
+use Rattle.snesl_grammar.specs.declared.tree.span.Span.{Span}
+use Rattle.snesl_grammar.specs.tree.Spelling.{spelling}
+use Rattle.snesl_grammar.specs.tree.Tree.{Tree, Trees, Binders}
+use Rattle.snesl_grammar.specs.tree.View.{declaration_of, tree_of, typed_of}
 use Rattle.snesl_evaluation.specs.declared.scope.Column.{Column}
 use Rattle.snesl_evaluation.specs.declared.scope.Scope.{Scope}
 use Rattle.snesl_evaluation.specs.declared.scope.Scope.TheVariants.{Inputs, Parameters, Bound', Row'}

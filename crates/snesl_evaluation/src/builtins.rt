@@ -2,7 +2,7 @@
 
 ghost use Rattle.std.specs.Prelude.{◌∷◌, [], map};
 ghost use Rattle.snesl_data.specs.Values.{value_of};
-ghost use Rattle.snesl_tree.specs.declared.operator.Builtin.TheVariants as builtin;
+ghost use Rattle.snesl_grammar.specs.declared.tree.operator.Builtin.TheVariants as builtin;
 ghost use Rattle.snesl_evaluation.specs.Answer.{go};
 ghost use Rattle.snesl_evaluation.specs.Builtins.{applied, elements_at, int_at, iota_answer, items_at, part_answer, reduce_answer, scan_answer, the_answer};
 ghost use Rattle.snesl_evaluation.specs.Results.{Answers};
@@ -14,9 +14,9 @@ use crate::parts::{elements, integer, items, sequence_of, vector_of};
 use crate::sequences::{
     add_copies, count_up, integers, joined, parts, reduce, scalars, scan_add, truths,
 };
+use snesl_data::operators::Reduction;
 use snesl_data::{Datum, Dialect, FaultKind, copy_datum};
-use snesl_operators::Reduction;
-use snesl_tree::Builtin;
+use snesl_grammar::tree::Builtin;
 use std::alloc::Global;
 
 // A built-in at its arguments.

@@ -3,7 +3,7 @@
 ghost use Rattle.std.specs.Prelude.{◌≤◌, IfSome, IfNone};
 ghost use Rattle.snesl_evaluation.specs.Scopes.{IsUnknown, weight, IsFoundBy, weight_with};
 
-use snesl_tree::{Declaration, Function};
+use snesl_grammar::tree::{Declaration, Function};
 
 /// The last function of a name, and the declarations before it. The declarations stand in order.
 pub fn find_function<'a>(

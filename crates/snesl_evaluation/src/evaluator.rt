@@ -1,15 +1,14 @@
 // Evaluation.
 
-ghost use Rattle.std.specs.Prelude.{◌≡◌, true, map, IfOk};
+ghost use Rattle.std.specs.Prelude.{◌≡◌, true, IfOk};
 ghost use Rattle.snesl_data.specs.Values.{value_of};
-ghost use Rattle.snesl_tree.specs.View.{binders_of, tree_of, trees_of};
+ghost use Rattle.snesl_grammar.specs.tree.View.{tree_of, trees_of};
 ghost use Rattle.snesl_evaluation.specs.Builtins.{seq_answer};
 ghost use Rattle.snesl_evaluation.specs.Results.{Answers, IsAnswer};
-ghost use Rattle.snesl_evaluation.specs.Eval.{in_step, rows_of};
-ghost use Rattle.snesl_evaluation.specs.Answer.{go};
-ghost use Rattle.snesl_evaluation.specs.Scopes.{all_in, are_level, binders_in, bound_items_of, each_in, kept_in, where_in};
+ghost use Rattle.snesl_evaluation.specs.Scopes.{all_in, are_level, kept_in};
 ghost use Rattle.snesl_evaluation.specs.Forms.{EvaluatesTo, apply_form, binary_form, bound_in, call_form, called_in, entered_in, filter_in, if_form, let_form, pair_in, prefix_form, program_answer};
 ghost use Rattle.snesl_evaluation.specs.Data.{kept_values, values_in};
+ghost use Rattle.snesl_evaluation.specs.Comprehensions.{ColumnsAre, GathersTo, RowsGive, RowsKeep, SelectsTo};
 
 use crate::builtins::apply;
 use crate::calls::find_function;
@@ -20,7 +19,7 @@ use crate::parts::{add, add_found, filtered, into_items, pair, sequence_of, trut
 use crate::scope::{Column, ProgramContext, Scope, add_column, height, look_up};
 use snesl_data::{Datum, Fault, FaultKind};
 use snesl_grammar::Program;
-use snesl_tree::{Binder, Builtin, Declaration, Expr, Function, Operator, Prefix, Span};
+use snesl_grammar::tree::{Binder, Builtin, Declaration, Expr, Function, Operator, Prefix, Span};
 use snesl_values::Inputs;
 use std::alloc::{AllocError, Global};
 
@@ -277,10 +276,7 @@ fn each(
     binders: &[Binder],
     scope: &Scope,
 ) -> Result<Datum, Halt>
-    ensures { Answers value_of result (go (binders_in context.now scope.now
-        (binders_of binders.now)) (λ columns.
-        go (in_step at columns) (λ rows.
-        seq_answer (each_in context.now scope.now (tree_of body.now) rows)))) }
+    ensures { GathersTo context.now scope.now at binders.now body.now result }
 {
     let columns = all_columns(context, binders, scope)?;
     let number = height(at, &columns)?;
@@ -299,11 +295,7 @@ fn each_where(
     condition: &Expr,
     scope: &Scope,
 ) -> Result<Datum, Halt>
-    ensures { Answers value_of result (go (binders_in context.now scope.now
-        (binders_of binders.now)) (λ columns.
-        go (in_step at columns) (λ rows.
-        seq_answer (where_in context.now scope.now at (tree_of body.now)
-        (tree_of condition.now) rows)))) }
+    ensures { SelectsTo context.now scope.now at binders.now body.now condition.now result }
 {
     let columns = all_columns(context, binders, scope)?;
     let number = height(at, &columns)?;
@@ -337,8 +329,7 @@ pub fn all_columns(
     binders: &[Binder],
     scope: &Scope,
 ) -> Result<Vec<Column>, Halt>
-    ensures { Answers (λ columns. map (bound_items_of context.now.text.now) columns.items) result
-        (binders_in context.now scope.now (binders_of binders.now)) }
+    ensures { ColumnsAre context.now scope.now binders.now result }
 {
     let mut columns = Vec::new(context.alloc);
     for binder in binders {
@@ -402,9 +393,7 @@ fn rows<'a>(
     scope: &'a Scope<'a>,
 ) -> Result<Vec<Datum>, Halt>
     requires { are_level number columns.now ≡ true }
-    ensures { Answers (λ values. map value_of values.items) result
-        (each_in context.now scope.now (tree_of body.now)
-        (rows_of number (map (bound_items_of context.now.text.now) columns.now))) }
+    ensures { RowsGive context.now scope.now body.now number columns.now result }
 {
     let mut values = Vec::new(context.alloc);
     for index in 0..number {
@@ -432,9 +421,7 @@ fn rows_where<'a>(
     scope: &'a Scope<'a>,
 ) -> Result<Vec<Datum>, Halt>
     requires { are_level number columns.now ≡ true }
-    ensures { Answers (λ values. map value_of values.items) result
-        (where_in context.now scope.now at (tree_of body.now) (tree_of condition.now)
-        (rows_of number (map (bound_items_of context.now.text.now) columns.now))) }
+    ensures { RowsKeep context.now scope.now at body.now condition.now number columns.now result }
 {
     let mut values = Vec::new(context.alloc);
     for index in 0..number {

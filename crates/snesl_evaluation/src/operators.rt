@@ -11,9 +11,9 @@ ghost use Rattle.snesl_evaluation.specs.Data.{AnswersOf, index_answer};
 use crate::halt::{Halt, fault};
 use crate::parts::{datum_of, elements, integer, items, scalar, sequence_of};
 use crate::sequences::add_copies;
+use snesl_data::operators::{BinaryOperator, Scalar, UnaryOperator};
 use snesl_data::{Datum, Dialect, Elements, FaultKind};
-use snesl_operators::{BinaryOperator, Scalar, UnaryOperator};
-use snesl_tree::{Operator, Prefix};
+use snesl_grammar::tree::{Operator, Prefix};
 use std::alloc::Global;
 
 // The scalar, or its fault at this offset.

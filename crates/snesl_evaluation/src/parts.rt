@@ -7,8 +7,8 @@ ghost use Rattle.snesl_evaluation.specs.Results.{Answers};
 ghost use Rattle.snesl_evaluation.specs.Data.{kept_values, values_in};
 
 use crate::halt::{Halt, fault};
+use snesl_data::operators::Scalar;
 use snesl_data::{Datum, Elements, FaultKind};
-use snesl_operators::Scalar;
 use std::alloc::{AllocError, Global};
 
 pub fn integer(at: usize, datum: &Datum) -> Result<i128, Halt>

@@ -1,18 +1,17 @@
 // What names and calls stand for.
 
-ghost use Rattle.std.specs.Prelude.{◌≡◌, ℕ, List, [], ◌∷◌, ◌++◌, map, true, IfOk, OnOk};
+ghost use Rattle.std.specs.Prelude.{◌≡◌, ℕ, List, true, IfOk, OnOk};
 ghost use Rattle.snesl_values.specs.Inputs.{value_in};
 ghost use Rattle.snesl_data.specs.Values.{value_of};
-ghost use Rattle.snesl_tree.specs.Spelling.{spelling};
 ghost use Rattle.snesl_evaluation.specs.Results.{Answers};
-ghost use Rattle.snesl_evaluation.specs.Scopes.{are_level, bound_items_of, environment_in, first_height, item_named, named_in, named_items, named_values, row_names};
+ghost use Rattle.snesl_evaluation.specs.Scopes.{are_level, bound_items_of, environment_in, first_height, item_named, named_in, named_values, row_names};
 ghost use Rattle.snesl_evaluation.specs.Data.{found_value};
-ghost use Rattle.snesl_evaluation.specs.Eval.{in_step, rows_of};
+ghost use Rattle.snesl_evaluation.specs.Comprehensions.{AddsColumn, RowsInStep};
 
 use crate::entries::{Entry, find_entry};
 use crate::halt::{Halt, fault};
 use snesl_data::{Datum, Dialect, FaultKind, copy_datum};
-use snesl_tree::{Declaration, Span, Typing};
+use snesl_grammar::tree::{Declaration, Span, Typing};
 use std::alloc::{AllocError, Global};
 
 /// What stays the same in one body: the dialect of the program, the text, in which names are
@@ -143,9 +142,7 @@ pub fn add_column(
     name: Span,
     items: Vec<Datum>,
 ) -> Result<(), AllocError>
-    ensures { (text : List ℕ) → OnOk result (map (bound_items_of text) columns.new.items ≡
-        map (bound_items_of text) columns.old.items ++ (spelling text name, map value_of items.items) ∷
-        []) }
+    ensures { (text : List ℕ) → OnOk result (AddsColumn text columns.old name items columns.new) }
 {
     columns.push(Column { name, items })?;
     Ok(())
@@ -154,8 +151,7 @@ pub fn add_column(
 // The length of all columns.
 pub fn height(at: usize, columns: &[Column]) -> Result<usize, Halt>
     ensures level { IfOk result (λ n. are_level n columns.now ≡ true) }
-    ensures in_step { (text : List ℕ) → Answers (λ n.
-        rows_of n (named_items text columns.now)) result (in_step at (named_items text columns.now)) }
+    ensures in_step { (text : List ℕ) → RowsInStep text at columns.now result }
 {
     let height = first_height(columns);
     if are_level(columns, height) {

@@ -2,8 +2,8 @@
 
 ghost use Rattle.std.specs.Prelude.{◌≡◌, ◌++◌, [], ◌+◌, ◌+ℤ◌, map, IfOk, OnOk};
 ghost use Rattle.snesl_data.specs.Values.{value_of};
-ghost use Rattle.snesl_operators.specs.Operators.{ranged};
-ghost use Rattle.snesl_operators.specs.Reductions.{reduction_of};
+ghost use Rattle.snesl_data.specs.operators.Operators.{ranged};
+ghost use Rattle.snesl_data.specs.operators.Reductions.{reduction_of};
 ghost use Rattle.snesl_evaluation.specs.Answer.{answer_at, go_all, go_join};
 ghost use Rattle.snesl_evaluation.specs.Builtins.{int_at, items_at, numbers_below, scalar_at, truth_at};
 ghost use Rattle.snesl_evaluation.specs.Results.{Answers};
@@ -11,8 +11,8 @@ ghost use Rattle.snesl_evaluation.specs.Data.{parts_at, sums_at, values_in, with
 
 use crate::halt::{Halt, fault};
 use crate::parts::{add, integer, items, scalar, sequence_of, truth};
+use snesl_data::operators::{Reduction, Scalar, sum};
 use snesl_data::{Datum, Dialect, FaultKind, copy_datum};
-use snesl_operators::{Reduction, Scalar, sum};
 use std::alloc::{AllocError, Global};
 use std::mem;
 

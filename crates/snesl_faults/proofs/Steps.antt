@@ -2,8 +2,8 @@
 use Rattle.std.proofs.Common.{◌≡◌, ℕ, zero, suc, ◌+◌, ◌<◌, ◌≤◌, List, [], ◌∷◌, ◌++◌, drop, length, map, get_or, Vec, Global, Result, Ok, Err, IfOk, sym, ap, ◌∙◌, arith}
 use Rattle.snesl_data.specs.declared.datum.Datum.{Datum}
 use Rattle.snesl_data.specs.Values.{Value, value_of}
-use Rattle.snesl_tree.specs.declared.expr.Binder.{Binder}
-use Rattle.snesl_tree.specs.View.{tree_of, binders_of}
+use Rattle.snesl_grammar.specs.declared.tree.expr.Binder.{Binder}
+use Rattle.snesl_grammar.specs.tree.View.{tree_of, binders_of}
 use Rattle.snesl_evaluation.specs.declared.halt.Halt.{Halt}
 use Rattle.snesl_evaluation.specs.declared.scope.Scope.{Scope}
 use Rattle.snesl_evaluation.specs.declared.scope.ProgramContext.{ProgramContext}

@@ -1,12 +1,21 @@
 -- The form at which evaluation ends in a fault, and the values of its parts.
-use Rattle.std.specs.Prelude.{◌≡◌, ℕ, List, map, Result, Ok, Err}
+use Rattle.std.specs.Prelude.{◌≡◌, ℕ, List, map, Result, Ok, Err, IfOk, Vec}
+use Rattle.std.specs.Global.{Global}
+use Rattle.snesl_data.specs.declared.datum.Datum.{Datum}
 use Rattle.snesl_data.specs.declared.dialect.Dialect.{Dialect}
+use Rattle.snesl_data.specs.declared.fault.Fault.{Fault}
 use Rattle.snesl_data.specs.declared.fault.FaultKind.{FaultKind}
 use Rattle.snesl_data.specs.Values.{Value, value_of}
 use Rattle.snesl_values.specs.Inputs.{Environment}
-use Rattle.snesl_tree.specs.declared.declaration.Declaration.{Declaration}
-use Rattle.snesl_tree.specs.Tree.{Tree, Trees, Binders, binary, prefix, call, each, none, both, none_bound, binder, offset}
-use Rattle.snesl_tree.specs.View.{declaration_of}
+use Rattle.snesl_grammar.specs.declared.tree.declaration.Declaration.{Declaration}
+use Rattle.snesl_grammar.specs.tree.Tree.{Tree, Trees, Binders, binary, prefix, call, each, none, both, none_bound, binder, offset}
+use Rattle.snesl_grammar.specs.tree.View.{declaration_of, tree_of}
+use Rattle.snesl_grammar.specs.declared.tree.expr.Expr.{Expr}
+use Rattle.snesl_grammar.specs.declared.program.Program.{Program}
+use Rattle.snesl_evaluation.specs.declared.halt.Halt.{Halt}
+use Rattle.snesl_evaluation.specs.declared.scope.ProgramContext.{ProgramContext}
+use Rattle.snesl_evaluation.specs.declared.scope.Scope.{Scope}
+use Rattle.snesl_evaluation.specs.Scopes.{all_in}
 use Rattle.snesl_evaluation.specs.Answer.{Answer, gives, faults}
 use Rattle.snesl_evaluation.specs.Eval.{Calls, calls_of, eval, eval_all}
 use Rattle.snesl_faults.specs.declared.finding.Finding.{Finding}
@@ -43,7 +52,20 @@ abbrev pub IsRightStop : Dialect → List ℕ → Stop → Type 0
 IsRightStop dialect text GivenUp = Unit {0}
 IsRightStop dialect text (Found finding) = FaultsAtSomeForm dialect text finding.fault.kind finding.fault.at (map value_of finding.values.items)
 
--- the same of a result
-abbrev pub MayStop : {A : Type 0} → Dialect → List ℕ → Result A Stop → Type 0
-MayStop dialect text (Ok x) = Unit {0}
-MayStop dialect text (Err stop) = IsRightStop dialect text stop
+-- the same of a result, where this program is evaluated
+abbrev pub MayStop : {A : Type 0} → ProgramContext → Result A Stop → Type 0
+MayStop context (Ok x) = Unit {0}
+MayStop context (Err stop) = IsRightStop context.dialect context.text.now stop
+
+-- so it is of a program's fault and these values
+abbrev pub FaultsWith : Program → Fault → Vec Datum Global → Type 0
+FaultsWith program fault values =
+    FaultsAtSomeForm program.dialect program.text.items fault.kind fault.at (map value_of values.items)
+
+-- two expressions, in order
+abbrev pub two_parts : Expr → Expr → Trees
+two_parts first second = both (tree_of first) (both (tree_of second) none)
+
+-- where there are values, they are those of these expressions there
+abbrev pub GivesValuesOf : ProgramContext → Scope → Trees → Result (Vec Datum Global) Halt → Type 0
+GivesValuesOf context scope trees result = IfOk result (λ values. all_in context scope trees ≡ gives (map value_of values.items))

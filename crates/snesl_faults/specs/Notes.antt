@@ -1,9 +1,10 @@
 -- What is said of the values of the parts of a form at fault.
-use Rattle.std.specs.Prelude.{ℕ, ◌++◌, ◌==◌, if◌then◌else◌, List, [], ◌∷◌, Option, Some, None, codes, decimal, length, option_map}
+use Rattle.std.specs.Prelude.{ℕ, ◌++◌, ◌==◌, if◌then◌else◌, List, [], ◌∷◌, Option, Some, None, codes, decimal, length, map, option_map}
 use Rattle.snesl_data.specs.declared.fault.FaultKind.{FaultKind}
 use Rattle.snesl_data.specs.declared.fault.FaultKind.TheVariants.{Divide, Overflow, NegativeCount, Length, Part, The, Index}
 use Rattle.snesl_data.specs.Text.{text}
-use Rattle.snesl_data.specs.Values.{Value, a_vec, a_seq, list_of}
+use Rattle.snesl_data.specs.declared.datum.Datum.{Datum}
+use Rattle.snesl_data.specs.Values.{Value, a_vec, a_seq, list_of, value_of}
 
 -- `1 element`, `2 elements`
 abbrev pub elements_text : ℕ → List ℕ
@@ -37,3 +38,15 @@ words_of _ _ = None
 -- what is said of a fault of this kind at a form whose parts have these values
 abbrev pub note : FaultKind → List Value → Option (List ℕ)
 note kind values = option_map (λ words. words.0 ++ values_text words.1 values) (words_of kind values)
+
+-- data in such words
+abbrev pub data_text : List ℕ → List Datum → List ℕ
+data_text between all = values_text between (map value_of all)
+
+-- the words before data, and between them
+abbrev pub data_words : FaultKind → List Datum → Option (List ℕ × List ℕ)
+data_words kind all = words_of kind (map value_of all)
+
+-- what is said of a fault at a form whose parts have the values of these data
+abbrev pub data_note : FaultKind → List Datum → Option (List ℕ)
+data_note kind all = note kind (map value_of all)

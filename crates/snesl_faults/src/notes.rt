@@ -1,8 +1,8 @@
 // What is said of the values of the parts of a form at fault.
 
-ghost use Rattle.std.specs.Prelude.{◌≡◌, ◌++◌, IfOk, OnOk, map, option_map};
+ghost use Rattle.std.specs.Prelude.{◌≡◌, ◌++◌, IfOk, OnOk, option_map};
 ghost use Rattle.snesl_data.specs.Values.{value_of};
-ghost use Rattle.snesl_faults.specs.Notes.{elements_text, note, value_text, values_text, words_of};
+ghost use Rattle.snesl_faults.specs.Notes.{data_note, data_text, data_words, elements_text, value_text};
 
 use itoa::Buffer;
 use snesl_data::{Datum, FaultKind, text_of};
@@ -15,8 +15,7 @@ pub fn note_of(
     kind: FaultKind,
     values: &[Datum],
 ) -> Result<Option<Vec<u8>>, AllocError>
-    ensures { IfOk result (λ found. option_map (λ made. made.items) found
-        ≡ note kind (map value_of values.now)) }
+    ensures { IfOk result (λ found. option_map (λ made. made.items) found ≡ data_note kind values.now) }
 {
     match words_of(kind, values) {
         Some((before, between)) => {
@@ -30,8 +29,7 @@ pub fn note_of(
 
 // What stands before the values, and between them.
 fn words_of(kind: FaultKind, values: &[Datum]) -> Option<(&'static [u8], &'static [u8])>
-    ensures { option_map (λ words. (words.0.now, words.1.now)) result
-        ≡ words_of kind (map value_of values.now) }
+    ensures { option_map (λ words. (words.0.now, words.1.now)) result ≡ data_words kind values.now }
 {
     match (kind, values) {
         (FaultKind::Divide, [_, _]) => Some((b"the operands are ", b" and ")),
@@ -53,8 +51,7 @@ fn append_values(
     between: &[u8],
     values: &[Datum],
 ) -> Result<(), AllocError>
-    ensures { OnOk result (made.new.items ≡ made.old.items ++
-        values_text between.now (map value_of values.now)) }
+    ensures { OnOk result (made.new.items ≡ made.old.items ++ data_text between.now values.now) }
 {
     match values {
         [] => Ok(()),

@@ -1,17 +1,16 @@
 // The values of the parts of a form at fault.
 
-ghost use Rattle.std.specs.Prelude.{◌≡◌, IfOk, map};
-ghost use Rattle.snesl_data.specs.Values.{value_of};
-ghost use Rattle.snesl_tree.specs.Tree.{both, none, offset};
-ghost use Rattle.snesl_tree.specs.View.{binders_of, tree_of};
-ghost use Rattle.snesl_evaluation.specs.Answer.{faults, gives};
-ghost use Rattle.snesl_evaluation.specs.Scopes.{all_in, eval_in};
-ghost use Rattle.snesl_faults.specs.Faults.{IsRightStop, parts_of, sources};
+ghost use Rattle.std.specs.Prelude.{◌≡◌};
+ghost use Rattle.snesl_grammar.specs.tree.Tree.{both, none, offset};
+ghost use Rattle.snesl_grammar.specs.tree.View.{binders_of, tree_of};
+ghost use Rattle.snesl_evaluation.specs.Answer.{faults};
+ghost use Rattle.snesl_evaluation.specs.Scopes.{eval_in};
+ghost use Rattle.snesl_faults.specs.Faults.{GivesValuesOf, IsRightStop, parts_of, sources, two_parts};
 
 use crate::finding::{Finding, Stop};
 use snesl_data::{Datum, Fault};
 use snesl_evaluation::{Halt, ProgramContext, Scope, all_values, value};
-use snesl_tree::{Binder, Expr};
+use snesl_grammar::tree::{Binder, Expr};
 
 // What is found at a form that ends in a fault at its own offset. It is given up where memory is refused.
 pub(crate) fn found_at(context: &ProgramContext, expr: &Expr, scope: &Scope, fault: Fault) -> Stop
@@ -28,8 +27,7 @@ pub(crate) fn found_at(context: &ProgramContext, expr: &Expr, scope: &Scope, fau
 
 // The values of operands, arguments, or the sequences of a comprehension.
 fn part_values(context: &ProgramContext, expr: &Expr, scope: &Scope) -> Result<Vec<Datum>, Halt>
-    ensures { IfOk result (λ values. all_in context.now scope.now (parts_of (tree_of expr.now))
-        ≡ gives (map value_of values.items)) }
+    ensures { GivesValuesOf context.now scope.now (parts_of (tree_of expr.now)) result }
 {
     match expr {
         Expr::Binary { left, right, .. } => two_values(context, left, right, scope),
@@ -41,8 +39,7 @@ fn part_values(context: &ProgramContext, expr: &Expr, scope: &Scope) -> Result<V
 }
 
 fn one_value(context: &ProgramContext, expr: &Expr, scope: &Scope) -> Result<Vec<Datum>, Halt>
-    ensures { IfOk result (λ values. all_in context.now scope.now
-        (both (tree_of expr.now) none) ≡ gives (map value_of values.items)) }
+    ensures { GivesValuesOf context.now scope.now (both (tree_of expr.now) none) result }
 {
     let mut values = Vec::new(context.alloc);
     let value = value(context, expr, scope)?;
@@ -56,9 +53,7 @@ fn two_values(
     second: &Expr,
     scope: &Scope,
 ) -> Result<Vec<Datum>, Halt>
-    ensures { IfOk result (λ values. all_in context.now scope.now
-        (both (tree_of first.now) (both (tree_of second.now) none))
-        ≡ gives (map value_of values.items)) }
+    ensures { GivesValuesOf context.now scope.now (two_parts first.now second.now) result }
 {
     let mut values = Vec::new(context.alloc);
     let one = value(context, first, scope)?;
@@ -74,8 +69,7 @@ fn sequence_values(
     binders: &[Binder],
     scope: &Scope,
 ) -> Result<Vec<Datum>, Halt>
-    ensures { IfOk result (λ values. all_in context.now scope.now
-        (sources (binders_of binders.now)) ≡ gives (map value_of values.items)) }
+    ensures { GivesValuesOf context.now scope.now (sources (binders_of binders.now)) result }
 {
     let mut values = Vec::new(context.alloc);
     for binder in binders {

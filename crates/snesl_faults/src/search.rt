@@ -8,7 +8,7 @@ use snesl_data::Datum;
 use snesl_evaluation::{
     Column, Halt, ProgramContext, Scope, all_columns, all_values, find_function, value,
 };
-use snesl_tree::{Binder, Builtin, Declaration, Expr, Function, Span};
+use snesl_grammar::tree::{Binder, Builtin, Declaration, Expr, Function, Span};
 
 // The value of an expression, or the form at fault with the values of its parts. It is given up where memory is refused, where
 // the values on the way have more elements than may be spent, and where the form at fault has no values to tell.
@@ -20,7 +20,7 @@ pub(crate) fn search(
     scope: &Scope,
     budget: &mut usize,
 ) -> Result<Datum, Stop>
-    ensures { MayStop context.now.dialect context.now.text.now result }
+    ensures { MayStop context.now result }
 {
     parts(context, expr, scope, budget)?;
     if is_dear(context, expr, scope, *budget) {
@@ -70,7 +70,7 @@ fn parts(
     scope: &Scope,
     budget: &mut usize,
 ) -> Result<(), Stop>
-    ensures { MayStop context.now.dialect context.now.text.now result }
+    ensures { MayStop context.now result }
 {
     match expr {
         Expr::Integer { .. } | Expr::Truth { .. } | Expr::Name(_) => {}
@@ -147,7 +147,7 @@ fn all(
     scope: &Scope,
     budget: &mut usize,
 ) -> Result<(), Stop>
-    ensures { MayStop context.now.dialect context.now.text.now result }
+    ensures { MayStop context.now result }
 {
     for expr in exprs {
         search(context, expr, scope, budget)?;
@@ -166,7 +166,7 @@ fn bind<'a>(
     scope: &'a Scope<'a>,
     budget: &mut usize,
 ) -> Result<(), Stop>
-    ensures { MayStop context.now.dialect context.now.text.now result }
+    ensures { MayStop context.now result }
 {
     let inner = Scope::Bound {
         name,
@@ -187,7 +187,7 @@ fn filtered(
     scope: &Scope,
     budget: &mut usize,
 ) -> Result<(), Stop>
-    ensures { MayStop context.now.dialect context.now.text.now result }
+    ensures { MayStop context.now result }
 {
     if let Datum::Bool(true) = search(context, condition, scope, budget)? {
         search(context, item, scope, budget)?;
@@ -204,7 +204,7 @@ fn columns(
     scope: &Scope,
     budget: &mut usize,
 ) -> Result<Vec<Column>, Stop>
-    ensures { MayStop context.now.dialect context.now.text.now result }
+    ensures { MayStop context.now result }
 {
     for binder in binders {
         search(context, &binder.source, scope, budget)?;
@@ -222,7 +222,7 @@ fn rows<'a>(
     scope: &'a Scope<'a>,
     budget: &mut usize,
 ) -> Result<(), Stop>
-    ensures { MayStop context.now.dialect context.now.text.now result }
+    ensures { MayStop context.now result }
 {
     for index in 0..height(columns) {
         let row = Scope::Row {
@@ -246,7 +246,7 @@ fn rows_where<'a>(
     scope: &'a Scope<'a>,
     budget: &mut usize,
 ) -> Result<(), Stop>
-    ensures { MayStop context.now.dialect context.now.text.now result }
+    ensures { MayStop context.now result }
 {
     for index in 0..height(columns) {
         let row = Scope::Row {
@@ -283,7 +283,7 @@ fn call(
     scope: &Scope,
     budget: &mut usize,
 ) -> Result<(), Stop>
-    ensures { MayStop context.now.dialect context.now.text.now result }
+    ensures { MayStop context.now result }
 {
     all(context, arguments, scope, budget)?;
     let values = all_values(context, arguments, scope)?;
@@ -304,7 +304,7 @@ fn enter(
     values: &[Datum],
     budget: &mut usize,
 ) -> Result<(), Stop>
-    ensures { MayStop context.now.dialect context.now.text.now result }
+    ensures { MayStop context.now result }
 {
     let inner = ProgramContext {
         alloc: context.alloc,

@@ -1,8 +1,7 @@
 // What a fault of a program tells.
 
-ghost use Rattle.std.specs.Prelude.{IfSome, map};
-ghost use Rattle.snesl_data.specs.Values.{value_of};
-ghost use Rattle.snesl_faults.specs.Faults.{FaultsAtSomeForm};
+ghost use Rattle.std.specs.Prelude.{IfSome};
+ghost use Rattle.snesl_faults.specs.Faults.{FaultsWith};
 
 use crate::finding::Stop;
 use crate::search::search;
@@ -26,8 +25,7 @@ pub fn values_at_fault(
     inputs: &Inputs,
     fault: Fault,
 ) -> Option<Vec<Datum>>
-    ensures { IfSome result (λ values. FaultsAtSomeForm program.now.dialect program.now.text.items
-        fault.kind fault.at (map value_of values.items)) }
+    ensures { IfSome result (FaultsWith program.now fault) }
 {
     let context = ProgramContext {
         alloc,

@@ -6,22 +6,22 @@ use Rattle.snesl_data.specs.declared.refusal.Refusal.{Refusal}
 use Rattle.snesl_data.specs.declared.refusal.Refusal.TheVariants.{TooBig, NoMemory}
 use Rattle.snesl_values.specs.Inputs.{InputDeclaration}
 use Rattle.snesl_data.specs.Types.{Ty}
-use Rattle.snesl_tree.specs.Tree.{Tree}
-use Rattle.snesl_tree.specs.View.{tree_of, declaration_of}
-use Rattle.snesl_tree.specs.declared.declaration.Declaration.{Declaration as DeclarationData}
+use Rattle.snesl_grammar.specs.tree.Tree.{Tree}
+use Rattle.snesl_grammar.specs.tree.View.{tree_of, declaration_of}
+use Rattle.snesl_grammar.specs.declared.tree.declaration.Declaration.{Declaration as DeclarationData}
 use Rattle.snesl_grammar.specs.View.{program_of as tree_of_program}
 use Rattle.snesl_grammar.specs.declared.program.Program.{Program}
-use Rattle.flow_plans.specs.Plans.{print}
+use Rattle.flow_nodes.specs.plans.Plans.{print}
 use Rattle.snesl_translation.specs.Wires.{Wires, type_of_wires, numbers_of, Bound}
 use Rattle.snesl_translation.specs.Makings.{Making, and_then, tested}
 use Rattle.snesl_translation.specs.Translation.{tr}
 use Rattle.snesl_translation.specs.Functions.{bodies_of}
 use Rattle.snesl_translation.specs.Programs.{first_offset, control_sourced, inputs_sourced, program_plan, unset_cells}
-use Rattle.snesl_steps.specs.declared.steps.Steps.{Steps}
-use Rattle.snesl_steps.specs.declared.wires.Wires.{Wires as WiresData}
-use Rattle.snesl_steps.specs.Views.{dialect_of_steps, steps_in, next_in, wires_of}
-use Rattle.snesl_steps.specs.Added.{HasMade, Adds}
-use Rattle.snesl_steps.proofs.Adding.{made_then, exits, exits_first}
+use Rattle.snesl_translator.specs.declared.steps.steps.Steps.{Steps}
+use Rattle.snesl_translator.specs.declared.steps.wires.Wires.{Wires as WiresData}
+use Rattle.snesl_translator.specs.steps.Views.{dialect_of_steps, steps_in, next_in, wires_of}
+use Rattle.snesl_translator.specs.steps.Added.{HasMade, Adds}
+use Rattle.snesl_translator.proofs.OfSteps.Adding.{made_then, exits, exits_first}
 use Rattle.snesl_translator.specs.Translated.{bodies_in}
 use Rattle.snesl_translator.specs.declared.translator.ProgramContext.{ProgramContext}
 use Rattle.snesl_flatten.specs.Behind.{printed}

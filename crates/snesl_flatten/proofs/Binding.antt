@@ -10,11 +10,11 @@ use Rattle.flow_messages.specs.Cells.{Cell}
 use Rattle.snesl_translation.specs.Wires.{Wires, Bound}
 use Rattle.snesl_translation.specs.Makings.{Making, done, and_then}
 use Rattle.snesl_translation.specs.Programs.{sourced, inputs_sourced, unset_cells}
-use Rattle.snesl_steps.specs.declared.steps.Steps.{Steps}
-use Rattle.snesl_steps.specs.declared.wires.Binding.{Binding}
-use Rattle.snesl_steps.specs.Views.{next_in, wires_of, binding_of, bindings_of}
-use Rattle.snesl_steps.specs.Added.{HasMade, Adds}
-use Rattle.snesl_steps.proofs.Adding.{done_made, made_then, then_done, refused_first, exits_first}
+use Rattle.snesl_translator.specs.declared.steps.steps.Steps.{Steps}
+use Rattle.snesl_translator.specs.declared.steps.wires.Binding.{Binding}
+use Rattle.snesl_translator.specs.steps.Views.{next_in, wires_of, binding_of, bindings_of}
+use Rattle.snesl_translator.specs.steps.Added.{HasMade, Adds}
+use Rattle.snesl_translator.proofs.OfSteps.Adding.{done_made, made_then, then_done, refused_first, exits_first}
 
 same_making : {A : Type 0} (one other : Making A) → one.steps ≡ other.steps → one.given ≡ other.given → one.next ≡ other.next → one ≡ other
 same_making one other steps given next = λ i. record { steps = steps i; given = given i; next = next i }

@@ -5,7 +5,7 @@ use Rattle.std.proofs.Math.ListN.{length-set}
 use Rattle.std.specs.List.{slice_get}
 use Rattle.snesl_data.specs.Types.{Ty}
 use Rattle.snesl_values.specs.Inputs.{InputDeclaration}
-use Rattle.snesl_tree.specs.Tree.{ProgramTree}
+use Rattle.snesl_grammar.specs.tree.Tree.{ProgramTree}
 use Rattle.flow_messages.specs.Cells.{Cell}
 use Rattle.flow_scalar.specs.Streams.{Items}
 use Rattle.flow_scalar.specs.SourceBehaviour.{source_opening}
@@ -13,14 +13,14 @@ use Rattle.flow_values.specs.PrintMachine.{print_opening}
 use Rattle.flow_nodes.specs.StreamNodes.{a_source, a_print, node_behaviour}
 use Rattle.flow_networks.specs.Networks.{state_at}
 use Rattle.flow_networks.specs.Replacements.{MayReplace}
-use Rattle.flow_plans.specs.Plans.{Step, print}
-use Rattle.flow_plans.specs.Ports.{kinds_written}
-use Rattle.flow_plans.specs.Layouts.{Placed, all_after, layout_from, layout, numbered}
-use Rattle.flow_plans.proofs.Places.{get_right}
+use Rattle.flow_nodes.specs.plans.Plans.{Step, print}
+use Rattle.flow_nodes.specs.plans.Ports.{kinds_written}
+use Rattle.flow_nodes.specs.plans.Layouts.{Placed, all_after, layout_from, layout, numbered}
+use Rattle.flow_nodes.proofs.OfPlans.Places.{get_right}
 use Rattle.flow_assembly.specs.Openings.{AllOpen}
 use Rattle.snesl_translation.specs.Wires.{Wires, type_of_wires, numbers_of}
 use Rattle.snesl_translation.specs.Programs.{first_offset, program_plan, unset_cells}
-use Rattle.flow_texts.specs.PrintedTexts.{PrintsAtTheEnd}
+use Rattle.snesl_flatten.specs.texts.PrintedTexts.{PrintsAtTheEnd}
 use Rattle.snesl_flatten.specs.Networks.{StreamNodeState, program_steps}
 use Rattle.snesl_flatten.proofs.Sources.{value, front_steps, front_and_print, given_is}
 

@@ -1,12 +1,12 @@
 -- The network that was assembled of the steps of a program, no source of which is set.
 use Rattle.std.proofs.Common.{◌≡◌, ℕ, List, [], refl, subst}
 use Rattle.snesl_values.specs.Inputs.{InputDeclaration}
-use Rattle.snesl_tree.specs.Tree.{ProgramTree}
+use Rattle.snesl_grammar.specs.tree.Tree.{ProgramTree}
 use Rattle.flow_nodes.specs.StreamNodes.{node_behaviour}
 use Rattle.flow_networks.specs.declared.edge.Edge.{Edge}
 use Rattle.flow_networks.specs.Networks.{AreOpened}
-use Rattle.flow_plans.specs.Plans.{Step}
-use Rattle.flow_plans.specs.Layouts.{layout, IsNetworkOfPlan}
+use Rattle.flow_nodes.specs.plans.Plans.{Step}
+use Rattle.flow_nodes.specs.plans.Layouts.{layout, IsNetworkOfPlan}
 use Rattle.flow_assembly.specs.Openings.{AllOpen}
 use Rattle.snesl_translation.specs.Programs.{unset_cells}
 use Rattle.snesl_flatten.specs.Networks.{StreamNodeState, program_steps}

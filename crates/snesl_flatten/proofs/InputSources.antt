@@ -20,11 +20,11 @@ use Rattle.flow_base.specs.Lists.{Lists}
 use Rattle.flow_scalar.specs.SourceBehaviour.{source_opening}
 use Rattle.flow_values.specs.Shapes.{kinds_of, kind_at}
 use Rattle.flow_values.specs.Flats.{width, flat}
-use Rattle.flow_inputs.specs.Items.{items_from}
-use Rattle.flow_inputs.specs.Laws.{TextHoldsEdges, KindsOfEdges}
-use Rattle.flow_inputs.specs.TextSources.{items_in, text_source_state}
-use Rattle.flow_inputs.specs.Ways.{way_to, leaf_at}
-use Rattle.flow_inputs.specs.declared.source.TextSource.{TextSource}
+use Rattle.flow_nodes.specs.inputs.Items.{items_from}
+use Rattle.flow_nodes.specs.inputs.Laws.{TextHoldsEdges, KindsOfEdges}
+use Rattle.flow_nodes.specs.inputs.TextSources.{items_in, text_source_state}
+use Rattle.flow_nodes.specs.inputs.Ways.{way_to, leaf_at}
+use Rattle.flow_nodes.specs.declared.inputs.source.TextSource.{TextSource}
 use Rattle.flow_scalar.specs.Streams.{Items}
 use Rattle.snesl_flatten.specs.Sources.{cells_in, source_kind, all_kinds, AreFresh}
 use Rattle.snesl_flatten.proofs.InputStreams.{value_at, is_there}

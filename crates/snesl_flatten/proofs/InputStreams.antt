@@ -13,7 +13,7 @@ use Rattle.snesl_values.specs.Inputs.{InputDeclaration, Environment, FitDeclarat
 use Rattle.flow_messages.specs.declared.message.Kind.{Kind}
 use Rattle.flow_base.specs.Columns.{Columns}
 use Rattle.flow_values.specs.Shapes.{is_a, kinds_of}
-use Rattle.flow_rows.specs.Made.{columns_of_values}
+use Rattle.flow_nodes.specs.functions.Made.{columns_of_values}
 use Rattle.snesl_translation.specs.Programs.{columns_of}
 use Rattle.snesl_flatten.specs.Sources.{all_kinds}
 use Rattle.snesl_flatten.proofs.InputValues.{fit_at, columns_more, kinds_more}

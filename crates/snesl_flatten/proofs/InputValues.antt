@@ -7,7 +7,7 @@ use Rattle.snesl_data.specs.Values.{Value, Values, an_int, a_bool, a_pair, a_vec
 use Rattle.snesl_values.specs.Inputs.{InputDeclaration, Environment, FitDeclarations}
 use Rattle.flow_values.specs.Shapes.{is_a, all_are, kinds_of}
 use Rattle.flow_values.specs.laws.Kinds.{and_true}
-use Rattle.flow_rows.specs.Made.{columns_of_values}
+use Rattle.flow_nodes.specs.functions.Made.{columns_of_values}
 use Rattle.snesl_translation.specs.Programs.{columns_of}
 use Rattle.snesl_flatten.specs.Sources.{all_kinds}
 

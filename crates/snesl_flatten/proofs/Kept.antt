@@ -9,9 +9,9 @@ use Rattle.flow_nodes.specs.StreamNodes.{node_behaviour}
 use Rattle.flow_networks.specs.declared.edge.Edge.{Edge}
 use Rattle.flow_networks.specs.Edges.{edge_at}
 use Rattle.flow_networks.specs.Networks.{AreOpened}
-use Rattle.flow_plans.specs.Plans.{Step}
-use Rattle.flow_plans.specs.Ports.{kinds_read}
-use Rattle.flow_plans.specs.Layouts.{Placed, layout, places, stream_from, stream_to, edges_between, IsNetworkOfPlan}
+use Rattle.flow_nodes.specs.plans.Plans.{Step}
+use Rattle.flow_nodes.specs.plans.Ports.{kinds_read}
+use Rattle.flow_nodes.specs.plans.Layouts.{Placed, layout, places, stream_from, stream_to, edges_between, IsNetworkOfPlan}
 use Rattle.flow_assembly.specs.Openings.{AllOpen, IsUsable, OpeningsPerform}
 use Rattle.snesl_flatten.specs.Networks.{StreamNodeState}
 use Rattle.snesl_flatten.specs.Sources.{HasSources}

@@ -1,3 +1,5 @@
+pub mod OfNetwork
+pub mod OfTexts
 -- that a node may go to another thread, which a drive asks of the nodes of a plan's graph
 pub use Rattle.flow_nodes.proofs.Sending
 mod Adding

@@ -10,7 +10,7 @@ use Rattle.snesl_data.specs.Types.{Ty}
 use Rattle.snesl_data.specs.Values.{Value, HasType}
 use Rattle.snesl_values.specs.Inputs.{InputDeclaration, Environment, FitDeclarations}
 use Rattle.snesl_data.specs.Text.{text as text_of_value}
-use Rattle.snesl_tree.specs.Tree.{ProgramTree}
+use Rattle.snesl_grammar.specs.tree.Tree.{ProgramTree}
 use Rattle.snesl_evaluation.specs.Answer.{Answer, gives, faults}
 use Rattle.snesl_evaluation.specs.Eval.{program_value}
 use Rattle.snesl_types.specs.Programs.{HasTyping}
@@ -21,9 +21,9 @@ use Rattle.flow_messages.specs.Ends.{View}
 use Rattle.flow_base.specs.Columns.{Columns}
 use Rattle.flow_values.specs.Shapes.{is_a}
 use Rattle.flow_values.specs.Flats.{width, flat}
-use Rattle.flow_rows.specs.Lists.{bind}
-use Rattle.flow_rows.specs.Made.{columns_of_values}
-use Rattle.flow_rows.proofs.Options.{some_same}
+use Rattle.flow_nodes.specs.functions.Lists.{bind}
+use Rattle.flow_nodes.specs.functions.Made.{columns_of_values}
+use Rattle.flow_nodes.proofs.OfFunctions.Options.{some_same}
 use Rattle.flow_nodes.specs.StreamNodes.{node_behaviour, text_in}
 use Rattle.flow_networks.specs.declared.edge.Edge.{Edge}
 use Rattle.flow_networks.specs.Edges.{in_edge}
@@ -31,12 +31,12 @@ use Rattle.flow_networks.specs.Networks.{network_of, configuration_of, inputs_at
 use Rattle.flow_networks.specs.Laws.{IsNetwork}
 use Rattle.flow_networks.specs.Flows.{IsLawfulFlow}
 use Rattle.flow_networks.specs.FlowTheorems.{EndedIsLawful}
-use Rattle.flow_plans.specs.Plans.{Step, streams_at, run}
-use Rattle.flow_plans.specs.Layouts.{Placed, layout, stream_to, AreCarried}
-use Rattle.flow_plans.specs.PlanFlows.{PlanIsFlow, FlowIsPlan}
-use Rattle.flow_plans.proofs.Places.{each_place, columns_place}
+use Rattle.flow_nodes.specs.plans.Plans.{Step, streams_at, run}
+use Rattle.flow_nodes.specs.plans.Layouts.{Placed, layout, stream_to, AreCarried}
+use Rattle.flow_nodes.specs.plans.PlanFlows.{PlanIsFlow, FlowIsPlan}
+use Rattle.flow_nodes.proofs.OfPlans.Places.{each_place, columns_place}
 use Rattle.flow_drives.specs.Texts.{last_text}
-use Rattle.flow_texts.specs.PrintedTexts.{PrintsAtTheEnd, PrintTells}
+use Rattle.snesl_flatten.specs.texts.PrintedTexts.{PrintsAtTheEnd, PrintTells}
 use Rattle.snesl_translation.specs.Wires.{Wires, type_of_wires, numbers_of}
 use Rattle.snesl_translation.specs.Programs.{first_offset, program_plan, unset_cells, columns_of, cells_of, PlansMean}
 use Rattle.snesl_flatten.specs.Networks.{program_steps, NetworkMeans, StreamNodeState}

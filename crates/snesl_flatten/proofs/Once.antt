@@ -14,14 +14,9 @@ use Rattle.flow_scalar.specs.Streams.{Items}
 use Rattle.flow_scalar.specs.SourceBehaviour.{source_opening}
 use Rattle.flow_networks.specs.declared.edge.Edge.{Edge}
 use Rattle.flow_networks.specs.Networks.{AreOpened}
-use Rattle.flow_plans.specs.Plans.{Operation, source, const, unary, binary, iota, units_of, scan_add, reduce, length_of, dist, pack, pack_groups}
-use Rattle.flow_plans.specs.Plans.{flag_of_bool, same_flags, concat_flags, part_flags, the_check, append_flags, interleave, interleave_groups, print}
-use Rattle.flow_plans.specs.Plans.{tab, seq_of, index, fork, sink}
+use Rattle.flow_nodes.specs.plans.Plans.{Operation, source, fork}
 use Rattle.flow_assembly.specs.Openings.{IsOpening, IsUsable}
-use Rattle.flow_nodes.specs.StreamNodes.{NodeKind, member, node_behaviour, a_source, a_const, a_unary, a_binary, a_fork, a_sink, an_iota, a_units_of}
-use Rattle.flow_nodes.specs.StreamNodes.{a_scan_add, a_reduce, a_length, a_flag_of_bool, a_the_check, a_same_flags, a_concat_flags, a_part_flags}
-use Rattle.flow_nodes.specs.StreamNodes.{an_append_flags, a_dist, a_pack, a_pack_groups, an_interleave, an_interleave_groups, a_print, a_tab}
-use Rattle.flow_nodes.specs.StreamNodes.{a_seq_of_vector, an_index}
+use Rattle.flow_nodes.specs.StreamNodes.{NodeKind, member, node_behaviour, a_source}
 
 -- a type that maps into a set and back is a set
 retract_set : {A B : Type 0} (to : A → B) (from : B → A) → ((x : A) → from (to x) ≡ x) → IsSet B → IsSet A
@@ -131,33 +126,10 @@ AllOf-prop kind (x ∷ cells) = hlevel (props, AllOf-prop kind cells)
 
 ruleset sets = (props, Ty-set, Value-set, Values-set, Cell-set, AllOf-prop)
 
+-- here and below, the last clause stands for each of the other kinds
 member-set : (t : NodeKind) → IsSet (member t).State
 member-set a_source = hlevel sets
-member-set a_const = hlevel sets
-member-set a_unary = hlevel sets
-member-set a_binary = hlevel sets
-member-set a_fork = hlevel sets
-member-set a_sink = hlevel sets
-member-set an_iota = hlevel sets
-member-set a_units_of = hlevel sets
-member-set a_scan_add = hlevel sets
-member-set a_reduce = hlevel sets
-member-set a_length = hlevel sets
-member-set a_flag_of_bool = hlevel sets
-member-set a_the_check = hlevel sets
-member-set a_same_flags = hlevel sets
-member-set a_concat_flags = hlevel sets
-member-set a_part_flags = hlevel sets
-member-set an_append_flags = hlevel sets
-member-set a_dist = hlevel sets
-member-set a_pack = hlevel sets
-member-set a_pack_groups = hlevel sets
-member-set an_interleave = hlevel sets
-member-set an_interleave_groups = hlevel sets
-member-set a_print = hlevel sets
-member-set a_tab = hlevel sets
-member-set a_seq_of_vector = hlevel sets
-member-set an_index = hlevel sets
+member-set _ = hlevel sets
 
 NodeKind-set : IsSet NodeKind
 NodeKind-set = hlevel props
@@ -172,32 +144,8 @@ pub AreOpened-prop : (states : List ((t : NodeKind) × (member t).State)) → Is
 AreOpened-prop states = hlevel (props, State-set)
 
 pub IsUsable-prop : (operation : Operation) → IsProp (IsUsable operation)
-IsUsable-prop (source kind cells) = hlevel props
-IsUsable-prop (const k) = hlevel props
-IsUsable-prop (unary dialect op) = hlevel props
-IsUsable-prop (binary dialect op) = hlevel props
-IsUsable-prop iota = hlevel props
-IsUsable-prop units_of = hlevel props
-IsUsable-prop (scan_add dialect) = hlevel props
-IsUsable-prop (reduce dialect reduction) = hlevel props
-IsUsable-prop (length_of dialect) = hlevel props
-IsUsable-prop (dist kind) = hlevel props
-IsUsable-prop (pack kind) = hlevel props
-IsUsable-prop pack_groups = hlevel props
-IsUsable-prop flag_of_bool = hlevel props
-IsUsable-prop same_flags = hlevel props
-IsUsable-prop concat_flags = hlevel props
-IsUsable-prop part_flags = hlevel props
-IsUsable-prop the_check = hlevel props
-IsUsable-prop append_flags = hlevel props
-IsUsable-prop (interleave kind) = hlevel props
-IsUsable-prop interleave_groups = hlevel props
-IsUsable-prop (print ty) = hlevel props
-IsUsable-prop (tab ty) = hlevel props
-IsUsable-prop (seq_of ty) = hlevel props
-IsUsable-prop (index ty) = hlevel props
 IsUsable-prop (fork kind outputs) = hlevel props
-IsUsable-prop (sink kind) = hlevel props
+IsUsable-prop _ = hlevel props
 
 -- items of one kind that carry the same are the same
 items_same : (a b : Items) → a.kind ≡ b.kind → a.cells ≡ b.cells → a ≡ b
@@ -221,28 +169,4 @@ module _ (kind : Kind) (cells : List Cell) (s : (t : NodeKind) × (member t).Sta
 
 pub IsOpening-prop : (at : ℕ) (operation : Operation) (s : (t : NodeKind) × (member t).State) → IsProp (IsOpening at operation s)
 IsOpening-prop at (source kind cells) s = source_opens-prop kind cells s
-IsOpening-prop at (const k) s = hlevel (props, State-set)
-IsOpening-prop at (unary dialect op) s = hlevel (props, State-set)
-IsOpening-prop at (binary dialect op) s = hlevel (props, State-set)
-IsOpening-prop at iota s = hlevel (props, State-set)
-IsOpening-prop at units_of s = hlevel (props, State-set)
-IsOpening-prop at (scan_add dialect) s = hlevel (props, State-set)
-IsOpening-prop at (reduce dialect reduction) s = hlevel (props, State-set)
-IsOpening-prop at (length_of dialect) s = hlevel (props, State-set)
-IsOpening-prop at (dist kind) s = hlevel (props, State-set)
-IsOpening-prop at (pack kind) s = hlevel (props, State-set)
-IsOpening-prop at pack_groups s = hlevel (props, State-set)
-IsOpening-prop at flag_of_bool s = hlevel (props, State-set)
-IsOpening-prop at same_flags s = hlevel (props, State-set)
-IsOpening-prop at concat_flags s = hlevel (props, State-set)
-IsOpening-prop at part_flags s = hlevel (props, State-set)
-IsOpening-prop at the_check s = hlevel (props, State-set)
-IsOpening-prop at append_flags s = hlevel (props, State-set)
-IsOpening-prop at (interleave kind) s = hlevel (props, State-set)
-IsOpening-prop at interleave_groups s = hlevel (props, State-set)
-IsOpening-prop at (print ty) s = hlevel (props, State-set)
-IsOpening-prop at (tab ty) s = hlevel (props, State-set)
-IsOpening-prop at (seq_of ty) s = hlevel (props, State-set)
-IsOpening-prop at (index ty) s = hlevel (props, State-set)
-IsOpening-prop at (fork kind outputs) s = hlevel (props, State-set)
-IsOpening-prop at (sink kind) s = hlevel (props, State-set)
+IsOpening-prop at _ s = hlevel (props, State-set)

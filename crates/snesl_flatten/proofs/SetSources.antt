@@ -6,23 +6,23 @@ use Rattle.std.proofs.lemmas.List.{length-map, length-set}
 use Rattle.std.specs.List.{slice_get}
 use Rattle.std.specs.Option.{option_map}
 use Rattle.snesl_values.specs.Inputs.{InputDeclaration}
-use Rattle.snesl_tree.specs.Tree.{ProgramTree}
+use Rattle.snesl_grammar.specs.tree.Tree.{ProgramTree}
 use Rattle.snesl_types.specs.Typed.{typed_inputs}
 use Rattle.snesl_types.specs.declared.typed.TypedProgram.{TypedProgram}
 use Rattle.flow_messages.specs.declared.message.Kind.{Kind}
 use Rattle.flow_base.specs.Columns.{Columns}
 use Rattle.flow_scalar.specs.Streams.{Items}
-use Rattle.flow_inputs.specs.TextSources.{items_in, text_source_state}
-use Rattle.flow_inputs.specs.declared.source.TextSource.{TextSource}
+use Rattle.flow_nodes.specs.inputs.TextSources.{items_in, text_source_state}
+use Rattle.flow_nodes.specs.declared.inputs.source.TextSource.{TextSource}
 use Rattle.flow_scalar.specs.SourceBehaviour.{source_opening}
 use Rattle.flow_nodes.specs.StreamNodes.{a_source, node_behaviour}
 use Rattle.flow_networks.specs.declared.edge.Edge.{Edge}
 use Rattle.flow_networks.specs.Networks.{state_at, AreOpened}
 use Rattle.flow_networks.specs.Replacements.{MayReplace}
-use Rattle.flow_plans.specs.Plans.{Step, source}
-use Rattle.flow_plans.specs.Ports.{kinds_written}
-use Rattle.flow_plans.specs.Layouts.{Placed, all_after, layout, places, places_from, IsNetworkOfPlan}
-use Rattle.flow_plans.specs.Settings.{with_source, IsLaidBut, SourceIsSet}
+use Rattle.flow_nodes.specs.plans.Plans.{Step, source}
+use Rattle.flow_nodes.specs.plans.Ports.{kinds_written}
+use Rattle.flow_nodes.specs.plans.Layouts.{Placed, all_after, layout, places, places_from, IsNetworkOfPlan}
+use Rattle.flow_nodes.specs.plans.Settings.{with_source, IsLaidBut, SourceIsSet}
 use Rattle.flow_assembly.specs.Openings.{AllOpen, IsOpening, OpeningsPerform}
 use Rattle.snesl_translation.specs.Wires.{type_of_wires}
 use Rattle.snesl_translation.specs.Programs.{first_offset, program_plan, unset_cells}

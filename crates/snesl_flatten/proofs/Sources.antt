@@ -5,16 +5,16 @@ use Rattle.std.proofs.lemmas.List.{set-append_left}
 use Rattle.std.proofs.lemmas.Option.{slice_get_within}
 use Rattle.std.specs.List.{slice_get}
 use Rattle.snesl_values.specs.Inputs.{InputDeclaration}
-use Rattle.snesl_tree.specs.Tree.{ProgramTree}
+use Rattle.snesl_grammar.specs.tree.Tree.{ProgramTree}
 use Rattle.flow_messages.specs.Cells.{Cell, unit}
 use Rattle.flow_messages.specs.declared.message.Kind.{Kind}
 use Rattle.flow_messages.specs.declared.message.Kind.TheVariants.{Unit as UnitKind}
 use Rattle.flow_base.specs.Columns.{Columns}
 use Rattle.flow_values.specs.Shapes.{kinds_of}
 use Rattle.flow_values.specs.Flats.{width}
-use Rattle.flow_plans.specs.Plans.{Step, source, print}
-use Rattle.flow_plans.specs.Settings.{with_source}
-use Rattle.flow_plans.proofs.Places.{get_left}
+use Rattle.flow_nodes.specs.plans.Plans.{Step, source, print}
+use Rattle.flow_nodes.specs.plans.Settings.{with_source}
+use Rattle.flow_nodes.proofs.OfPlans.Places.{get_left}
 use Rattle.snesl_translation.specs.Wires.{Wires, type_of_wires, numbers_of, wires_from, Bound}
 use Rattle.snesl_translation.specs.Makings.{Making, and_then}
 use Rattle.snesl_translation.specs.Translation.{tr}

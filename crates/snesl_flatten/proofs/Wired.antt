@@ -11,11 +11,11 @@ use Rattle.snesl_types.specs.Typed.{typed_inputs, typed_text, typed_tree, typed_
 use Rattle.flow_messages.specs.declared.message.Kind.{Kind}
 use Rattle.flow_messages.specs.contracts.message.Kind.{the_type}
 use Rattle.flow_networks.proofs.KindTests.{same_kind}
-use Rattle.flow_plans.specs.Plans.{Step}
-use Rattle.flow_plans.specs.Ports.{AreWired, kinds_written}
-use Rattle.flow_plans.specs.Layouts.{all_after, layout_from, layout}
+use Rattle.flow_nodes.specs.plans.Plans.{Step}
+use Rattle.flow_nodes.specs.plans.Ports.{AreWired, kinds_written}
+use Rattle.flow_nodes.specs.plans.Layouts.{all_after, layout_from, layout}
 use Rattle.snesl_translation.specs.Programs.{unset_cells}
-use Rattle.snesl_wiring.specs.Wirings.{PlansAreWired}
+use Rattle.snesl_translation.specs.wiring.Wirings.{PlansAreWired}
 use Rattle.snesl_flatten.specs.Networks.{program_steps}
 
 kind_discrete : Discrete Kind

@@ -4,19 +4,19 @@ use Rattle.std.specs.declared.alloc.Global.{Global}
 use Rattle.std.specs.declared.vec.Vec.{Vec}
 use Rattle.snesl_data.specs.declared.refusal.Refusal.{Refusal}
 use Rattle.snesl_values.specs.Inputs.{InputDeclaration}
-use Rattle.snesl_tree.specs.Tree.{Tree}
-use Rattle.snesl_tree.specs.View.{tree_of}
-use Rattle.snesl_tree.specs.declared.expr.Expr.{Expr}
-use Rattle.flow_plans.specs.Plans.{print}
+use Rattle.snesl_grammar.specs.tree.Tree.{Tree}
+use Rattle.snesl_grammar.specs.tree.View.{tree_of}
+use Rattle.snesl_grammar.specs.declared.tree.expr.Expr.{Expr}
+use Rattle.flow_nodes.specs.plans.Plans.{print}
 use Rattle.snesl_translation.specs.Wires.{Wires, type_of_wires, numbers_of, Bound}
 use Rattle.snesl_translation.specs.Makings.{Making, and_then, tested}
 use Rattle.snesl_translation.specs.Translation.{tr}
 use Rattle.snesl_translation.specs.Programs.{inputs_sourced, unset_cells}
-use Rattle.snesl_steps.specs.Added.{Adds}
-use Rattle.snesl_steps.specs.Views.{bindings_of, dialect_of_steps, next_in, wires_of}
-use Rattle.snesl_steps.specs.declared.wires.Binding.{Binding}
-use Rattle.snesl_steps.specs.declared.wires.Wires.{Wires as WiresData}
-use Rattle.snesl_steps.specs.declared.steps.Steps.{Steps}
+use Rattle.snesl_translator.specs.steps.Added.{Adds}
+use Rattle.snesl_translator.specs.steps.Views.{bindings_of, dialect_of_steps, next_in, wires_of}
+use Rattle.snesl_translator.specs.declared.steps.wires.Binding.{Binding}
+use Rattle.snesl_translator.specs.declared.steps.wires.Wires.{Wires as WiresData}
+use Rattle.snesl_translator.specs.declared.steps.steps.Steps.{Steps}
 use Rattle.snesl_translator.specs.Translated.{bodies_in}
 use Rattle.snesl_translator.specs.declared.translator.ProgramContext.{ProgramContext}
 

@@ -1,3 +1,5 @@
+pub mod network
+pub mod texts
 pub mod Behind
 pub mod Networks
 pub mod PlanViews
@@ -12,7 +14,7 @@ pub use Rattle.flow_nodes.specs.StreamNodes
 pub use Rattle.flow_networks.specs.Graphs
 pub use Rattle.flow_networks.specs.Limits
 pub use Rattle.flow_networks.specs.Networks as GraphNetworks
-pub use Rattle.flow_plans.specs.Layouts
+pub use Rattle.flow_nodes.specs.plans.Layouts
 pub use Rattle.flow_assembly.specs.Openings
 pub use Rattle.flow_assembly.specs.GraphsOfPlans
 pub use Rattle.flow_assembly.specs.Ready

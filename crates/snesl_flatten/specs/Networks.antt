@@ -4,7 +4,7 @@ use Rattle.snesl_data.specs.declared.fault.FaultKind.{FaultKind}
 use Rattle.snesl_values.specs.Inputs.{InputDeclaration, Environment}
 use Rattle.snesl_data.specs.Values.{Value}
 use Rattle.snesl_data.specs.Text.{text as text_of_value}
-use Rattle.snesl_tree.specs.Tree.{ProgramTree}
+use Rattle.snesl_grammar.specs.tree.Tree.{ProgramTree}
 use Rattle.snesl_evaluation.specs.Answer.{gives, faults}
 use Rattle.snesl_evaluation.specs.Eval.{program_value}
 use Rattle.kahn.specs.Configurations.{IsComplete}
@@ -14,7 +14,7 @@ use Rattle.flow_nodes.specs.StreamNodes.{NodeKind, member, node_behaviour, text_
 use Rattle.flow_networks.specs.declared.edge.Edge.{Edge}
 use Rattle.flow_networks.specs.Networks.{network_of, configuration_of}
 use Rattle.flow_networks.specs.Flows.{IsLawfulFlow}
-use Rattle.flow_plans.specs.Plans.{Step}
+use Rattle.flow_nodes.specs.plans.Plans.{Step}
 use Rattle.snesl_translation.specs.Programs.{program_plan}
 use Rattle.flow_drives.specs.Texts.{last_text}
 

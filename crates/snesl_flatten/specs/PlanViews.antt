@@ -3,8 +3,8 @@ use Rattle.std.specs.Prelude.{List}
 use Rattle.flow_networks.specs.declared.edge.Edge.{Edge}
 use Rattle.flow_networks.specs.Graphs.{states_of, edges_of}
 use Rattle.flow_nodes.specs.StreamNodes.{node_behaviour}
-use Rattle.flow_plans.specs.Layouts.{IsNetworkOfPlan}
-use Rattle.flow_plans.specs.Plans.{Step}
+use Rattle.flow_nodes.specs.plans.Layouts.{IsNetworkOfPlan}
+use Rattle.flow_nodes.specs.plans.Plans.{Step}
 use Rattle.snesl_values.specs.Inputs.{environment_of}
 use Rattle.snesl_values.specs.declared.environment.Inputs.{Inputs}
 use Rattle.snesl_translation.specs.Programs.{cells_of}

@@ -13,9 +13,9 @@ use Rattle.snesl_values.specs.Places.{value_at}
 use Rattle.snesl_values.specs.declared.environment.Inputs.{Inputs}
 use Rattle.snesl_types.specs.Typed.{typed_inputs, typed_text, typed_tree}
 use Rattle.snesl_types.specs.declared.typed.TypedProgram.{TypedProgram}
-use Rattle.flow_inputs.specs.declared.source.TextSource.{TextSource}
+use Rattle.flow_nodes.specs.declared.inputs.source.TextSource.{TextSource}
 use Rattle.flow_networks.specs.declared.edge.Edge.{Edge}
-use Rattle.flow_rows.specs.Made.{columns_of_values}
+use Rattle.flow_nodes.specs.functions.Made.{columns_of_values}
 use Rattle.flow_values.specs.Shapes.{kinds_of}
 use Rattle.snesl_translation.specs.Programs.{columns_of}
 use Rattle.snesl_flatten.specs.Networks.{StreamNodeState, NetworkMeans}

@@ -1,22 +1,22 @@
 -- The sources of a plan as they are set one after another.
 use Rattle.std.specs.Prelude.{◌≡◌, ℕ, ◌-◌, List, [], ◌∷◌, ◌++◌, map, slice_index_or}
 use Rattle.snesl_values.specs.Inputs.{InputDeclaration}
-use Rattle.snesl_tree.specs.Tree.{ProgramTree}
+use Rattle.snesl_grammar.specs.tree.Tree.{ProgramTree}
 use Rattle.flow_messages.specs.Cells.{Cell}
 use Rattle.flow_messages.specs.declared.message.Kind.{Kind}
 use Rattle.flow_base.specs.Columns.{Columns}
 use Rattle.flow_scalar.specs.SourceBehaviour.{source_opening}
 use Rattle.flow_values.specs.Shapes.{kinds_of}
-use Rattle.flow_inputs.specs.declared.source.TextSource.{TextSource}
-use Rattle.flow_inputs.specs.TextSources.{items_in, text_source_state}
+use Rattle.flow_nodes.specs.declared.inputs.source.TextSource.{TextSource}
+use Rattle.flow_nodes.specs.inputs.TextSources.{items_in, text_source_state}
 use Rattle.flow_nodes.specs.StreamNodes.{node_behaviour}
 use Rattle.flow_networks.specs.declared.edge.Edge.{Edge}
 use Rattle.flow_networks.specs.Networks.{AreOpened}
-use Rattle.flow_plans.specs.Layouts.{layout, places, IsNetworkOfPlan}
+use Rattle.flow_nodes.specs.plans.Layouts.{layout, places, IsNetworkOfPlan}
 use Rattle.flow_assembly.specs.Openings.{AllOpen}
 use Rattle.snesl_translation.specs.Wires.{type_of_wires}
 use Rattle.snesl_translation.specs.Programs.{first_offset, program_plan, unset_cells}
-use Rattle.flow_texts.specs.PrintedTexts.{PrintsAtTheEnd}
+use Rattle.snesl_flatten.specs.texts.PrintedTexts.{PrintsAtTheEnd}
 use Rattle.snesl_flatten.specs.Networks.{StreamNodeState, program_steps}
 
 -- what a source over a text writes, and of which kind

@@ -4,11 +4,11 @@ use Rattle.std.specs.List.{slice_get}
 use Rattle.flow_networks.specs.declared.edge.Edge.{Edge}
 use Rattle.flow_networks.specs.Networks.{state_at}
 use Rattle.flow_nodes.specs.StreamNodes.{node_behaviour}
-use Rattle.flow_plans.specs.Layouts.{Placed, layout, places}
-use Rattle.flow_plans.specs.Plans.{Step}
+use Rattle.flow_nodes.specs.plans.Layouts.{Placed, layout, places}
+use Rattle.flow_nodes.specs.plans.Plans.{Step}
 use Rattle.flow_assembly.specs.Openings.{IsUsable}
-use Rattle.flow_plans.specs.Views.{steps_of}
-use Rattle.flow_plans.specs.declared.operation.Step.{Step as StepData}
+use Rattle.flow_nodes.specs.plans.Views.{steps_of}
+use Rattle.flow_nodes.specs.declared.plans.operation.Step.{Step as StepData}
 use Rattle.snesl_translation.specs.Makings.{Making}
 use Rattle.snesl_translation.specs.Programs.{program_plan, unset_cells}
 use Rattle.snesl_translation.specs.Wires.{Wires}

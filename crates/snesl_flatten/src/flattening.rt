@@ -11,8 +11,8 @@ use crate::plan::Plan;
 use crate::steps::steps_of_program;
 use flow_assembly::assemble;
 use snesl_data::Refusal;
+use snesl_translation::wiring::plans_are_wired;
 use snesl_types::TypedProgram;
-use snesl_wiring::plans_are_wired;
 use std::alloc::Global;
 
 /// The plan of a typed program: one network for all its inputs, which is that of the translation of the program. The faults

@@ -8,7 +8,7 @@ ghost use Rattle.snesl_flatten.specs.Set.{HoldInputs, HaveKindsOf, SpellsValueAt
 ghost use Rattle.snesl_flatten.specs.Set.{AddsValue, AddsKindsOf};
 ghost use Rattle.snesl_flatten.specs.Sources.{all_kinds, AreFresh};
 
-use flow_inputs::{TextSource, edge_count, text_holds_edges};
+use flow_nodes::inputs::{TextSource, edge_count, text_holds_edges};
 use snesl_data::Ty;
 use snesl_values::{Inputs, inputs_are_placed, inputs_fit};
 use std::alloc::{AllocError, Global};

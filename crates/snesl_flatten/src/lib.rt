@@ -3,9 +3,11 @@
 
 mod flattening;
 mod inputs;
+pub mod network;
 mod offsets;
 mod plan;
 mod steps;
+pub mod texts;
 
 pub use flattening::flatten;
 pub use flow_nodes::StreamNode;

@@ -6,7 +6,7 @@ ghost use Rattle.snesl_types.specs.Typed.{typed_dialect, typed_inputs, AreReadFo
 ghost use Rattle.flow_nodes.specs.StreamNodes.{node_behaviour};
 ghost use Rattle.flow_networks.specs.Graphs.{states_of, edges_of};
 ghost use Rattle.flow_networks.specs.Networks.{AreOpened};
-ghost use Rattle.flow_plans.specs.Layouts.{places as places_of};
+ghost use Rattle.flow_nodes.specs.plans.Layouts.{places as places_of};
 ghost use Rattle.flow_assembly.specs.Openings.{OpensPlan};
 ghost use Rattle.flow_assembly.specs.GraphsOfPlans.{HoldsOfGraph, IsGraphOfPlan};
 ghost use Rattle.snesl_flatten.specs.Set.{HaveKindsOf, HasSourcesOf, HasInputsSet, MeansForTyped};
@@ -14,12 +14,12 @@ ghost use Rattle.snesl_flatten.specs.Sources.{AreFresh};
 ghost use Rattle.snesl_flatten.specs.Unset.{unset_steps, HoldsNetwork, AreButSources};
 
 use crate::inputs::sources_of_inputs;
+use crate::texts::print_tells;
 use flow_assembly::openings_perform;
-use flow_inputs::TextSource;
 use flow_networks::{Graph, ended_is_lawful, graph_is_a_network};
 use flow_nodes::StreamNode;
-use flow_plans::{plan_is_its_flow, source_is_set};
-use flow_texts::print_tells;
+use flow_nodes::inputs::TextSource;
+use flow_nodes::plans::{plan_is_its_flow, source_is_set};
 use snesl_translation::programs_are_planned;
 use snesl_types::{TypedProgram, soundness};
 use snesl_values::{Inputs, inputs_fit};

@@ -5,18 +5,18 @@ ghost use Rattle.snesl_data.specs.declared.refusal.Refusal.TheVariants.{TooBig, 
 ghost use Rattle.snesl_values.specs.Inputs.{declared};
 ghost use Rattle.snesl_types.specs.Typed.{typed_dialect};
 ghost use Rattle.flow_networks.specs.Limits.{most_nodes};
-ghost use Rattle.snesl_steps.specs.Views.{dialect_of_steps, next_in, wires_of};
-ghost use Rattle.snesl_steps.specs.Added.{Adds};
+ghost use Rattle.snesl_translator.specs.steps.Views.{dialect_of_steps, next_in, wires_of};
+ghost use Rattle.snesl_translator.specs.steps.Added.{Adds};
 ghost use Rattle.snesl_flatten.specs.Behind.{AddsPrinted, AddsInputSources};
 ghost use Rattle.snesl_flatten.specs.Unset.{unset_plan, unset_steps, AreUnsetSteps};
 
 use crate::offsets::first_offset;
-use flow_plans::{Operation, Step};
+use flow_nodes::plans::{Operation, Step};
 use snesl_data::{Refusal, Ty};
-use snesl_scopes::Scope;
-use snesl_steps::{Binding, Steps, Wires};
+use snesl_grammar::tree::Expr;
+use snesl_translator::scopes::Scope;
+use snesl_translator::steps::{Binding, Steps, Wires};
 use snesl_translator::{ProgramContext, translate};
-use snesl_tree::Expr;
 use snesl_types::TypedProgram;
 use std::alloc::Global;
 

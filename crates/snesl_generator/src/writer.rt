@@ -1,8 +1,8 @@
 // Writing a random program: the forms that are begun stand on a stack, the innermost last, and each piece is written in turn.
 
+use crate::dice::Dice;
 use crate::forms::{EXPRESSIONS, FUNCTIONS, Form, PROGRAMS, SHORT, TYPES, Table, VALUES};
 use crate::kinds::{BOOL, FIRST, INT, Kinds, Shape};
-use snesl_dice::Dice;
 use std::alloc::{AllocError, Global};
 
 // Where a program is longer, each expression still to come is a short one.

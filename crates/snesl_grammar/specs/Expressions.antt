@@ -2,15 +2,15 @@
 -- A place asks for a level, which says how tightly an expression has to bind to stand there bare: 0 where any
 -- expression may stand, 9 where only a name, a literal, a call or an expression in brackets may.
 use Rattle.std.specs.Prelude.{ℕ, suc, ◌≤◌, ◌<◌, ℤ, Bool, List, [], ◌∷◌, ◌++◌}
-use Rattle.snesl_lexer.specs.declared.token.TokenKind.{TokenKind}
-use Rattle.snesl_lexer.specs.declared.token.TokenKind.TheVariants.{Integer, Name, Let, In, If, Then, Else, LeftParen, RightParen, LeftBrace, RightBrace, Colon, Semicolon, Comma, Bar, Equals}
-use Rattle.snesl_lexer.specs.declared.token.Token.{Token}
-use Rattle.snesl_tree.specs.declared.operator.Operator.{Operator}
-use Rattle.snesl_tree.specs.declared.operator.Prefix.{Prefix}
-use Rattle.snesl_tree.specs.declared.operator.Builtin.{Builtin}
-use Rattle.snesl_tree.specs.declared.span.Span.{Span}
-use Rattle.snesl_tree.specs.Tree.{Tree, Trees, Binders, integer, truth, name, binary, prefix, call, apply, group, pair, binding, choice, literal}
-use Rattle.snesl_tree.specs.Tree.{filter, each, none, both, none_bound, binder, always, only_where, depth, depth_of_all, depth_of_binders}
+use Rattle.snesl_grammar.specs.declared.lexer.token.TokenKind.{TokenKind}
+use Rattle.snesl_grammar.specs.declared.lexer.token.TokenKind.TheVariants.{Integer, Name, Let, In, If, Then, Else, LeftParen, RightParen, LeftBrace, RightBrace, Colon, Semicolon, Comma, Bar, Equals}
+use Rattle.snesl_grammar.specs.declared.lexer.token.Token.{Token}
+use Rattle.snesl_grammar.specs.declared.tree.operator.Operator.{Operator}
+use Rattle.snesl_grammar.specs.declared.tree.operator.Prefix.{Prefix}
+use Rattle.snesl_grammar.specs.declared.tree.operator.Builtin.{Builtin}
+use Rattle.snesl_grammar.specs.declared.tree.span.Span.{Span}
+use Rattle.snesl_grammar.specs.tree.Tree.{Tree, Trees, Binders, integer, truth, name, binary, prefix, call, apply, group, pair, binding, choice, literal}
+use Rattle.snesl_grammar.specs.tree.Tree.{filter, each, none, both, none_bound, binder, always, only_where, depth, depth_of_all, depth_of_binders}
 use Rattle.snesl_grammar.specs.Operators.{level, left_level, prefix_level, sign, prefix_sign, truth_word, word}
 
 -- the token of a kind at an offset

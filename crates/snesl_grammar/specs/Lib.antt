@@ -1,3 +1,5 @@
+pub mod lexer
+pub mod tree
 pub mod Limits
 pub mod Operators
 pub mod Expressions

@@ -1,13 +1,13 @@
 -- How operators, truth values and built-in functions are written, and how tightly operators bind.
 use Rattle.std.specs.Prelude.{ℕ, Bool, true, false}
-use Rattle.snesl_lexer.specs.declared.token.TokenKind.{TokenKind}
-use Rattle.snesl_lexer.specs.declared.token.TokenKind.TheVariants as kinds
-use Rattle.snesl_tree.specs.declared.operator.Operator.{Operator}
-use Rattle.snesl_tree.specs.declared.operator.Operator.TheVariants.{Or, And, Equal, Less, AtMost, Greater, AtLeast, Append, Add, Subtract, Multiply, Divide, Remainder, Index}
-use Rattle.snesl_tree.specs.declared.operator.Prefix.{Prefix}
-use Rattle.snesl_tree.specs.declared.operator.Prefix.TheVariants.{Negate, Not}
-use Rattle.snesl_tree.specs.declared.operator.Builtin.{Builtin}
-use Rattle.snesl_tree.specs.declared.operator.Builtin.TheVariants as builtins
+use Rattle.snesl_grammar.specs.declared.lexer.token.TokenKind.{TokenKind}
+use Rattle.snesl_grammar.specs.declared.lexer.token.TokenKind.TheVariants as kinds
+use Rattle.snesl_grammar.specs.declared.tree.operator.Operator.{Operator}
+use Rattle.snesl_grammar.specs.declared.tree.operator.Operator.TheVariants.{Or, And, Equal, Less, AtMost, Greater, AtLeast, Append, Add, Subtract, Multiply, Divide, Remainder, Index}
+use Rattle.snesl_grammar.specs.declared.tree.operator.Prefix.{Prefix}
+use Rattle.snesl_grammar.specs.declared.tree.operator.Prefix.TheVariants.{Negate, Not}
+use Rattle.snesl_grammar.specs.declared.tree.operator.Builtin.{Builtin}
+use Rattle.snesl_grammar.specs.declared.tree.operator.Builtin.TheVariants as builtins
 
 -- how tightly an operator binds; `let` and `if` go on as far as they can, as if they bound at 0
 abbrev pub level : Operator → ℕ

@@ -2,10 +2,10 @@
 use Rattle.std.specs.Prelude.{ℕ, suc, pos, max, ◌≤◌, List, [], ◌∷◌, ◌++◌}
 use Rattle.snesl_data.specs.declared.dialect.Dialect.{Dialect}
 use Rattle.snesl_data.specs.declared.dialect.Dialect.TheVariants.{One, Two}
-use Rattle.snesl_lexer.specs.declared.token.TokenKind.TheVariants.{Integer, Dialect as DialectWord, Input, Function, LeftParen, RightParen, Colon, Semicolon, Comma, Equals}
-use Rattle.snesl_lexer.specs.declared.token.Token.{Token}
-use Rattle.snesl_tree.specs.declared.span.Span.{Span}
-use Rattle.snesl_tree.specs.Tree.{Tree, depth, TypeTree, type_depth, TypedName, DeclarationTree, declares_input, declares_function, ProgramTree}
+use Rattle.snesl_grammar.specs.declared.lexer.token.TokenKind.TheVariants.{Integer, Dialect as DialectWord, Input, Function, LeftParen, RightParen, Colon, Semicolon, Comma, Equals}
+use Rattle.snesl_grammar.specs.declared.lexer.token.Token.{Token}
+use Rattle.snesl_grammar.specs.declared.tree.span.Span.{Span}
+use Rattle.snesl_grammar.specs.tree.Tree.{Tree, depth, TypeTree, type_depth, TypedName, DeclarationTree, declares_input, declares_function, ProgramTree}
 use Rattle.snesl_grammar.specs.Expressions.{token, name_token, Whole, Front}
 use Rattle.snesl_grammar.specs.Types.{WholeType, FrontType}
 

@@ -1,5 +1,5 @@
 -- The trees that programs hold.
-use Rattle.snesl_tree.specs.Tree.{ProgramTree}
+use Rattle.snesl_grammar.specs.tree.Tree.{ProgramTree}
 use Rattle.snesl_grammar.specs.declared.program.Program.{Program}
 use Rattle.snesl_grammar.specs.Spelled.{program_with}
 

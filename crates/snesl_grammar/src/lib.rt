@@ -2,7 +2,9 @@
 #![tactic(auto)]
 
 mod laws;
+pub mod lexer;
 pub mod program;
+pub mod tree;
 
 pub use laws::program_is_spelled;
 pub use program::Program;

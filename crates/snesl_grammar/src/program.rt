@@ -3,8 +3,8 @@
 ghost use Rattle.std.specs.Prelude.{◌≡◌};
 ghost use Rattle.snesl_grammar.specs.Spelled.{IsSpelled, program_with};
 
+use crate::tree::{Declaration, Expr};
 use snesl_data::Dialect;
-use snesl_tree::{Declaration, Expr};
 
 /// A program: its text, in which its names have their places, the dialect of its integers, its
 /// declarations in order, and its expression. It keeps that the text spells it within the limits,

@@ -1,13 +1,13 @@
 -- Tokens whose offsets are moved are the program whose offsets are moved.
 use Rattle.std.proofs.Common.{◌≡◌, ℕ, suc, ◌<◌, List, [], ◌∷◌, map, refl, sym, ap, subst}
 use Rattle.std.proofs.lemmas.List.{map-append}
-use Rattle.snesl_lexer.specs.declared.token.Token.{Token}
+use Rattle.snesl_grammar.specs.declared.lexer.token.Token.{Token}
 use Rattle.snesl_data.specs.declared.dialect.Dialect.{Dialect}
-use Rattle.snesl_tree.specs.declared.span.Span.{Span}
-use Rattle.snesl_tree.specs.Tree.{Tree, Trees, Binders, Condition, integer, truth, name, binary, prefix, call, apply, group, pair, binding, choice}
-use Rattle.snesl_tree.specs.Tree.{literal, filter, each, none, both, none_bound, binder, always, only_where, depth, depth_of_all, depth_of_binders}
-use Rattle.snesl_tree.specs.Tree.{depth_of_condition, TypeTree, int_type, bool_type, pair_type, vector_type, sequence_type, type_depth, TypedName}
-use Rattle.snesl_tree.specs.Tree.{DeclarationTree, declares_input, declares_function, ProgramTree}
+use Rattle.snesl_grammar.specs.declared.tree.span.Span.{Span}
+use Rattle.snesl_grammar.specs.tree.Tree.{Tree, Trees, Binders, Condition, integer, truth, name, binary, prefix, call, apply, group, pair, binding, choice}
+use Rattle.snesl_grammar.specs.tree.Tree.{literal, filter, each, none, both, none_bound, binder, always, only_where, depth, depth_of_all, depth_of_binders}
+use Rattle.snesl_grammar.specs.tree.Tree.{depth_of_condition, TypeTree, int_type, bool_type, pair_type, vector_type, sequence_type, type_depth, TypedName}
+use Rattle.snesl_grammar.specs.tree.Tree.{DeclarationTree, declares_input, declares_function, ProgramTree}
 use Rattle.snesl_grammar.specs.Expressions.{added, bound_also, binder_count, greatest_binder_count, Whole, integer_rule, truth_rule, name_rule}
 use Rattle.snesl_grammar.specs.Expressions.{binary_rule, prefix_rule, call_rule, apply_rule, group_rule, pair_rule, let_rule, if_rule, literal_rule}
 use Rattle.snesl_grammar.specs.Expressions.{filter_rule, each_rule, each_where_rule, WholeArguments, one_rule, more_rule, WholeBinders, one_binder}

@@ -4,14 +4,14 @@ use Rattle.std.specs.Result.{IfOk}
 use Rattle.std.proofs.lemmas.Bool.{cond-true, cond-false, eq-eqb, ne_eqb}
 use Rattle.snesl_data.specs.declared.dialect.Dialect.{Dialect}
 use Rattle.snesl_data.specs.declared.refusal.Refusal.{Refusal}
-use Rattle.snesl_lexer.specs.declared.token.TokenKind.{TokenKind}
-use Rattle.snesl_lexer.specs.declared.token.TokenKind.TheVariants.{Name}
-use Rattle.snesl_lexer.specs.declared.token.Token.{Token}
-use Rattle.snesl_lexer.specs.declared.lexer.Foremost.TheVariants.{Found}
-use Rattle.snesl_lexer.specs.Lexical.{dialect_of, first, Tokens, none_left, skips, takes}
-use Rattle.snesl_lexer.proofs.Longest.{found_some}
-use Rattle.snesl_lexer.proofs.OneReading.{one_tokens}
-use Rattle.snesl_tree.specs.Tree.{ProgramTree}
+use Rattle.snesl_grammar.specs.declared.lexer.token.TokenKind.{TokenKind}
+use Rattle.snesl_grammar.specs.declared.lexer.token.TokenKind.TheVariants.{Name}
+use Rattle.snesl_grammar.specs.declared.lexer.token.Token.{Token}
+use Rattle.snesl_grammar.specs.declared.lexer.lexer.Foremost.TheVariants.{Found}
+use Rattle.snesl_grammar.specs.lexer.Lexical.{dialect_of, first, Tokens, none_left, skips, takes}
+use Rattle.snesl_grammar.proofs.OfLexer.Longest.{found_some}
+use Rattle.snesl_grammar.proofs.OfLexer.OneReading.{one_tokens}
+use Rattle.snesl_grammar.specs.tree.Tree.{ProgramTree}
 use Rattle.snesl_grammar.specs.Expressions.{token}
 use Rattle.snesl_grammar.specs.Limits.{greatest_length, greatest_depth}
 use Rattle.snesl_grammar.specs.Programs.{WholeProgram, program_depth}

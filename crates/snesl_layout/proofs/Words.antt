@@ -13,18 +13,18 @@ use Rattle.snesl_data.specs.declared.dialect.Dialect.{Dialect}
 use Rattle.snesl_data.specs.Integers.{greatest_integer}
 use Rattle.snesl_data.specs.Blanks.{is_blank}
 use Rattle.snesl_data.specs.Characters.{is_word, value_from}
-use Rattle.snesl_lexer.specs.declared.token.TokenKind.{TokenKind}
-use Rattle.snesl_lexer.specs.declared.token.TokenKind.TheVariants.{Name, Integer}
-use Rattle.snesl_lexer.specs.declared.token.Token.{Token}
-use Rattle.snesl_lexer.specs.declared.lexer.Foremost.{Foremost}
-use Rattle.snesl_lexer.specs.declared.lexer.Foremost.TheVariants.{Blank, Found, Bad}
-use Rattle.snesl_lexer.specs.Tables.{kind_in}
-use Rattle.snesl_lexer.specs.Words.{word_kind, reserved_words}
-use Rattle.snesl_lexer.specs.Signs.{one_byte_signs, two_byte_signs, longer_sign, sign_token}
-use Rattle.snesl_lexer.specs.Lexical.{number, head_or, first, Tokens, none_left, skips, takes}
-use Rattle.snesl_lexer.specs.Lexemes.{token, LexemeMeaning, Lexeme, a_word, an_integer, an_excess, a_sign, a_long_sign, StandsFirst, IsLongest}
-use Rattle.snesl_lexer.proofs.Longest.{stands_first, first_is_longest}
-use Rattle.snesl_lexer.proofs.Tables.{kind_in_passes}
+use Rattle.snesl_grammar.specs.declared.lexer.token.TokenKind.{TokenKind}
+use Rattle.snesl_grammar.specs.declared.lexer.token.TokenKind.TheVariants.{Name, Integer}
+use Rattle.snesl_grammar.specs.declared.lexer.token.Token.{Token}
+use Rattle.snesl_grammar.specs.declared.lexer.lexer.Foremost.{Foremost}
+use Rattle.snesl_grammar.specs.declared.lexer.lexer.Foremost.TheVariants.{Blank, Found, Bad}
+use Rattle.snesl_grammar.specs.lexer.Tables.{kind_in}
+use Rattle.snesl_grammar.specs.lexer.Words.{word_kind, reserved_words}
+use Rattle.snesl_grammar.specs.lexer.Signs.{one_byte_signs, two_byte_signs, longer_sign, sign_token}
+use Rattle.snesl_grammar.specs.lexer.Lexical.{number, head_or, first, Tokens, none_left, skips, takes}
+use Rattle.snesl_grammar.specs.lexer.Lexemes.{token, LexemeMeaning, Lexeme, a_word, an_integer, an_excess, a_sign, a_long_sign, StandsFirst, IsLongest}
+use Rattle.snesl_grammar.proofs.OfLexer.Longest.{stands_first, first_is_longest}
+use Rattle.snesl_grammar.proofs.OfLexer.Tables.{kind_in_passes}
 use Rattle.snesl_layout.specs.Spacing.{is_printed, next_at, token_bytes}
 
 -- what stands first in bytes is all that stands in its own bytes

@@ -1,13 +1,13 @@
 -- The layout of a program.
-use Rattle.std.specs.Prelude.{◌≡◌, ◌<◌, ℕ, List, [], ◌∷◌, length, Ok, Err}
+use Rattle.std.specs.Prelude.{◌≡◌, ◌<◌, ◌+◌, ℕ, List, [], ◌∷◌, drop, length, Ok, Err}
 use Rattle.snesl_data.specs.declared.refusal.Refusal.TheVariants.{NoMemory}
-use Rattle.snesl_tree.specs.Tree.{ProgramTree}
+use Rattle.snesl_grammar.specs.tree.Tree.{ProgramTree}
 use Rattle.snesl_grammar.specs.Limits.{greatest_length}
 use Rattle.snesl_syntax.specs.Parse.{IsRight, Parses}
 use Rattle.snesl_layout.specs.declared.laid.LayoutError.{LayoutError}
 use Rattle.snesl_layout.specs.declared.laid.LayoutError.TheVariants.{Refused, TooLong, Differs}
-use Rattle.snesl_lexer.specs.declared.token.Token.{Token}
-use Rattle.snesl_lexer.specs.Lexical.{dialect_of, Tokens}
+use Rattle.snesl_grammar.specs.declared.lexer.token.Token.{Token}
+use Rattle.snesl_grammar.specs.lexer.Lexical.{dialect_of, Tokens}
 use Rattle.snesl_layout.specs.Spacing.{token_bytes}
 use Rattle.snesl_layout.specs.Layout.{layout}
 
@@ -15,6 +15,10 @@ use Rattle.snesl_layout.specs.Layout.{layout}
 abbrev pub words : List ℕ → List Token → List (List ℕ)
 words text [] = []
 words text (token ∷ after) = token_bytes text token after ∷ words text after
+
+-- the word of token i: the first of those from there on
+abbrev pub IsWordAt : (text : List ℕ) → List Token → (i : ℕ) → (word : List ℕ) → Type 0
+IsWordAt text tokens i word = words text (drop i tokens) ≡ word ∷ words text (drop (i + 1) tokens)
 
 -- a text keeps the words of these tokens of another, and is laid out as it stands
 pub record KeepsWords (text : List ℕ) (tokens : List Token) (out : List ℕ) : Type 0 where

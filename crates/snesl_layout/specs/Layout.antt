@@ -1,6 +1,6 @@
 -- The layout of tokens.
 use Rattle.std.specs.Prelude.{ℕ, zero, suc, List, [], ◌∷◌, ◌++◌, codes}
-use Rattle.snesl_lexer.specs.declared.token.Token.{Token}
+use Rattle.snesl_grammar.specs.declared.lexer.token.Token.{Token}
 use Rattle.snesl_layout.specs.declared.lines.Gap.{Gap}
 use Rattle.snesl_layout.specs.declared.lines.Gap.TheVariants.{Nothing, Blank, Line, EmptyLine}
 use Rattle.snesl_layout.specs.declared.lines.State.{State}

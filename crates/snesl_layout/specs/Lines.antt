@@ -1,9 +1,9 @@
 -- Where lines break.
 use Rattle.std.specs.Prelude.{ℕ, ◌+◌, ◌-◌, ◌*◌, Bool, true, false, not, ◌||◌, ◌&&◌, ◌==◌, nat_lt, if◌then◌else◌, List, [], ◌∷◌, length}
-use Rattle.snesl_lexer.specs.declared.token.TokenKind.{TokenKind}
-use Rattle.snesl_lexer.specs.declared.token.TokenKind.TheVariants.{Input as InputWord, Function, Let, In, Then, Else, Integer, True, False, Minus, Or}
-use Rattle.snesl_lexer.specs.declared.token.TokenKind.TheVariants.{And, LeftBrace, RightBrace, Colon, Semicolon, Comma, Bar, Equals, Append, Plus}
-use Rattle.snesl_lexer.specs.declared.token.Token.{Token}
+use Rattle.snesl_grammar.specs.declared.lexer.token.TokenKind.{TokenKind}
+use Rattle.snesl_grammar.specs.declared.lexer.token.TokenKind.TheVariants.{Input as InputWord, Function, Let, In, Then, Else, Integer, True, False, Minus, Or}
+use Rattle.snesl_grammar.specs.declared.lexer.token.TokenKind.TheVariants.{And, LeftBrace, RightBrace, Colon, Semicolon, Comma, Bar, Equals, Append, Plus}
+use Rattle.snesl_grammar.specs.declared.lexer.token.Token.{Token}
 use Rattle.snesl_layout.specs.declared.lines.Gap.{Gap}
 use Rattle.snesl_layout.specs.declared.lines.Gap.TheVariants.{Nothing, Blank, Line, EmptyLine}
 use Rattle.snesl_layout.specs.declared.lines.Part.{Part}

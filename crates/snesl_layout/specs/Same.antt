@@ -2,14 +2,14 @@
 -- Each form has a rule, and there is no other: forms, operators, functions and values agree, the parts are the same in their
 -- order, and the places of names have the same bytes. Of offsets nothing is said.
 use Rattle.std.specs.Prelude.{◌≡◌, ℕ, ℤ, Bool, List, [], ◌∷◌, Ok}
-use Rattle.snesl_tree.specs.declared.operator.Builtin.{Builtin}
-use Rattle.snesl_tree.specs.declared.operator.Operator.{Operator}
-use Rattle.snesl_tree.specs.declared.operator.Prefix.{Prefix}
-use Rattle.snesl_tree.specs.declared.span.Span.{Span}
-use Rattle.snesl_tree.specs.Spelling.{spelling}
-use Rattle.snesl_tree.specs.Tree.{Tree, Trees, Binders, Condition, integer, truth, name, binary, prefix, call, apply, group, pair, binding, choice}
-use Rattle.snesl_tree.specs.Tree.{literal, filter, each, none, both, none_bound, binder, always, only_where, TypeTree, int_type, bool_type, pair_type}
-use Rattle.snesl_tree.specs.Tree.{vector_type, sequence_type, TypedName, DeclarationTree, declares_input, declares_function, ProgramTree}
+use Rattle.snesl_grammar.specs.declared.tree.operator.Builtin.{Builtin}
+use Rattle.snesl_grammar.specs.declared.tree.operator.Operator.{Operator}
+use Rattle.snesl_grammar.specs.declared.tree.operator.Prefix.{Prefix}
+use Rattle.snesl_grammar.specs.declared.tree.span.Span.{Span}
+use Rattle.snesl_grammar.specs.tree.Spelling.{spelling}
+use Rattle.snesl_grammar.specs.tree.Tree.{Tree, Trees, Binders, Condition, integer, truth, name, binary, prefix, call, apply, group, pair, binding, choice}
+use Rattle.snesl_grammar.specs.tree.Tree.{literal, filter, each, none, both, none_bound, binder, always, only_where, TypeTree, int_type, bool_type, pair_type}
+use Rattle.snesl_grammar.specs.tree.Tree.{vector_type, sequence_type, TypedName, DeclarationTree, declares_input, declares_function, ProgramTree}
 use Rattle.snesl_syntax.specs.Parse.{Parses}
 
 -- one text has at one place the bytes that the other has at the other: the same name

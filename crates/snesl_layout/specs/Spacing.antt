@@ -2,11 +2,11 @@
 use Rattle.std.specs.Prelude.{ℕ, suc, ◌-◌, Bool, true, false, not, ◌||◌, nat_lt, if◌then◌else◌, List, [], ◌∷◌, length, take, drop}
 use Rattle.std.specs.List.{take_while}
 use Rattle.snesl_data.specs.Blanks.{is_blank}
-use Rattle.snesl_lexer.specs.declared.token.TokenKind.{TokenKind}
-use Rattle.snesl_lexer.specs.declared.token.TokenKind.TheVariants.{Integer, Name, True, False, Iota, ScanAdd, ReduceAdd, ReduceMax, ReduceAnd}
-use Rattle.snesl_lexer.specs.declared.token.TokenKind.TheVariants.{ReduceOr, Length, Concat, Part, The, Tab, Seq, Fst, Snd, LeftParen, RightParen}
-use Rattle.snesl_lexer.specs.declared.token.TokenKind.TheVariants.{LeftBrace, RightBrace, LeftBracket, RightBracket, Comma, Semicolon, Minus}
-use Rattle.snesl_lexer.specs.declared.token.Token.{Token}
+use Rattle.snesl_grammar.specs.declared.lexer.token.TokenKind.{TokenKind}
+use Rattle.snesl_grammar.specs.declared.lexer.token.TokenKind.TheVariants.{Integer, Name, True, False, Iota, ScanAdd, ReduceAdd, ReduceMax, ReduceAnd}
+use Rattle.snesl_grammar.specs.declared.lexer.token.TokenKind.TheVariants.{ReduceOr, Length, Concat, Part, The, Tab, Seq, Fst, Snd, LeftParen, RightParen}
+use Rattle.snesl_grammar.specs.declared.lexer.token.TokenKind.TheVariants.{LeftBrace, RightBrace, LeftBracket, RightBracket, Comma, Semicolon, Minus}
+use Rattle.snesl_grammar.specs.declared.lexer.token.Token.{Token}
 
 -- a bracket opens
 abbrev pub opens : TokenKind → Bool

@@ -1,13 +1,13 @@
 // The layout of a program.
 
-ghost use Rattle.std.specs.Prelude.{◌≡◌, ◌<◌, ◌+◌, ◌∷◌, IfErr, IfOk, IsTrue, OnOk, drop, length};
-ghost use Rattle.snesl_layout.specs.Laid.{IsLaidOut, IsOfLayout, IsParsed, IsUnlaid, KeepsWords, words};
+ghost use Rattle.std.specs.Prelude.{◌≡◌, ◌<◌, IfErr, IfOk, IsTrue, OnOk, length};
+ghost use Rattle.snesl_layout.specs.Laid.{IsLaidOut, IsOfLayout, IsParsed, IsUnlaid, IsWordAt, KeepsWords, words};
 ghost use Rattle.snesl_layout.specs.Same.{AreOneProgram};
 
 use crate::layout::layout;
 use crate::spacing::token_bytes;
 use snesl_data::Refusal;
-use snesl_lexer::{Token, tokens_of};
+use snesl_grammar::lexer::{Token, tokens_of};
 use snesl_syntax::{one_answer, parse};
 use std::alloc::{AllocError, Global};
 
@@ -39,8 +39,7 @@ impl From<AllocError> for LayoutError {
 // The word of one of some tokens.
 fn word_at<'a>(text: &'a [u8], tokens: &[Token], i: usize) -> &'a [u8]
     requires { i < length tokens.now }
-    ensures { words text.now (drop i tokens.now)
-        ≡ result.now ∷ words text.now (drop (i + 1) tokens.now) }
+    ensures { IsWordAt text.now tokens.now i result.now }
 {
     token_bytes(text, tokens[i], &tokens[i + 1..])
 }

@@ -5,7 +5,7 @@ ghost use Rattle.snesl_layout.specs.Layout.{gap_bytes, indent, layout};
 
 use crate::lines::{Gap, gap_before, start, state_after};
 use crate::spacing::token_bytes;
-use snesl_lexer::Token;
+use snesl_grammar::lexer::Token;
 use std::alloc::{AllocError, Global};
 
 // Appends the blanks before a line.

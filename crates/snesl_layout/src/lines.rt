@@ -4,7 +4,7 @@ ghost use Rattle.std.specs.Prelude.{◌≡◌, ◌≤◌};
 ghost use Rattle.snesl_layout.specs.Lines.{begins_statement, ends, ends_line, ends_statement, fits_behind, flat_after, gap_before, gap_len, in_line_after, begins_body, breaks_after, breaks_before, fills, follows_then, is_beyond, is_broken, is_cut, is_let_end, is_literal, levels_after, line_levels, margin, may_break, part_after, part_of, room_after, start, state_after, stop_of, then_begins_after, wraps, breaks};
 
 use crate::spacing::{closes, deeper, depth_after, is_glued, opens, token_bytes};
-use snesl_lexer::{Token, TokenKind};
+use snesl_grammar::lexer::{Token, TokenKind};
 
 // The bytes of a line are so many, and one more for what closes it.
 const WIDTH: usize = 99;

@@ -5,7 +5,7 @@ ghost use Rattle.std.specs.List.{prefix_len};
 ghost use Rattle.snesl_layout.specs.Spacing.{closes, depth_after, ends_operand, is_glued, is_prefix_minus, is_printed, names_function, deeper, opens, token_bytes, next_at};
 
 use snesl_data::is_blank;
-use snesl_lexer::{Token, TokenKind};
+use snesl_grammar::lexer::{Token, TokenKind};
 
 // Whether a bracket opens.
 pub fn opens(kind: TokenKind) -> bool

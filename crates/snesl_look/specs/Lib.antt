@@ -1,3 +1,4 @@
+pub mod findings
 pub mod Places
 pub mod Words
 pub mod Stalls

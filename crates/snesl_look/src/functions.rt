@@ -89,7 +89,7 @@ fn after_word(text: &[u8]) -> &[u8]
 }
 
 // What stands after the blanks at the front.
-fn after_blanks(text: &[u8]) -> &[u8]
+pub(crate) fn after_blanks(text: &[u8]) -> &[u8]
     ensures { result.now ≡ after_blanks text.now }
 {
     &text[blanks_len(text)..]

@@ -4,6 +4,7 @@
 
 pub mod among;
 pub mod clashes;
+pub mod findings;
 pub mod functions;
 pub mod messages;
 pub mod names;

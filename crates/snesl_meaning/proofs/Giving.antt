@@ -9,11 +9,11 @@ use Rattle.snesl_data.specs.declared.refusal.Refusal.TheVariants.{TooBig, Stream
 use Rattle.snesl_data.specs.Types.{Ty, int, bool, pair, vec, seq, is_concrete}
 use Rattle.snesl_data.specs.Values.{Value}
 use Rattle.snesl_values.specs.Inputs.{InputDeclaration, Environment, InputMeans, lawful, spells, OneInputMeaning}
-use Rattle.snesl_lexer.specs.declared.token.Token.{Token}
-use Rattle.snesl_lexer.specs.Lexical.{dialect_of, Tokens}
-use Rattle.snesl_lexer.proofs.OneReading.{one_tokens}
-use Rattle.snesl_tree.specs.Spelling.{spelling}
-use Rattle.snesl_tree.specs.Tree.{TypeTree, int_type, bool_type, pair_type, vector_type, sequence_type, TypedName, DeclarationTree, ProgramTree}
+use Rattle.snesl_grammar.specs.declared.lexer.token.Token.{Token}
+use Rattle.snesl_grammar.specs.lexer.Lexical.{dialect_of, Tokens}
+use Rattle.snesl_grammar.proofs.OfLexer.OneReading.{one_tokens}
+use Rattle.snesl_grammar.specs.tree.Spelling.{spelling}
+use Rattle.snesl_grammar.specs.tree.Tree.{TypeTree, int_type, bool_type, pair_type, vector_type, sequence_type, TypedName, DeclarationTree, ProgramTree}
 use Rattle.snesl_grammar.specs.Programs.{WholeProgram, program_depth}
 use Rattle.snesl_syntax.specs.Parse.{AnswersTokens, accepted, Parses, read}
 use Rattle.snesl_syntax.specs.DialectMachine.{reader}

@@ -7,23 +7,23 @@ use Rattle.std.proofs.lemmas.Bool.{le-leb, and_parts}
 use Rattle.snesl_data.specs.declared.dialect.Dialect.{Dialect}
 use Rattle.snesl_data.specs.declared.dialect.Dialect.TheVariants.{One, Two}
 use Rattle.snesl_data.specs.Integers.{is_integer}
-use Rattle.snesl_lexer.specs.declared.token.TokenKind.{TokenKind}
-use Rattle.snesl_lexer.specs.declared.token.TokenKind.TheVariants as kinds
-use Rattle.snesl_lexer.specs.declared.token.Token.{Token}
-use Rattle.snesl_lexer.specs.declared.lexer.Foremost.TheVariants.{Found}
-use Rattle.snesl_lexer.specs.Tables.{kind_in}
-use Rattle.snesl_lexer.specs.Words.{reserved_words}
-use Rattle.snesl_lexer.specs.Signs.{one_byte_signs, two_byte_signs}
-use Rattle.snesl_lexer.specs.Lexical.{first, dialect_named, dialect_of, Tokens, none_left, skips, takes}
-use Rattle.snesl_lexer.specs.Lexemes.{LexemeMeaning, token as stands_for, too_great, Lexeme, a_word, an_integer, an_excess, a_sign, a_long_sign}
-use Rattle.snesl_lexer.proofs.Longest.{first_is_longest}
-use Rattle.snesl_lexer.proofs.Dialects.{names_its_dialect}
-use Rattle.snesl_tree.specs.declared.operator.Builtin.{Builtin}
-use Rattle.snesl_tree.specs.declared.operator.Builtin.TheVariants.{Iota, ScanAdd, ReduceAdd, ReduceMax, ReduceAnd, ReduceOr, Length, Concat, Part, The, Tab, Seq, Fst, Snd}
-use Rattle.snesl_tree.specs.declared.operator.Prefix.{Prefix}
-use Rattle.snesl_tree.specs.declared.operator.Prefix.TheVariants.{Negate, Not}
-use Rattle.snesl_tree.specs.declared.span.Span.{Span}
-use Rattle.snesl_tree.specs.Tree.{Tree, Trees, Binders, none, both, none_bound, binder, DeclarationTree, ProgramTree}
+use Rattle.snesl_grammar.specs.declared.lexer.token.TokenKind.{TokenKind}
+use Rattle.snesl_grammar.specs.declared.lexer.token.TokenKind.TheVariants as kinds
+use Rattle.snesl_grammar.specs.declared.lexer.token.Token.{Token}
+use Rattle.snesl_grammar.specs.declared.lexer.lexer.Foremost.TheVariants.{Found}
+use Rattle.snesl_grammar.specs.lexer.Tables.{kind_in}
+use Rattle.snesl_grammar.specs.lexer.Words.{reserved_words}
+use Rattle.snesl_grammar.specs.lexer.Signs.{one_byte_signs, two_byte_signs}
+use Rattle.snesl_grammar.specs.lexer.Lexical.{first, dialect_named, dialect_of, Tokens, none_left, skips, takes}
+use Rattle.snesl_grammar.specs.lexer.Lexemes.{LexemeMeaning, token as stands_for, too_great, Lexeme, a_word, an_integer, an_excess, a_sign, a_long_sign}
+use Rattle.snesl_grammar.proofs.OfLexer.Longest.{first_is_longest}
+use Rattle.snesl_grammar.proofs.OfLexer.Dialects.{names_its_dialect}
+use Rattle.snesl_grammar.specs.declared.tree.operator.Builtin.{Builtin}
+use Rattle.snesl_grammar.specs.declared.tree.operator.Builtin.TheVariants.{Iota, ScanAdd, ReduceAdd, ReduceMax, ReduceAnd, ReduceOr, Length, Concat, Part, The, Tab, Seq, Fst, Snd}
+use Rattle.snesl_grammar.specs.declared.tree.operator.Prefix.{Prefix}
+use Rattle.snesl_grammar.specs.declared.tree.operator.Prefix.TheVariants.{Negate, Not}
+use Rattle.snesl_grammar.specs.declared.tree.span.Span.{Span}
+use Rattle.snesl_grammar.specs.tree.Tree.{Tree, Trees, Binders, none, both, none_bound, binder, DeclarationTree, ProgramTree}
 use Rattle.snesl_grammar.specs.Operators.{sign, prefix_sign, truth_word, word}
 use Rattle.snesl_grammar.specs.Expressions.{token, added, bound_also, Whole, integer_rule, truth_rule, name_rule, binary_rule, prefix_rule, call_rule}
 use Rattle.snesl_grammar.specs.Expressions.{apply_rule, group_rule, pair_rule, let_rule, if_rule, literal_rule, filter_rule, each_rule}

@@ -1,3 +1,4 @@
+pub mod OfWorked
 pub mod Giving
 pub mod InRange
 pub mod Meanings

@@ -6,7 +6,7 @@ use Rattle.snesl_data.specs.declared.refusal.Refusal.TheVariants.{BadInput, NoMe
 use Rattle.snesl_data.specs.Types.{Ty}
 use Rattle.snesl_data.specs.Values.{Value}
 use Rattle.snesl_values.specs.Inputs.{Environment, InputMeans, spells, refused_at}
-use Rattle.snesl_tree.specs.Tree.{ProgramTree}
+use Rattle.snesl_grammar.specs.tree.Tree.{ProgramTree}
 use Rattle.snesl_syntax.specs.Parse.{Parses}
 use Rattle.snesl_evaluation.specs.Answer.{Answer, gives, faults}
 use Rattle.snesl_evaluation.specs.Eval.{program_value}

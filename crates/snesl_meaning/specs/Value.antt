@@ -7,10 +7,10 @@ use Rattle.snesl_data.specs.Types.{Ty, int, bool, pair, vec, seq}
 use Rattle.snesl_data.specs.Values.{Value}
 use Rattle.snesl_values.specs.InputTokens.{Token as InputToken, HasTokens, next_token}
 use Rattle.snesl_values.specs.Inputs.{InputDeclaration, Environment, Spells, greatest_input_length}
-use Rattle.snesl_lexer.specs.declared.token.Token.{Token}
-use Rattle.snesl_lexer.specs.Lexical.{dialect_of, Tokens}
-use Rattle.snesl_tree.specs.Spelling.{spelling}
-use Rattle.snesl_tree.specs.Tree.{TypeTree, int_type, bool_type, pair_type, vector_type, sequence_type, DeclarationTree, declares_input, declares_function, ProgramTree}
+use Rattle.snesl_grammar.specs.declared.lexer.token.Token.{Token}
+use Rattle.snesl_grammar.specs.lexer.Lexical.{dialect_of, Tokens}
+use Rattle.snesl_grammar.specs.tree.Spelling.{spelling}
+use Rattle.snesl_grammar.specs.tree.Tree.{TypeTree, int_type, bool_type, pair_type, vector_type, sequence_type, DeclarationTree, declares_input, declares_function, ProgramTree}
 use Rattle.snesl_grammar.specs.Programs.{WholeProgram}
 use Rattle.snesl_evaluation.specs.Answer.{Answer, gives, faults}
 use Rattle.snesl_evaluation.specs.Eval.{program_value}

@@ -2,5 +2,6 @@
 #![tactic(auto)]
 
 mod meaning;
+pub mod worked;
 
 pub use meaning::one_meaning;

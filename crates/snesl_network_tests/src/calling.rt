@@ -12,6 +12,8 @@ use callers::plans::networks_of;
 use callers::run::line_of;
 use callers::scalar::negated;
 use callers::segment::printed;
+use callers::strangers;
+use callers::strangers::drive::{lent, outcome_of, rested, shares, shares_after_epochs};
 use callers::syntax::is_program;
 use callers::types::value_of;
 use callers::values::value_text;
@@ -27,7 +29,6 @@ use snesl_values::{FaultKind, Refusal, Ty, text_of};
 use std::alloc::Global;
 use std::test::Fail;
 use std::thread::Threads;
-use strangers::drive::{lent, outcome_of, rested, shares, shares_after_epochs};
 
 // A program of five nodes and five edges.
 const SUM: &[u8] = b"reduce_add(iota(5))";

@@ -1,6 +1,6 @@
 // How many threads are chosen, by what they are foretold to take, and for what programs.
 
-use flow_cut::{Link, are_between};
+use flow_dealing::cut::{Link, are_between};
 use flow_dealing::{LONG, SHORT, Tried, choose_threads, is_sooner, try_out};
 use snesl_data::Refusal;
 use snesl_flatten::flatten;

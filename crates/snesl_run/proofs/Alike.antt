@@ -5,8 +5,8 @@ use Rattle.flow_drives.specs.Drives.{ComesOut, EndsMaximalRun}
 use Rattle.flow_networks.specs.declared.edge.Edge.{Edge}
 use Rattle.flow_nodes.specs.StreamNodes.{node_behaviour}
 use Rattle.kahn.specs.declared.outcome.Outcome.{Outcome}
-use Rattle.snesl_network.specs.NodesAtRest.{FinalView}
-use Rattle.snesl_network.specs.OneNetwork.{HaveOneNetwork}
+use Rattle.snesl_flatten.specs.network.NodesAtRest.{FinalView}
+use Rattle.snesl_flatten.specs.network.OneNetwork.{HaveOneNetwork}
 use Rattle.snesl_flatten.specs.Networks.{StreamNodeState}
 use Rattle.snesl_run.specs.Alike.{HaveOneOutcome}
 use Rattle.snesl_run.specs.Runs.{CameOut, outcome_of, view_in_report}

@@ -3,19 +3,19 @@ use Rattle.std.proofs.Common.{Err, List, Ok, arith, inl, inr, length, subst, sym
 use Rattle.std.proofs.lemmas.Bool.{cases_lt}
 use Rattle.std.proofs.lemmas.List.{length-take-le, take_all}
 use Rattle.flow_drives.specs.declared.config.Config.{Config}
-use Rattle.snesl_console.specs.Job.{IsJob}
-use Rattle.snesl_console.specs.Parts.{AreParts, most_of_program}
-use Rattle.snesl_console.specs.Reads.{HoldsOfJob}
-use Rattle.snesl_console.specs.Streams.{ReadEffect, WriteEffect}
-use Rattle.snesl_console.proofs.Jobs.{one_job}
-use Rattle.snesl_console.proofs.Parts.{AreFitting, AreTooLong, kinds}
+use Rattle.snesl_run.specs.console.Job.{IsJob}
+use Rattle.snesl_run.specs.console.Parts.{AreParts, most_of_program}
+use Rattle.snesl_run.specs.console.Reads.{HoldsOfJob}
+use Rattle.snesl_run.specs.console.Streams.{ReadEffect, WriteEffect}
+use Rattle.snesl_run.proofs.OfConsole.Jobs.{one_job}
+use Rattle.snesl_run.proofs.OfConsole.Parts.{AreFitting, AreTooLong, kinds}
 use Rattle.snesl_grammar.specs.Limits.{greatest_length}
 use Rattle.snesl_meaning.specs.Meaning.{Meaning, Means, bad_input, evaluated, ill_typed, is_refused, no_program}
-use Rattle.snesl_network.specs.Driven.{IsAccepted, WasRefused}
+use Rattle.snesl_flatten.specs.network.Driven.{IsAccepted, WasRefused}
 use Rattle.snesl_run.specs.Cuts.{CutsChangeNothing}
 use Rattle.snesl_run.specs.Prints.{Printed, PrintedFor, came_out, refused}
 use Rattle.snesl_syntax.specs.Parse.{HaveOneAnswer, Parses, too_long}
-use Rattle.snesl_tree.specs.Tree.{ProgramTree}
+use Rattle.snesl_grammar.specs.tree.Tree.{ProgramTree}
 use Rattle.snesl_values.specs.Inputs.{Environment, InputMeans, OneInputMeaning, greatest_input_length, refused_at, spells, too_long as input_too_long}
 use Rattle.snesl_data.specs.declared.refusal.Refusal.TheVariants.{BadConfig, NoMemory, NoThread, Output, Short, TooBig, TooLong}
 use Rattle.snesl_data.specs.declared.refusal.Refusal.{Refusal}

@@ -1,3 +1,5 @@
+pub mod OfCommandLine
+pub mod OfConsole
 pub mod Reports
 pub mod Printing
 pub mod CutParts

@@ -9,17 +9,17 @@ use Rattle.snesl_data.specs.declared.refusal.Refusal.TheVariants.{NoMemory, Outp
 use Rattle.snesl_data.specs.Refusals.{is_of_the_system, status_of_refusal}
 use Rattle.kahn.specs.declared.outcome.Outcome.TheVariants.{Value as Ended, Fault as Failed, Stalled}
 use Rattle.flow_drives.specs.declared.config.Config.{Config}
-use Rattle.snesl_settings.specs.Settings.{AreLawful, RefusesBut}
-use Rattle.snesl_network.specs.Driven.{WasRefused}
+use Rattle.snesl_run.specs.command_line.Settings.{AreLawful, RefusesBut}
+use Rattle.snesl_flatten.specs.network.Driven.{WasRefused}
 use Rattle.snesl_run.specs.Runs.{outcome_of, WroteFor, IsReported, HasError}
-use Rattle.snesl_console.specs.Streams.{WriteEffect, ReadEffect, write_effect, WasTold}
-use Rattle.snesl_console.specs.Lines.{Prints, written, Refuses, refusal_line, fault_line, stalled_line}
-use Rattle.snesl_console.specs.Reads.{HasSplit, refusal_of}
-use Rattle.snesl_console.specs.declared.job.JobError.{JobError}
-use Rattle.snesl_console.specs.declared.job.JobError.TheVariants.{NoMemory as NoJobMemory, Read as BrokenOff}
+use Rattle.snesl_run.specs.console.Streams.{WriteEffect, ReadEffect, write_effect, WasTold}
+use Rattle.snesl_run.specs.console.Lines.{Prints, written, Refuses, refusal_line, fault_line, stalled_line}
+use Rattle.snesl_run.specs.console.Reads.{HasSplit, refusal_of}
+use Rattle.snesl_run.specs.declared.console.job.JobError.{JobError}
+use Rattle.snesl_run.specs.declared.console.job.JobError.TheVariants.{NoMemory as NoJobMemory, Read as BrokenOff}
 use Rattle.snesl_run.specs.Prints.{PrintsOutcome, PrintedFor, came_out, refused, IsJobAnswered, unread, out_of_memory, Answered, words_refused, words_lost}
 use Rattle.snesl_run.specs.declared.report.Report.{Report}
-use Rattle.snesl_console.proofs.Printing.{cut_off_line, system_refused, job_refused}
+use Rattle.snesl_run.proofs.OfConsole.Printing.{cut_off_line, system_refused, job_refused}
 
 -- a job that was not split
 pub job_refused_so : {config : Config} {reader : ReadEffect} {out err : WriteEffect} (error : JobError) (refusal : Refusal) (code : ℕ) → refusal ≡ refusal_of error

@@ -11,9 +11,9 @@ use Rattle.flow_drives.specs.declared.config.Config.{Config}
 use Rattle.flow_drives.specs.Texts.{last_text}
 use Rattle.snesl_meaning.specs.Meaning.{Means, has_value}
 use Rattle.snesl_meaning.specs.Value.{MeaningsAreGiven}
-use Rattle.snesl_network.specs.Driven.{WasRefused}
+use Rattle.snesl_flatten.specs.network.Driven.{WasRefused}
 use Rattle.snesl_run.specs.Runs.{view_in_report, outcome_of, refusal_of, value_line, CameOut, WroteFor, WroteGiven, IsReported, IsCutShort, HasError, IsRefusedWith}
-use Rattle.snesl_console.specs.Streams.{WriteEffect, IsWrittenWhole, IsCutOff, HasSent}
+use Rattle.snesl_run.specs.console.Streams.{WriteEffect, IsWrittenWhole, IsCutOff, HasSent}
 use Rattle.snesl_run.specs.declared.report.Report.{Report}
 use Rattle.snesl_run.specs.declared.report.RunError.{RunError}
 

@@ -1,8 +1,8 @@
 -- What is cut off a job changes no meaning.
 use Rattle.std.specs.Prelude.{◌↔◌, ℕ, List}
 use Rattle.snesl_meaning.specs.Meaning.{Meaning, Means}
-use Rattle.snesl_console.specs.Job.{IsJob}
-use Rattle.snesl_console.specs.Parts.{AreParts}
+use Rattle.snesl_run.specs.console.Job.{IsJob}
+use Rattle.snesl_run.specs.console.Parts.{AreParts}
 
 -- the parts of a job, each cut after the first byte that is too many, mean what its program and its input text do
 abbrev pub CutsChangeNothing : Type 0

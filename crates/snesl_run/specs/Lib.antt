@@ -1,3 +1,5 @@
+pub mod command_line
+pub mod console
 pub mod Runs
 pub mod Alike
 pub mod Prints
@@ -10,12 +12,12 @@ pub use Rattle.snesl_meaning.specs.Meaning
 pub use Rattle.snesl_meaning.specs.Value
 pub use Rattle.kahn.specs.declared.outcome.Outcome
 pub use Rattle.flow_drives.specs.Configs
-pub use Rattle.snesl_network.specs.Driven
-pub use Rattle.snesl_network.specs.NodesAtRest
-pub use Rattle.snesl_network.specs.WhichDrive
-pub use Rattle.snesl_settings.specs.Settings
-pub use Rattle.snesl_console.specs.Job
-pub use Rattle.snesl_console.specs.Lines
-pub use Rattle.snesl_console.specs.Parts
-pub use Rattle.snesl_console.specs.Reads
-pub use Rattle.snesl_console.specs.Streams
+pub use Rattle.snesl_flatten.specs.network.Driven
+pub use Rattle.snesl_flatten.specs.network.NodesAtRest
+pub use Rattle.snesl_flatten.specs.network.WhichDrive
+pub use Rattle.snesl_run.specs.command_line.Settings
+pub use Rattle.snesl_run.specs.console.Job
+pub use Rattle.snesl_run.specs.console.Lines
+pub use Rattle.snesl_run.specs.console.Parts
+pub use Rattle.snesl_run.specs.console.Reads
+pub use Rattle.snesl_run.specs.console.Streams

@@ -12,12 +12,12 @@ use Rattle.kahn.specs.declared.outcome.Outcome.TheVariants.{Value as Ended, Faul
 use Rattle.flow_drives.specs.declared.config.Config.{Config}
 use Rattle.flow_drives.specs.Configs.{IsLawful}
 use Rattle.snesl_meaning.specs.Meaning.{Means, has_value}
-use Rattle.snesl_settings.specs.Settings.{AreLawful, SaysSo}
-use Rattle.snesl_network.specs.Driven.{WasRefused}
-use Rattle.snesl_console.specs.Job.{IsJob}
-use Rattle.snesl_console.specs.Streams.{WriteEffect, ReadEffect, write_effect}
-use Rattle.snesl_console.specs.Lines.{fault_line, stalled_line, Prints, Refuses}
-use Rattle.snesl_console.specs.Reads.{IsRead, IsBrokenOff, HoldsOfJob}
+use Rattle.snesl_run.specs.command_line.Settings.{AreLawful, SaysSo}
+use Rattle.snesl_flatten.specs.network.Driven.{WasRefused}
+use Rattle.snesl_run.specs.console.Job.{IsJob}
+use Rattle.snesl_run.specs.console.Streams.{WriteEffect, ReadEffect, write_effect}
+use Rattle.snesl_run.specs.console.Lines.{fault_line, stalled_line, Prints, PrintsLine, Refuses}
+use Rattle.snesl_run.specs.console.Reads.{IsRead, IsBrokenOff, HoldsOfJob}
 use Rattle.snesl_run.specs.declared.report.Report.{Report}
 use Rattle.snesl_run.specs.Runs.{outcome_of, value_line, EndsInFault, IsReported}
 
@@ -73,5 +73,4 @@ module _ {W E : Type 0} (contents : W → Option (List ℕ)) (err_contents : E �
   -- what is printed of a line, and the exit status; where there is none, memory was refused
   abbrev pub PrintsMade : Result (Vec ℕ Global) AllocError → ℕ → ℕ → Type 0
   PrintsMade line code status =
-      MatchResult line (λ line. Prints (write_effect contents out out') (write_effect err_contents err err') line.items code status)
-      (λ _. PrintsRefusal NoMemory status)
+      MatchResult line (λ line. PrintsLine contents err_contents out out' err err' line.items code status) (λ _. PrintsRefusal NoMemory status)

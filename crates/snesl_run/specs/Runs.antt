@@ -15,10 +15,10 @@ use Rattle.flow_drives.specs.Starts.{DriveAsks}
 use Rattle.snesl_flatten.specs.Networks.{StreamNodeState}
 use Rattle.snesl_meaning.specs.Meaning.{Means, has_value, has_fault}
 use Rattle.snesl_meaning.specs.Value.{GivesValue, GivesFault}
-use Rattle.snesl_network.specs.NodesAtRest.{FinalView, final_view}
-use Rattle.snesl_network.specs.WhichDrive.{WasDrivenBy}
-use Rattle.snesl_network.specs.Driven.{CameToRest, WasRefused}
-use Rattle.snesl_console.specs.Streams.{WriteEffect, write_effect, IsWrittenWhole, IsCutOff}
+use Rattle.snesl_flatten.specs.network.NodesAtRest.{FinalView, final_view}
+use Rattle.snesl_flatten.specs.network.WhichDrive.{WasDrivenBy}
+use Rattle.snesl_flatten.specs.network.Driven.{CameToRest, WasRefused}
+use Rattle.snesl_run.specs.console.Streams.{WriteEffect, write_effect, IsWrittenWhole, IsCutOff}
 use Rattle.snesl_run.specs.declared.report.Report.{Report}
 use Rattle.snesl_run.specs.declared.report.RunError.{RunError}
 

@@ -2,20 +2,20 @@
 
 ghost use Rattle.std.specs.Prelude.{◌≡◌, ◌⊎◌};
 ghost use Rattle.clap.specs.Walk.{texts};
-ghost use Rattle.snesl_console.specs.Streams.{read_effect, write_effect};
+ghost use Rattle.snesl_run.specs.console.Streams.{read_effect, write_effect};
 ghost use Rattle.snesl_run.specs.Prints.{Answered, IsJobAnswered, PrintedFor};
 ghost use Rattle.snesl_run.specs.Prints.{PrintsMade, PrintsRefusal};
 ghost use Rattle.snesl_run.specs.Runs.{HasRun};
 ghost use Rattle.snesl_data.specs.declared.refusal.Refusal.TheVariants.{BadConfig, NoMemory};
 
+use crate::command_line::settings;
+use crate::console::{
+    BAD_CONFIG_LINE, STALLED_LINE, complain, fault_line, print, refusal_line, split_job,
+};
 use crate::report::{Report, RunError};
 use crate::runs::run;
 use flow_drives::{Config, NoGate, Outcome};
-use snesl_console::{
-    BAD_CONFIG_LINE, STALLED_LINE, complain, fault_line, print, refusal_line, split_job,
-};
 use snesl_data::{Counted, Refusal};
-use snesl_settings::settings;
 use snesl_syntax::one_answer;
 use snesl_values::one_input_meaning;
 use std::alloc::{AllocError, Global};

@@ -5,7 +5,7 @@ ghost use Rattle.snesl_run.specs.Cuts.{CutsChangeNothing};
 
 use flow_drives::runs_rest_alike;
 use flow_nodes::StreamNode;
-use snesl_network::one_network;
+use snesl_flatten::network::one_network;
 use snesl_syntax::one_answer;
 use snesl_values::one_input_meaning;
 

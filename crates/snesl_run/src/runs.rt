@@ -7,13 +7,13 @@ ghost use Rattle.snesl_run.specs.Alike.{IsTheOneWay};
 ghost use Rattle.snesl_run.specs.Runs.{IsReported, HasWritten, HasWrittenGiven, Errs};
 ghost use Rattle.snesl_run.specs.Runs.{IsRefusedWith, RunAsks};
 
+use crate::console::send;
 use crate::laws::one_outcome;
 use crate::report::{Report, RunError};
 use flow_drives::{AlwaysStart, Config, Gate, Outcome, Start};
-use snesl_console::send;
 use snesl_data::{Counted, Refusal};
+use snesl_flatten::network::drive_program_with;
 use snesl_meaning::one_meaning;
-use snesl_network::drive_program_with;
 use std::alloc::Global;
 use std::io::Write;
 use std::sync::Arc;

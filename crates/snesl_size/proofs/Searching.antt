@@ -14,8 +14,8 @@ use Rattle.flow_drives.specs.Configs.{IsInSteps, IsLawful, IsWithin, StartsThrea
 use Rattle.flow_drives.specs.Limits.{greatest_chunk}
 use Rattle.snesl_flatten.specs.Networks.{StreamNodeState}
 use Rattle.snesl_meaning.specs.Meaning.{HaveOneMeaning, has_fault, has_value}
-use Rattle.snesl_network.specs.Driven.{CameToRest, HaveEnded, WasRefused}
-use Rattle.snesl_network.specs.NodesAtRest.{FinalView}
+use Rattle.snesl_flatten.specs.network.Driven.{CameToRest, HaveEnded, WasRefused}
+use Rattle.snesl_flatten.specs.network.NodesAtRest.{FinalView}
 use Rattle.snesl_run.specs.Runs.{CameOut, outcome_of, view_in_report}
 use Rattle.snesl_size.specs.Sizes.{EndsAtNoneBelow, FaultsSo, IsLeast, IsLeft, IsRefusedAtAll}
 use Rattle.snesl_size.specs.Staying.{EndedNetworksStay}

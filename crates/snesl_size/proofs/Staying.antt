@@ -18,9 +18,9 @@ use Rattle.flow_networks.specs.Networks.{configuration_of, network_of}
 use Rattle.flow_drives.specs.declared.config.Config.{Config}
 use Rattle.flow_nodes.specs.StreamNodes.{node_behaviour}
 use Rattle.snesl_flatten.specs.Networks.{StreamNodeState}
-use Rattle.snesl_network.specs.Driven.{CameToRest, HaveEnded}
-use Rattle.snesl_network.specs.NodesAtRest.{FinalView}
-use Rattle.snesl_network.specs.OneNetwork.{HaveOneNetwork}
+use Rattle.snesl_flatten.specs.network.Driven.{CameToRest, HaveEnded}
+use Rattle.snesl_flatten.specs.network.NodesAtRest.{FinalView}
+use Rattle.snesl_flatten.specs.network.OneNetwork.{HaveOneNetwork}
 use Rattle.snesl_run.specs.Runs.{CameOut, outcome_of, view_in_report}
 use Rattle.snesl_size.specs.Staying.{EndedNetworksStay, EndingStays}
 

@@ -2,14 +2,14 @@
 use Rattle.std.proofs.Common.{◌≡◌, ◌∙◌, List, [], ◌++◌, Option, ap, append_assoc, codes, length, sym, ℕ}
 use Rattle.std.proofs.lemmas.List.{append-nil}
 use Rattle.snesl_flatten.specs.Networks.{StreamNodeState}
-use Rattle.snesl_network.specs.NodesAtRest.{FinalView}
-use Rattle.snesl_size.specs.Tables.{AddedTo, BusiestLines, IsBusiest, IsSizeTable, busiest_part, count_over, full_part, name_and_number, sizes_part, with_edges, without_edges}
+use Rattle.snesl_flatten.specs.network.NodesAtRest.{FinalView}
+use Rattle.snesl_size.specs.Tables.{AddsBusiest, AddsSizes, IsBusiest, IsSizeTable, busiest_part, count_over, full_part, name_and_number, sizes_part, with_edges, without_edges}
 
 module _ (rest : FinalView StreamNodeState) (before : List ℕ) where
   -- the lines of the busiest edge
   pub with_busiest : (e count : ℕ) (line table : List ℕ) → IsBusiest rest e → count ≡ count_over rest e
       → line ≡ before ++ name_and_number (codes "busiest edge: ") e → table ≡ line ++ name_and_number (codes "messages on it: ") count
-      → AddedTo (BusiestLines rest) before table
+      → AddsBusiest rest before table
   with_busiest e count line table is counted first second = (
     busiest_part e (count_over rest e),
     with_edges e is,
@@ -19,12 +19,12 @@ module _ (rest : FinalView StreamNodeState) (before : List ℕ) where
   )
 
   -- or none
-  pub without_busiest : length rest.edges ≡ 0 → AddedTo (BusiestLines rest) before before
+  pub without_busiest : length rest.edges ≡ 0 → AddsBusiest rest before before
   without_busiest none = ([], without_edges none, sym (append-nil before))
 
 -- all lines together
 pub whole_table : (least : ℕ) (full : Option ℕ) (rest : FinalView StreamNodeState) (empty sizes most table : List ℕ) → empty ≡ []
-    → sizes ≡ empty ++ sizes_part least rest → AddedTo (BusiestLines rest) sizes most → table ≡ most ++ full_part full
+    → AddsSizes least rest empty sizes → AddsBusiest rest sizes most → table ≡ most ++ full_part full
     → IsSizeTable least full rest table
 whole_table least full rest empty sizes most table new first (lines, are, second) third = record {
   busiest = lines;

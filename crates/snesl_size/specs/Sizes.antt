@@ -8,8 +8,8 @@ use Rattle.flow_drives.specs.declared.config.Config.{Config}
 use Rattle.flow_drives.specs.declared.config.Drive.TheVariants.{Serial}
 use Rattle.flow_drives.specs.Configs.{IsInSteps}
 use Rattle.snesl_flatten.specs.Networks.{StreamNodeState}
-use Rattle.snesl_network.specs.Driven.{CameToRest, HaveEnded, IsNamed, WasRefused}
-use Rattle.snesl_network.specs.NodesAtRest.{FinalView, final_view}
+use Rattle.snesl_flatten.specs.network.Driven.{CameToRest, HaveEnded, IsNamed, WasRefused}
+use Rattle.snesl_flatten.specs.network.NodesAtRest.{FinalView, final_view}
 use Rattle.snesl_run.specs.declared.report.Report.{Report}
 use Rattle.snesl_run.specs.Runs.{view_in_report, outcome_of, CameOut, EndsInFault, IsReported}
 use Rattle.snesl_size.specs.declared.size.Size.{Size}

@@ -4,8 +4,8 @@ use Rattle.kahn.specs.declared.outcome.Outcome.TheVariants.{Value as Ended}
 use Rattle.flow_drives.specs.declared.config.Config.{Config}
 use Rattle.flow_drives.specs.Configs.{IsInSteps}
 use Rattle.snesl_flatten.specs.Networks.{StreamNodeState}
-use Rattle.snesl_network.specs.Driven.{CameToRest, HaveEnded}
-use Rattle.snesl_network.specs.NodesAtRest.{FinalView}
+use Rattle.snesl_flatten.specs.network.Driven.{CameToRest, HaveEnded}
+use Rattle.snesl_flatten.specs.network.NodesAtRest.{FinalView}
 use Rattle.snesl_run.specs.declared.report.Report.{Report}
 use Rattle.snesl_run.specs.Alike.{TellsTheSame}
 use Rattle.snesl_run.specs.Runs.{outcome_of, IsReported}

@@ -3,7 +3,7 @@
 ghost use Rattle.std.specs.Prelude.{◌+◌, ◌<◌, ◌≤◌, IfErr, IfOk};
 ghost use Rattle.flow_messages.specs.Limits.{greatest_capacity};
 ghost use Rattle.flow_drives.specs.Configs.{IsWithin};
-ghost use Rattle.snesl_network.specs.NodesAtRest.{final_view};
+ghost use Rattle.snesl_flatten.specs.network.NodesAtRest.{final_view};
 ghost use Rattle.snesl_size.specs.Sizes.{IsLeft, IsRefusedAtAll, IsSizeOf};
 
 use crate::laws::ending_stays;
@@ -12,8 +12,8 @@ use flow_drives::{Config, Drive, NoGate, Outcome, Rested};
 use flow_messages::MAX_CAPACITY;
 use flow_nodes::StreamNode;
 use snesl_data::Refusal;
+use snesl_flatten::network::drive_program;
 use snesl_meaning::one_meaning;
-use snesl_network::drive_program;
 use std::alloc::Global;
 use std::sync::Arc;
 use std::thread::Threads;

@@ -1,8 +1,8 @@
 // The table of a program's size.
 
-ghost use Rattle.std.specs.Prelude.{◌≡◌, ◌++◌, IfOk, MatchOption, OnOk, length};
-ghost use Rattle.snesl_network.specs.NodesAtRest.{final_view};
-ghost use Rattle.snesl_size.specs.Tables.{AddedTo, BusiestLines, IsBusiest, IsSizeTable, count_over, full_part, message_count, name_and_number, sizes_part};
+ghost use Rattle.std.specs.Prelude.{◌≡◌, ◌++◌, IfOk, OnOk};
+ghost use Rattle.snesl_flatten.specs.network.NodesAtRest.{final_view};
+ghost use Rattle.snesl_size.specs.Tables.{AddsBusiest, AddsSizes, FindsBusiest, IsSizeTable, count_over, full_part, message_count, name_and_number};
 
 use flow_drives::Rested;
 use flow_nodes::StreamNode;
@@ -29,8 +29,7 @@ pub fn size_table(
 
 // The lines of the busiest edge, if there is an edge.
 fn append_busiest(table: &mut Vec<u8>, rested: &Rested<StreamNode>) -> Result<(), AllocError>
-    ensures { OnOk result (AddedTo (BusiestLines (final_view rested.now)) table.old.items
-        table.new.items) }
+    ensures { OnOk result (AddsBusiest (final_view rested.now) table.old.items table.new.items) }
 {
     match busiest(rested) {
         Some(edge) => {
@@ -57,8 +56,7 @@ fn append_sizes(
     least: usize,
     rested: &Rested<StreamNode>,
 ) -> Result<(), AllocError>
-    ensures { OnOk result (table.new.items
-        ≡ table.old.items ++ sizes_part least (final_view rested.now)) }
+    ensures { OnOk result (AddsSizes least (final_view rested.now) table.old.items table.new.items) }
 {
     append_line(table, b"least capacity: ", least as u64)?;
     append_line(table, b"nodes: ", rested.nodes() as u64)?;
@@ -79,8 +77,7 @@ fn messages(rested: &Rested<StreamNode>) -> u64
 
 // The first edge over which most messages went.
 fn busiest(rested: &Rested<StreamNode>) -> Option<usize>
-    ensures { MatchOption result (length (final_view rested.now).edges ≡ 0)
-        (IsBusiest (final_view rested.now)) }
+    ensures { FindsBusiest (final_view rested.now) result }
 {
     let mut busiest = None;
     let mut most = 0;

@@ -1,11 +1,11 @@
 -- What the grammar lists as the beginning of a program after its dialect can be completed to one.
 use Rattle.std.proofs.Common.{◌≡◌, ℕ, max, ◌≤◌, List, [], ◌∷◌, ◌++◌, refl, sym, ◌∙◌, ap, subst, arith, append_assoc}
-use Rattle.snesl_lexer.specs.declared.token.TokenKind.TheVariants.{Int, Function, LeftParen, RightParen, Colon, Semicolon, Comma, Equals}
-use Rattle.snesl_lexer.specs.declared.token.Token.{Token}
-use Rattle.snesl_tree.specs.declared.span.Span.{Span}
-use Rattle.snesl_tree.specs.Tree.{Tree, name, depth, TypeTree, int_type, type_depth, TypedName, DeclarationTree, declares_input, declares_function}
+use Rattle.snesl_grammar.specs.declared.lexer.token.TokenKind.TheVariants.{Int, Function, LeftParen, RightParen, Colon, Semicolon, Comma, Equals}
+use Rattle.snesl_grammar.specs.declared.lexer.token.Token.{Token}
+use Rattle.snesl_grammar.specs.declared.tree.span.Span.{Span}
+use Rattle.snesl_grammar.specs.tree.Tree.{Tree, name, depth, TypeTree, int_type, type_depth, TypedName, DeclarationTree, declares_input, declares_function}
 use Rattle.snesl_grammar.specs.Expressions.{token, name_token, name_rule}
-use Rattle.snesl_expressions.specs.Readers.{Reader}
+use Rattle.snesl_syntax.specs.expressions.Readers.{Reader}
 use Rattle.snesl_grammar.specs.Types.{WholeType, int_rule}
 use Rattle.snesl_grammar.specs.Programs.{typed, parameters_depth, declaration_depth, declarations_depth, WholeParameters, one_parameter}
 use Rattle.snesl_grammar.specs.Programs.{more_parameters, WholeDeclaration, input_rule, function_rule, more_declarations, FrontParameter}

@@ -1,16 +1,16 @@
 -- The answer of a reader of programs is the one that the grammar wants, whatever the reader.
 use Rattle.std.proofs.Common.{◌≡◌, ℕ, ◌+◌, ◌≤◌, List, [], ◌∷◌, ◌++◌, Option, Some, None, Result, Ok, Err, refl, sym, ◌∙◌, ap, subst, arith, append_assoc}
 use Rattle.std.proofs.lemmas.List.{append-nil}
-use Rattle.snesl_lexer.specs.declared.token.Token.{Token}
+use Rattle.snesl_grammar.specs.declared.lexer.token.Token.{Token}
 use Rattle.snesl_data.specs.declared.refusal.Refusal.{Refusal}
 use Rattle.snesl_data.specs.declared.refusal.Refusal.TheVariants.{Syntax}
-use Rattle.snesl_tree.specs.Tree.{ProgramTree}
-use Rattle.snesl_expressions.specs.Readers.{Stop, unexpected, beyond_depth, Reader, step, and_then, after_tokens}
-use Rattle.snesl_expressions.proofs.Reading.{bind_ok, within_unexpected, within_deeper, goes_on, ends_with, go_more, go_front}
+use Rattle.snesl_grammar.specs.tree.Tree.{ProgramTree}
+use Rattle.snesl_syntax.specs.expressions.Readers.{Stop, unexpected, beyond_depth, Reader, step, and_then, after_tokens}
+use Rattle.snesl_syntax.proofs.OfExpressions.Reading.{bind_ok, within_unexpected, within_deeper, goes_on, ends_with, go_more, go_front}
 use Rattle.snesl_grammar.specs.Programs.{WholeProgram, FrontProgram, program_depth}
 use Rattle.snesl_syntax.specs.Answer.{at_end, refusal_of, answer_from, parse_rest}
 use Rattle.snesl_syntax.specs.Parse.{BeginsSoFar, AnswersBy, accepted, wrong, too_deep, ended}
-use Rattle.snesl_expressions.specs.Readers.{IsReaderOf}
+use Rattle.snesl_syntax.specs.expressions.Readers.{IsReaderOf}
 
 abbrev pub IsReaderOfPrograms : {State : Type 0} → Reader State ProgramTree → Type 0
 IsReaderOfPrograms reader = IsReaderOf reader WholeProgram FrontProgram program_depth (λ kind. ⊥)

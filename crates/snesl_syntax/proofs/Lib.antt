@@ -1,3 +1,4 @@
+pub mod OfExpressions
 pub mod Moves
 pub mod TypesRead
 pub mod Exact

@@ -1,9 +1,9 @@
 -- What a reader's moves keep, its readings keep.
 use Rattle.std.proofs.Common.{◌≡◌, ℕ, ◌≤◌, List, [], ◌∷◌, ◌++◌, Option, Some, None, Ok, refl, sym, ◌∙◌, ap, subst, arith, append_assoc}
 use Rattle.std.proofs.lemmas.List.{append-nil}
-use Rattle.snesl_lexer.specs.declared.token.Token.{Token}
-use Rattle.snesl_expressions.specs.Readers.{TokenMove, at_any_depth, Reader, step, after_tokens}
-use Rattle.snesl_expressions.proofs.Reading.{bind_ok, within_ok, fits_step, steps_on}
+use Rattle.snesl_grammar.specs.declared.lexer.token.Token.{Token}
+use Rattle.snesl_syntax.specs.expressions.Readers.{TokenMove, at_any_depth, Reader, step, after_tokens}
+use Rattle.snesl_syntax.proofs.OfExpressions.Reading.{bind_ok, within_ok, fits_step, steps_on}
 use Rattle.snesl_syntax.specs.Programs.{lifted, or_else, when_whole}
 
 -- a step that wants no depth

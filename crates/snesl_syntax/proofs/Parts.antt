@@ -1,15 +1,15 @@
 -- What a token makes of a part of a program, and what comes of that in the program.
 use Rattle.std.proofs.Common.{◌≡◌, ℕ, true, false, cond, leb, Option, Some, None, Result, Ok, Err, refl, sym, ◌∙◌, ap, subst}
 use Rattle.std.specs.Result.{IsErrAnd}
-use Rattle.snesl_lexer.specs.declared.token.TokenKind.{TokenKind}
-use Rattle.snesl_lexer.specs.declared.token.TokenKind.TheVariants.{Semicolon}
-use Rattle.snesl_lexer.specs.declared.token.Token.{Token}
-use Rattle.snesl_tree.specs.Tree.{Tree, TypeTree}
-use Rattle.snesl_expressions.specs.Readers.{Stop, beyond_depth, TokenMove, within}
-use Rattle.snesl_expressions.specs.Machine.{State, expressions}
-use Rattle.snesl_expressions.specs.declared.machine.StepError.{StepError}
-use Rattle.snesl_expressions.specs.declared.machine.StepError.TheVariants as errors
-use Rattle.snesl_expressions.specs.Parsing.{Fails}
+use Rattle.snesl_grammar.specs.declared.lexer.token.TokenKind.{TokenKind}
+use Rattle.snesl_grammar.specs.declared.lexer.token.TokenKind.TheVariants.{Semicolon}
+use Rattle.snesl_grammar.specs.declared.lexer.token.Token.{Token}
+use Rattle.snesl_grammar.specs.tree.Tree.{Tree, TypeTree}
+use Rattle.snesl_syntax.specs.expressions.Readers.{Stop, beyond_depth, TokenMove, within}
+use Rattle.snesl_syntax.specs.expressions.Machine.{State, expressions}
+use Rattle.snesl_syntax.specs.declared.expressions.machine.StepError.{StepError}
+use Rattle.snesl_syntax.specs.declared.expressions.machine.StepError.TheVariants as errors
+use Rattle.snesl_syntax.specs.expressions.Parsing.{Fails}
 use Rattle.snesl_syntax.specs.Types.{TypeState, types}
 use Rattle.snesl_syntax.specs.Programs.{TypeOf, Header, in_type, in_body, lifted, or_else, when_whole, body_end, type_end, programs}
 use Rattle.snesl_syntax.specs.TypeMachine.{Stops, IsStep}

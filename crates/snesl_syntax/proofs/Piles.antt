@@ -1,8 +1,8 @@
 -- The open types in a vector, whose last is the innermost.
 use Rattle.std.proofs.Common.{◌≡◌, suc, ◌+◌, ◌≤◌, ◌<◌, List, [], ◌∷◌, ◌++◌, length, None, Ok, Err, refl, ap, ◌∙◌, arith, cond, le-leb}
 use Rattle.std.proofs.lemmas.Bool.{lt-leb}
-use Rattle.snesl_tree.specs.Tree.{TypeTree}
-use Rattle.snesl_expressions.specs.Readers.{beyond_depth, within}
+use Rattle.snesl_grammar.specs.tree.Tree.{TypeTree}
+use Rattle.snesl_syntax.specs.expressions.Readers.{beyond_depth, within}
 use Rattle.snesl_syntax.specs.declared.types.TypeForm.{TypeForm}
 use Rattle.snesl_grammar.specs.Limits.{greatest_depth}
 use Rattle.snesl_syntax.specs.Types.{TypeFrame, type_begins, type_ended, open_type, finished_type}

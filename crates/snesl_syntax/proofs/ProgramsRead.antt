@@ -1,7 +1,7 @@
 -- The reader of programs reads what the grammar says.
 use Rattle.std.proofs.Common.{refl}
-use Rattle.snesl_expressions.specs.Machine.{expressions}
-use Rattle.snesl_expressions.proofs.Expressions.{expressions_read}
+use Rattle.snesl_syntax.specs.expressions.Machine.{expressions}
+use Rattle.snesl_syntax.proofs.OfExpressions.Expressions.{expressions_read}
 use Rattle.snesl_syntax.specs.Programs.{programs}
 use Rattle.snesl_syntax.specs.DialectMachine.{reader}
 use Rattle.snesl_syntax.proofs.Exact.{IsReaderOfPrograms}

@@ -1,10 +1,10 @@
 -- Which tokens are a program after its dialect, and which begin one.
 use Rattle.std.proofs.Common.{ℕ, max, ◌≤◌, List, ◌++◌}
-use Rattle.snesl_lexer.specs.declared.token.Token.{Token}
-use Rattle.snesl_tree.specs.Tree.{Tree, depth, DeclarationTree}
+use Rattle.snesl_grammar.specs.declared.lexer.token.Token.{Token}
+use Rattle.snesl_grammar.specs.tree.Tree.{Tree, depth, DeclarationTree}
 use Rattle.snesl_grammar.specs.Expressions.{Whole, Front}
 use Rattle.snesl_grammar.specs.Programs.{declarations_depth, WholeDeclarations, FrontDeclaration}
-use Rattle.snesl_expressions.specs.Readers.{Reader, IsReaderOf}
+use Rattle.snesl_syntax.specs.expressions.Readers.{Reader, IsReaderOf}
 use Rattle.snesl_syntax.specs.Programs.{Rest}
 
 abbrev pub rest_depth : Rest → ℕ

@@ -1,12 +1,12 @@
 -- A whole program is read after its dialect, where expressions are.
 use Rattle.std.proofs.Common.{◌≡◌, ℕ, max, ◌≤◌, List, [], ◌∷◌, ◌++◌, Some, None, Ok, refl, ◌∙◌, ap, arith}
-use Rattle.snesl_lexer.specs.declared.token.TokenKind.TheVariants.{Dialect, Input, Function, LeftParen, RightParen, Colon, Semicolon, Comma, Equals}
-use Rattle.snesl_lexer.specs.declared.token.Token.{Token}
-use Rattle.snesl_tree.specs.declared.span.Span.{Span}
-use Rattle.snesl_tree.specs.Tree.{Tree, depth, TypeTree, type_depth, TypedName, DeclarationTree, declares_input, declares_function}
+use Rattle.snesl_grammar.specs.declared.lexer.token.TokenKind.TheVariants.{Dialect, Input, Function, LeftParen, RightParen, Colon, Semicolon, Comma, Equals}
+use Rattle.snesl_grammar.specs.declared.lexer.token.Token.{Token}
+use Rattle.snesl_grammar.specs.declared.tree.span.Span.{Span}
+use Rattle.snesl_grammar.specs.tree.Tree.{Tree, depth, TypeTree, type_depth, TypedName, DeclarationTree, declares_input, declares_function}
 use Rattle.snesl_grammar.specs.Expressions.{token, name_token, Whole, Front}
-use Rattle.snesl_expressions.specs.Readers.{at_any_depth, Reader, step, after_tokens}
-use Rattle.snesl_expressions.proofs.Reading.{bind_ok, within_ok, fits_step, goes_on, steps_on, ends_with}
+use Rattle.snesl_syntax.specs.expressions.Readers.{at_any_depth, Reader, step, after_tokens}
+use Rattle.snesl_syntax.proofs.OfExpressions.Reading.{bind_ok, within_ok, fits_step, goes_on, steps_on, ends_with}
 use Rattle.snesl_grammar.specs.Types.{WholeType}
 use Rattle.snesl_syntax.specs.Types.{TypeState, types}
 use Rattle.snesl_grammar.specs.Programs.{typed, parameters_depth, declaration_depth, declarations_depth, WholeParameters, one_parameter}
@@ -16,7 +16,7 @@ use Rattle.snesl_syntax.specs.Programs.{Rest, TypeOf, of_input, of_parameter, of
 use Rattle.snesl_syntax.specs.Programs.{awaits_input_colon, awaits_function, awaits_open, awaits_parameter, awaits_parameter_colon, awaits_result}
 use Rattle.snesl_syntax.specs.Programs.{in_type, in_body, in_final, lifted, or_else, when_whole, body_end, type_end, fixed_move, with_expression}
 use Rattle.snesl_syntax.specs.Programs.{finished_program, programs}
-use Rattle.snesl_expressions.specs.Readers.{IsReaderOf}
+use Rattle.snesl_syntax.specs.expressions.Readers.{IsReaderOf}
 use Rattle.snesl_syntax.proofs.Moves.{free_step, go_carried}
 use Rattle.snesl_syntax.proofs.TypesRead.{types_are_read}
 use Rattle.snesl_syntax.proofs.Rests.{rest_depth, WholeRest, rest_rule}

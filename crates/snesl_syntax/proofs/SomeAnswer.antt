@@ -3,10 +3,10 @@ use Rattle.std.proofs.Common.{ℕ, ◌≤◌, List, length, Result, Ok, Err, inl
 use Rattle.std.proofs.lemmas.Bool.{cases_lt}
 use Rattle.snesl_data.specs.declared.refusal.Refusal.{Refusal}
 use Rattle.snesl_data.specs.declared.refusal.Refusal.TheVariants.{TooLong, Lex}
-use Rattle.snesl_lexer.specs.declared.token.Token.{Token}
-use Rattle.snesl_lexer.specs.Readings.{Reads}
-use Rattle.snesl_lexer.proofs.OneReading.{one_reading}
-use Rattle.snesl_tree.specs.Tree.{ProgramTree}
+use Rattle.snesl_grammar.specs.declared.lexer.token.Token.{Token}
+use Rattle.snesl_grammar.specs.lexer.Readings.{Reads}
+use Rattle.snesl_grammar.proofs.OfLexer.OneReading.{one_reading}
+use Rattle.snesl_grammar.specs.tree.Tree.{ProgramTree}
 use Rattle.snesl_grammar.specs.Limits.{greatest_depth}
 use Rattle.snesl_grammar.specs.Limits.{greatest_length}
 use Rattle.snesl_syntax.specs.Answer.{parse_rest}

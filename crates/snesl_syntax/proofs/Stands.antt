@@ -1,14 +1,14 @@
 -- What was read of a program after its dialect stands in the grammar.
 use Rattle.std.proofs.Common.{◌≡◌, ℕ, suc, max, ◌≤◌, List, [], ◌∷◌, ◌++◌, Option, Some, None, Ok, refl, sym, subst, arith, append_assoc}
 use Rattle.std.proofs.lemmas.List.{append-nil}
-use Rattle.snesl_lexer.specs.declared.token.TokenKind.{TokenKind}
-use Rattle.snesl_lexer.specs.declared.token.TokenKind.TheVariants.{Name, Input, Function, LeftParen, RightParen, Colon, Semicolon, Comma, Equals}
-use Rattle.snesl_lexer.specs.declared.token.Token.{Token}
-use Rattle.snesl_tree.specs.declared.span.Span.{Span}
-use Rattle.snesl_tree.specs.Tree.{Tree, depth, TypeTree, type_depth, TypedName, DeclarationTree, declares_input, declares_function}
+use Rattle.snesl_grammar.specs.declared.lexer.token.TokenKind.{TokenKind}
+use Rattle.snesl_grammar.specs.declared.lexer.token.TokenKind.TheVariants.{Name, Input, Function, LeftParen, RightParen, Colon, Semicolon, Comma, Equals}
+use Rattle.snesl_grammar.specs.declared.lexer.token.Token.{Token}
+use Rattle.snesl_grammar.specs.declared.tree.span.Span.{Span}
+use Rattle.snesl_grammar.specs.tree.Tree.{Tree, depth, TypeTree, type_depth, TypedName, DeclarationTree, declares_input, declares_function}
 use Rattle.snesl_grammar.specs.Expressions.{token, name_token, Whole, Front, nothing}
-use Rattle.snesl_expressions.specs.Readers.{TokenMove, Reader, after_tokens}
-use Rattle.snesl_expressions.proofs.Reading.{ends_with, fits_step}
+use Rattle.snesl_syntax.specs.expressions.Readers.{TokenMove, Reader, after_tokens}
+use Rattle.snesl_syntax.proofs.OfExpressions.Reading.{ends_with, fits_step}
 use Rattle.snesl_grammar.specs.Types.{WholeType, FrontType}
 use Rattle.snesl_syntax.specs.Types.{TypeState, types}
 use Rattle.snesl_grammar.specs.Programs.{typed, parameters_depth, declaration_depth, declarations_depth, WholeParameters, one_parameter}

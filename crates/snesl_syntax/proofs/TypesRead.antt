@@ -1,17 +1,17 @@
 -- The reader of types reads what the grammar says.
 use Rattle.std.proofs.Common.{◌≡◌, ℕ, suc, ◌+◌, ◌-◌, ◌≤◌, List, [], ◌∷◌, ◌++◌, length, Option, Some, None, Ok, refl, sym, ◌∙◌, subst, arith, append_assoc}
 use Rattle.std.proofs.lemmas.List.{append-nil}
-use Rattle.snesl_lexer.specs.declared.token.TokenKind.{TokenKind}
-use Rattle.snesl_lexer.specs.declared.token.TokenKind.TheVariants.{Int, Bool, LeftParen, RightParen, LeftBracket, RightBracket, LeftBrace, RightBrace, Comma}
-use Rattle.snesl_lexer.specs.declared.token.Token.{Token}
-use Rattle.snesl_tree.specs.Tree.{TypeTree, int_type, bool_type, pair_type, vector_type, sequence_type, type_depth}
+use Rattle.snesl_grammar.specs.declared.lexer.token.TokenKind.{TokenKind}
+use Rattle.snesl_grammar.specs.declared.lexer.token.TokenKind.TheVariants.{Int, Bool, LeftParen, RightParen, LeftBracket, RightBracket, LeftBrace, RightBrace, Comma}
+use Rattle.snesl_grammar.specs.declared.lexer.token.Token.{Token}
+use Rattle.snesl_grammar.specs.tree.Tree.{TypeTree, int_type, bool_type, pair_type, vector_type, sequence_type, type_depth}
 use Rattle.snesl_grammar.specs.Expressions.{token}
-use Rattle.snesl_expressions.specs.Readers.{TokenMove, after_tokens}
-use Rattle.snesl_expressions.proofs.Reading.{goes_on, steps_on, ends_with, fits_step}
+use Rattle.snesl_syntax.specs.expressions.Readers.{TokenMove, after_tokens}
+use Rattle.snesl_syntax.proofs.OfExpressions.Reading.{goes_on, steps_on, ends_with, fits_step}
 use Rattle.snesl_grammar.specs.Types.{WholeType, int_rule, bool_rule, pair_type_rule, vector_rule, sequence_rule, FrontType, no_type, whole_type}
 use Rattle.snesl_grammar.specs.Types.{pair_type_first, pair_type_second, vector_item, sequence_item}
 use Rattle.snesl_syntax.specs.Types.{MayFollowType, TypeFrame, in_first, in_second, in_vector, in_sequence, TypeState, type_begins, type_ended, type_move, finished_type, types}
-use Rattle.snesl_expressions.specs.Readers.{IsReaderOf}
+use Rattle.snesl_syntax.specs.expressions.Readers.{IsReaderOf}
 use Rattle.snesl_syntax.proofs.Moves.{free_step, Good, go_stands}
 
 pub type_depth_pos : (e : TypeTree) → 1 ≤ type_depth e

@@ -3,11 +3,11 @@ use Rattle.std.proofs.Common.{◌≡◌, ℕ, ◌≤◌, List, [], ◌∷◌, �
 use Rattle.std.specs.Result.{IsErrAnd, IfOk, IfErr}
 use Rattle.snesl_data.specs.declared.refusal.Refusal.{Refusal}
 use Rattle.snesl_data.specs.declared.refusal.Refusal.TheVariants.{Lex, NoMemory}
-use Rattle.snesl_lexer.specs.declared.token.Token.{Token}
-use Rattle.snesl_lexer.specs.Lexical.{dialect_of, IsBadOf, Tokens}
-use Rattle.snesl_lexer.proofs.OneReading.{one_tokens, no_both, one_bad}
+use Rattle.snesl_grammar.specs.declared.lexer.token.Token.{Token}
+use Rattle.snesl_grammar.specs.lexer.Lexical.{dialect_of, IsBadOf, Tokens}
+use Rattle.snesl_grammar.proofs.OfLexer.OneReading.{one_tokens, no_both, one_bad}
 use Rattle.snesl_grammar.specs.declared.program.Program.{Program}
-use Rattle.snesl_tree.specs.Tree.{ProgramTree, depth}
+use Rattle.snesl_grammar.specs.tree.Tree.{ProgramTree, depth}
 use Rattle.snesl_grammar.specs.View.{program_of}
 use Rattle.snesl_syntax.specs.declared.dialects.Whole.{Whole}
 use Rattle.snesl_grammar.specs.Limits.{greatest_length, greatest_depth}
@@ -17,7 +17,7 @@ use Rattle.snesl_syntax.specs.Answer.{parse_rest}
 use Rattle.snesl_syntax.specs.Parse.{AnswersBy, AnswersTokens, accepted, wrong, too_deep, ended, Parses, too_long, bad_byte, read, HaveOneAnswer}
 use Rattle.snesl_syntax.specs.Parse.{BeginsProgram, FrontsBeginPrograms, IsOfText, IsRight, Returns}
 use Rattle.snesl_syntax.specs.DialectMachine.{reader, FindsWhole, FindsOneOf}
-use Rattle.snesl_expressions.proofs.Depths.{depth_pos}
+use Rattle.snesl_syntax.proofs.OfExpressions.Depths.{depth_pos}
 use Rattle.snesl_syntax.proofs.Exact.{so_far, answers, one_answer}
 use Rattle.snesl_syntax.proofs.ProgramsRead.{are_read}
 

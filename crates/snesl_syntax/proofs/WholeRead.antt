@@ -2,15 +2,15 @@
 use Rattle.std.proofs.Common.{◌≡◌, ℕ, zero, suc, pos, ◌≤◌, List, [], ◌∷◌, ◌++◌, Option, Some, None, Ok, refl, sym, ◌∙◌, ap, subst, arith, append_assoc}
 use Rattle.snesl_data.specs.declared.dialect.Dialect.{Dialect}
 use Rattle.snesl_data.specs.declared.dialect.Dialect.TheVariants.{One, Two}
-use Rattle.snesl_lexer.specs.declared.token.TokenKind.{TokenKind}
-use Rattle.snesl_lexer.specs.declared.token.TokenKind.TheVariants.{Integer, Semicolon, Dialect as DialectWord}
-use Rattle.snesl_lexer.specs.declared.token.Token.{Token}
-use Rattle.snesl_tree.specs.Tree.{name, ProgramTree}
+use Rattle.snesl_grammar.specs.declared.lexer.token.TokenKind.{TokenKind}
+use Rattle.snesl_grammar.specs.declared.lexer.token.TokenKind.TheVariants.{Integer, Semicolon, Dialect as DialectWord}
+use Rattle.snesl_grammar.specs.declared.lexer.token.Token.{Token}
+use Rattle.snesl_grammar.specs.tree.Tree.{name, ProgramTree}
 use Rattle.snesl_grammar.specs.Expressions.{token, name_rule, nothing}
 use Rattle.snesl_grammar.specs.Programs.{program_depth, no_declarations, WholeDialect, no_dialect, dialect_rule, WholeProgram, program_rule}
 use Rattle.snesl_grammar.specs.Programs.{FrontProgram, dialect_word, dialect_number, in_declaration, in_expression}
-use Rattle.snesl_expressions.specs.Readers.{TokenMove, Reader, step, after_tokens}
-use Rattle.snesl_expressions.proofs.Reading.{bind_ok, within_ok, fits_step, steps_on, ends_with}
+use Rattle.snesl_syntax.specs.expressions.Readers.{TokenMove, Reader, step, after_tokens}
+use Rattle.snesl_syntax.proofs.OfExpressions.Reading.{bind_ok, within_ok, fits_step, steps_on, ends_with}
 use Rattle.snesl_syntax.specs.Programs.{Rest, lifted, or_else}
 use Rattle.snesl_syntax.specs.Dialects.{DialectState, beginning, awaits_number, awaits_semicolon, in_rest, program_in, in_dialect, dialect_move, whole_programs}
 use Rattle.snesl_syntax.proofs.Moves.{Good, good_or, good_carried, go_stands, free_step, go_carried}

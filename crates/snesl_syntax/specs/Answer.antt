@@ -2,8 +2,8 @@
 use Rattle.std.specs.Prelude.{ℕ, List, [], ◌∷◌, Option, Some, None, Result, Ok, Err}
 use Rattle.snesl_data.specs.declared.refusal.Refusal.{Refusal}
 use Rattle.snesl_data.specs.declared.refusal.Refusal.TheVariants.{Syntax, Deep}
-use Rattle.snesl_lexer.specs.declared.token.Token.{Token}
-use Rattle.snesl_expressions.specs.Readers.{Stop, unexpected, beyond_depth, Reader, step}
+use Rattle.snesl_grammar.specs.declared.lexer.token.Token.{Token}
+use Rattle.snesl_syntax.specs.expressions.Readers.{Stop, unexpected, beyond_depth, Reader, step}
 
 -- the form, or where there is none the refusal of the end of a text of so many bytes
 abbrev pub at_end : {Form : Type 0} → ℕ → Option Form → Result Form Refusal

@@ -2,12 +2,12 @@
 use Rattle.std.specs.Prelude.{◌≡◌, Option, Some, None, Result, Ok, Err}
 use Rattle.snesl_data.specs.declared.refusal.Refusal.{Refusal}
 use Rattle.snesl_data.specs.declared.refusal.Refusal.TheVariants as refusals
-use Rattle.snesl_tree.specs.Tree.{ProgramTree}
-use Rattle.snesl_lexer.specs.declared.token.Token.{Token}
+use Rattle.snesl_grammar.specs.tree.Tree.{ProgramTree}
+use Rattle.snesl_grammar.specs.declared.lexer.token.Token.{Token}
 use Rattle.snesl_grammar.specs.Limits.{greatest_depth}
-use Rattle.snesl_expressions.specs.declared.machine.StepError.{StepError}
-use Rattle.snesl_expressions.specs.Readers.{Reader, step}
-use Rattle.snesl_expressions.specs.Machine.{State}
+use Rattle.snesl_syntax.specs.declared.expressions.machine.StepError.{StepError}
+use Rattle.snesl_syntax.specs.expressions.Readers.{Reader, step}
+use Rattle.snesl_syntax.specs.expressions.Machine.{State}
 use Rattle.snesl_syntax.specs.declared.dialects.DialectMachine.{DialectMachine}
 use Rattle.snesl_syntax.specs.declared.dialects.DialectMachine.TheVariants as points
 use Rattle.snesl_syntax.specs.declared.dialects.Whole.{Whole}

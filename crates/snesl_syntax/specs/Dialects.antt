@@ -2,11 +2,11 @@
 use Rattle.std.specs.Prelude.{zero, suc, pos, Option, Some, None}
 use Rattle.snesl_data.specs.declared.dialect.Dialect.{Dialect}
 use Rattle.snesl_data.specs.declared.dialect.Dialect.TheVariants.{One, Two}
-use Rattle.snesl_lexer.specs.declared.token.TokenKind.{TokenKind}
-use Rattle.snesl_lexer.specs.declared.token.TokenKind.TheVariants as kinds
-use Rattle.snesl_lexer.specs.declared.token.Token.{Token}
-use Rattle.snesl_tree.specs.Tree.{ProgramTree}
-use Rattle.snesl_expressions.specs.Readers.{TokenMove, at_any_depth, Reader}
+use Rattle.snesl_grammar.specs.declared.lexer.token.TokenKind.{TokenKind}
+use Rattle.snesl_grammar.specs.declared.lexer.token.TokenKind.TheVariants as kinds
+use Rattle.snesl_grammar.specs.declared.lexer.token.Token.{Token}
+use Rattle.snesl_grammar.specs.tree.Tree.{ProgramTree}
+use Rattle.snesl_syntax.specs.expressions.Readers.{TokenMove, at_any_depth, Reader}
 use Rattle.snesl_syntax.specs.Programs.{Rest, lifted, or_else}
 
 -- What may come next. The rest of a program is read in states of its own.

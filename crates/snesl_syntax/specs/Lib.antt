@@ -1,3 +1,4 @@
+pub mod expressions
 pub mod Types
 pub mod Programs
 pub mod Dialects
@@ -11,6 +12,6 @@ pub use Rattle.snesl_data.specs.declared.refusal.Refusal
 pub use Rattle.snesl_grammar.specs.declared.program.Program
 pub use Rattle.snesl_grammar.specs.Limits
 pub use Rattle.snesl_grammar.specs.View as GrammarView
-pub use Rattle.snesl_tree.specs.Tree
-pub use Rattle.snesl_tree.specs.View
-pub use Rattle.snesl_tree.specs.Spelling
+pub use Rattle.snesl_grammar.specs.tree.Tree
+pub use Rattle.snesl_grammar.specs.tree.View
+pub use Rattle.snesl_grammar.specs.tree.Spelling

@@ -1,17 +1,17 @@
 -- The states that the reader of programs after their dialect is in, and what it returns.
 use Rattle.std.specs.Prelude.{◌≡◌, List, Vec, map, Option, Some, None, Result}
 use Rattle.std.specs.declared.alloc.Global.{Global}
-use Rattle.snesl_lexer.specs.declared.token.TokenKind.{TokenKind}
-use Rattle.snesl_lexer.specs.declared.token.Token.{Token}
-use Rattle.snesl_tree.specs.declared.declaration.Declaration.{Declaration}
-use Rattle.snesl_tree.specs.declared.declaration.WrittenType.{WrittenType}
-use Rattle.snesl_tree.specs.Tree.{DeclarationTree}
-use Rattle.snesl_tree.specs.View.{tree_of, type_tree, typed_of, declaration_of}
+use Rattle.snesl_grammar.specs.declared.lexer.token.TokenKind.{TokenKind}
+use Rattle.snesl_grammar.specs.declared.lexer.token.Token.{Token}
+use Rattle.snesl_grammar.specs.declared.tree.declaration.Declaration.{Declaration}
+use Rattle.snesl_grammar.specs.declared.tree.declaration.WrittenType.{WrittenType}
+use Rattle.snesl_grammar.specs.tree.Tree.{DeclarationTree}
+use Rattle.snesl_grammar.specs.tree.View.{tree_of, type_tree, typed_of, declaration_of}
 use Rattle.snesl_grammar.specs.Limits.{greatest_depth}
-use Rattle.snesl_expressions.specs.declared.machine.StepError.{StepError}
-use Rattle.snesl_expressions.specs.Readers.{TokenMove, Reader, within, step}
-use Rattle.snesl_expressions.specs.Machine.{State, expressions}
-use Rattle.snesl_expressions.specs.Parsing.{state_of}
+use Rattle.snesl_syntax.specs.declared.expressions.machine.StepError.{StepError}
+use Rattle.snesl_syntax.specs.expressions.Readers.{TokenMove, Reader, within, step}
+use Rattle.snesl_syntax.specs.expressions.Machine.{State, expressions}
+use Rattle.snesl_syntax.specs.expressions.Parsing.{state_of}
 use Rattle.snesl_syntax.specs.declared.programs.Owner.{Owner}
 use Rattle.snesl_syntax.specs.declared.programs.Owner.TheVariants as owners
 use Rattle.snesl_syntax.specs.declared.programs.Header.{Header}

@@ -1,11 +1,11 @@
 -- How programs are read after their dialect, given how expressions are.
 use Rattle.std.specs.Prelude.{ℕ, List, [], ◌∷◌, ◌++◌, Option, Some, None}
-use Rattle.snesl_lexer.specs.declared.token.TokenKind.{TokenKind}
-use Rattle.snesl_lexer.specs.declared.token.TokenKind.TheVariants as kinds
-use Rattle.snesl_lexer.specs.declared.token.Token.{Token}
-use Rattle.snesl_tree.specs.declared.span.Span.{Span}
-use Rattle.snesl_tree.specs.Tree.{Tree, TypeTree, TypedName, DeclarationTree, declares_input, declares_function}
-use Rattle.snesl_expressions.specs.Readers.{TokenMove, at_any_depth, Reader}
+use Rattle.snesl_grammar.specs.declared.lexer.token.TokenKind.{TokenKind}
+use Rattle.snesl_grammar.specs.declared.lexer.token.TokenKind.TheVariants as kinds
+use Rattle.snesl_grammar.specs.declared.lexer.token.Token.{Token}
+use Rattle.snesl_grammar.specs.declared.tree.span.Span.{Span}
+use Rattle.snesl_grammar.specs.tree.Tree.{Tree, TypeTree, TypedName, DeclarationTree, declares_input, declares_function}
+use Rattle.snesl_syntax.specs.expressions.Readers.{TokenMove, at_any_depth, Reader}
 use Rattle.snesl_syntax.specs.Types.{TypeState, types}
 use Rattle.snesl_grammar.specs.Programs.{typed}
 

@@ -1,13 +1,13 @@
 -- The states that the reader of types is in, and what its functions return.
 use Rattle.std.specs.Prelude.{◌≡◌, List, [], ◌∷◌, Vec, Option, Some, None, Result, Ok, Err}
 use Rattle.std.specs.declared.alloc.Global.{Global}
-use Rattle.snesl_lexer.specs.declared.token.Token.{Token}
-use Rattle.snesl_tree.specs.declared.declaration.WrittenType.{WrittenType}
-use Rattle.snesl_tree.specs.View.{type_tree}
+use Rattle.snesl_grammar.specs.declared.lexer.token.Token.{Token}
+use Rattle.snesl_grammar.specs.declared.tree.declaration.WrittenType.{WrittenType}
+use Rattle.snesl_grammar.specs.tree.View.{type_tree}
 use Rattle.snesl_grammar.specs.Limits.{greatest_depth}
-use Rattle.snesl_expressions.specs.Readers.{Stop, unexpected, beyond_depth, TokenMove, within, step}
-use Rattle.snesl_expressions.specs.declared.machine.StepError.{StepError}
-use Rattle.snesl_expressions.specs.declared.machine.StepError.TheVariants as errors
+use Rattle.snesl_syntax.specs.expressions.Readers.{Stop, unexpected, beyond_depth, TokenMove, within, step}
+use Rattle.snesl_syntax.specs.declared.expressions.machine.StepError.{StepError}
+use Rattle.snesl_syntax.specs.declared.expressions.machine.StepError.TheVariants as errors
 use Rattle.snesl_syntax.specs.declared.types.TypeForm.{TypeForm}
 use Rattle.snesl_syntax.specs.declared.types.TypeForm.TheVariants as forms
 use Rattle.snesl_syntax.specs.declared.types.TypePoint.{TypePoint}

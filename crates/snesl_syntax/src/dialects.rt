@@ -5,10 +5,10 @@ ghost use Rattle.snesl_syntax.specs.Dialects.{beginning, awaits_number, awaits_s
 ghost use Rattle.snesl_syntax.specs.ProgramMachine.{program_state};
 ghost use Rattle.snesl_syntax.specs.DialectMachine.{reader, dialect_state, WholeSteps, IsThisProgram};
 
+use crate::expressions::StepError;
 use crate::programs::{Parsed, ProgramMachine};
 use snesl_data::Dialect;
-use snesl_expressions::StepError;
-use snesl_lexer::{Token, TokenKind};
+use snesl_grammar::lexer::{Token, TokenKind};
 use std::alloc::{AllocError, Global};
 
 /// The reader of a program between two tokens, by what may come next.

@@ -7,11 +7,11 @@ ghost use Rattle.snesl_syntax.specs.DialectMachine.{reader, FindsWhole, FindsOne
 ghost use Rattle.snesl_syntax.specs.Parse.{AnswersTokens, Parses, HaveOneAnswer, HaveSomeAnswer, FrontsBeginPrograms, IsOfText, IsRight, ReturnsEach};
 
 use crate::dialects::{DialectMachine, Whole};
+use crate::expressions::StepError;
 use crate::limits::GREATEST_LENGTH;
 use snesl_data::Refusal;
-use snesl_expressions::StepError;
 use snesl_grammar::Program;
-use snesl_lexer::{Token, tokens_of};
+use snesl_grammar::lexer::{Token, tokens_of};
 use std::alloc::Global;
 
 // The machine's answer for the tokens of a text of so many bytes.

@@ -1,11 +1,11 @@
 // The reader of a program after its dialect, between two tokens, and what a token makes of it.
 
 ghost use Rattle.std.specs.Prelude.{◌≡◌, Ok, IfOk};
-ghost use Rattle.snesl_lexer.specs.declared.token.TokenKind.TheVariants.{Semicolon};
-ghost use Rattle.snesl_tree.specs.View.{tree_of};
-ghost use Rattle.snesl_expressions.specs.Readers.{step};
-ghost use Rattle.snesl_expressions.specs.Machine.{expressions};
-ghost use Rattle.snesl_expressions.specs.Parsing.{state_of};
+ghost use Rattle.snesl_grammar.specs.declared.lexer.token.TokenKind.TheVariants.{Semicolon};
+ghost use Rattle.snesl_grammar.specs.tree.View.{tree_of};
+ghost use Rattle.snesl_syntax.specs.expressions.Readers.{step};
+ghost use Rattle.snesl_syntax.specs.expressions.Machine.{expressions};
+ghost use Rattle.snesl_syntax.specs.expressions.Parsing.{state_of};
 ghost use Rattle.snesl_grammar.specs.Limits.{greatest_depth};
 ghost use Rattle.snesl_syntax.specs.declared.programs.Owner.TheVariants as owners;
 ghost use Rattle.snesl_syntax.specs.declared.programs.ProgramPoint.TheVariants as points;
@@ -13,10 +13,10 @@ ghost use Rattle.snesl_syntax.specs.Programs.{body_move, body_end};
 ghost use Rattle.snesl_syntax.specs.TypeMachine.{IsStep};
 ghost use Rattle.snesl_syntax.specs.ProgramMachine.{rests, declarations_in, header_in, state_at, program_state, StepsBy, StepsAt, EndsType, IsThisRest};
 
+use crate::expressions::{Machine, StepError};
 use crate::types::TypeMachine;
-use snesl_expressions::{Machine, StepError};
-use snesl_lexer::{Token, TokenKind};
-use snesl_tree::{Declaration, Expr, Function, Span, Typing, WrittenType};
+use snesl_grammar::lexer::{Token, TokenKind};
+use snesl_grammar::tree::{Declaration, Expr, Function, Span, Typing, WrittenType};
 use std::alloc::{AllocError, Global};
 
 /// What a type is of.

@@ -1,15 +1,15 @@
 // The reader of a type between two tokens, and what a token makes of it.
 
 ghost use Rattle.std.specs.Prelude.{◌≡◌, ◌<◌, ◌↔◌, suc, length, IsTrue, Ok, ◌∷◌};
-ghost use Rattle.snesl_tree.specs.View.{type_tree};
+ghost use Rattle.snesl_grammar.specs.tree.View.{type_tree};
 ghost use Rattle.snesl_grammar.specs.Limits.{greatest_depth};
 ghost use Rattle.snesl_syntax.specs.declared.types.TypeForm.TheVariants.{First, Second, Vector, Sequence};
 ghost use Rattle.snesl_syntax.specs.Types.{types, type_begins, type_ended, open_type};
 ghost use Rattle.snesl_syntax.specs.TypeMachine.{frame_of, frames_of, ended_in, type_state, IsStep, TypeStepsBy, TypeSteps, IsWholeType};
 
-use snesl_expressions::{GREATEST_DEPTH, StepError};
-use snesl_lexer::{Token, TokenKind};
-use snesl_tree::WrittenType;
+use crate::expressions::{GREATEST_DEPTH, StepError};
+use snesl_grammar::lexer::{Token, TokenKind};
+use snesl_grammar::tree::WrittenType;
 use std::alloc::Global;
 
 /// A type that is open, with its whole part.

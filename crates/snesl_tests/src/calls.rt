@@ -1,10 +1,10 @@
 // Each public call once, with ample memory.
 
-use snesl_console::complain;
 use snesl_data::{
     Counted, Datum, Dialect, Elements, FaultKind, Refusal, Ty, copy_datum, is_blank, text_of,
 };
-use snesl_lexer::{Token, TokenKind, tokens_of};
+use snesl_grammar::lexer::{Token, TokenKind, tokens_of};
+use snesl_run::console::complain;
 use snesl_syntax::{Expr, Program, Span, parse};
 use snesl_trials::Expected;
 use snesl_types::check;

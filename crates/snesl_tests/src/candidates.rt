@@ -1,7 +1,7 @@
 // Which names may stand at a place, and which of some names is nearest, by hand.
 
+use snesl_advice::reach::{Candidates, candidates_at};
 use snesl_look::nearest_of;
-use snesl_reach::{Candidates, candidates_at};
 use snesl_syntax::{Program, parse};
 use std::alloc::{AllocError, Global};
 use std::test::Fail;

@@ -1,7 +1,7 @@
 // What command lines say: tables of them, as text.
 
 use flow_drives::{Config, Drive};
-use snesl_settings::settings;
+use snesl_run::command_line::settings;
 use std::alloc::{AllocError, Global};
 use std::process::Abort;
 use std::test::Fail;

@@ -2,12 +2,12 @@
 
 use flow_messages::Kind;
 use flow_networks::Edge;
-use flow_plans::Operation;
+use flow_nodes::plans::Operation;
+use snesl_data::operators::BinaryOperator;
 use snesl_draw::{
     Drawing, DrawnEdge, DrawnForm, DrawnNode, InputStream, drawn_form, kind_colour, kind_word,
     network_dot, network_text, operation_word, quoted,
 };
-use snesl_operators::BinaryOperator;
 use snesl_syntax::{Program, Span, parse};
 use std::test::Fail;
 

@@ -1,7 +1,9 @@
 // What an editor is told of a message, by hand.
 
 use snesl_data::Refusal;
-use snesl_findings::{Finding, finding_of, hint_of, mark_len, object_line, place_of, sentence_of};
+use snesl_look::findings::{
+    Finding, finding_of, hint_of, mark_len, object_line, place_of, sentence_of,
+};
 use std::test::Fail;
 
 // A message with a note and a hint, and one with neither.

@@ -5,20 +5,20 @@ use Rattle.std.proofs.Math.Path.{ap₂}
 use Rattle.snesl_data.specs.declared.dialect.Dialect.{Dialect}
 use Rattle.snesl_data.specs.Types.{Ty, seq}
 use Rattle.snesl_data.specs.Values.{Value}
-use Rattle.snesl_tree.specs.declared.operator.Operator.TheVariants.{Append}
+use Rattle.snesl_grammar.specs.declared.tree.operator.Operator.TheVariants.{Append}
 use Rattle.flow_base.specs.Columns.{Columns}
 use Rattle.flow_base.specs.Flags.{flags, concatenation, lengths}
 use Rattle.flow_segment.specs.Rows.{Sides, lefts, rights, alternated}
 use Rattle.flow_values.specs.Shapes.{elements_of}
-use Rattle.flow_rows.specs.Lists.{append_flags as added}
-use Rattle.flow_rows.specs.Decoded.{a_seq_of}
-use Rattle.flow_rows.specs.Made.{one}
-use Rattle.flow_rows.proofs.Options.{paired_map, lengths_map}
-use Rattle.flow_rows.proofs.Encoded.{append_flags_makes}
-use Rattle.flow_rows.proofs.ValueDecoding.{AllAre, elements_made, groups_made, list_values}
+use Rattle.flow_nodes.specs.functions.Lists.{append_flags as added}
+use Rattle.flow_nodes.specs.functions.Decoded.{a_seq_of}
+use Rattle.flow_nodes.specs.functions.Made.{one}
+use Rattle.flow_nodes.proofs.OfFunctions.Options.{paired_map, lengths_map}
+use Rattle.flow_nodes.proofs.OfFunctions.Encoded.{append_flags_makes}
+use Rattle.flow_nodes.proofs.OfFunctions.ValueDecoding.{AllAre, elements_made, groups_made, list_values}
 use Rattle.snesl_evaluation.specs.Answer.{Answer, gives, go_all}
 use Rattle.snesl_evaluation.specs.Builtins.{sequence, binary_answer}
-use Rattle.flow_plans.specs.Plans.{append_flags, streams_at}
+use Rattle.flow_nodes.specs.plans.Plans.{append_flags, streams_at}
 use Rattle.snesl_translation.specs.Wires.{Wires, segments, stream_of, item_wires}
 use Rattle.snesl_translation.specs.Makings.{done, and_then}
 use Rattle.snesl_translation.specs.Moving.{flags_stepped, mixed}

@@ -5,8 +5,8 @@ use Rattle.snesl_data.specs.Values.{Value}
 use Rattle.snesl_values.specs.Inputs.{Environment}
 use Rattle.snesl_types.specs.Contexts.{Context}
 use Rattle.flow_base.specs.Columns.{Columns}
-use Rattle.flow_rows.specs.Lists.{each}
-use Rattle.flow_plans.specs.Plans.{run}
+use Rattle.flow_nodes.specs.functions.Lists.{each}
+use Rattle.flow_nodes.specs.plans.Plans.{run}
 use Rattle.snesl_translation.specs.Wires.{Wires, Bound}
 use Rattle.snesl_translation.specs.Makings.{Making}
 use Rattle.snesl_translation.specs.FreeNames.{Names}

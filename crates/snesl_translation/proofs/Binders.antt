@@ -5,22 +5,22 @@ use Rattle.std.proofs.Math.Path.{ap₂}
 use Rattle.snesl_data.specs.Types.{Ty, seq}
 use Rattle.snesl_data.specs.Values.{Value}
 use Rattle.snesl_values.specs.Inputs.{InputDeclaration, Environment}
-use Rattle.snesl_operators.specs.Operators.{same_truth}
+use Rattle.snesl_data.specs.operators.Operators.{same_truth}
 use Rattle.snesl_evaluation.specs.Builtins.{items_at}
 use Rattle.snesl_evaluation.specs.Eval.{BoundItems}
 use Rattle.snesl_types.specs.Contexts.{Context}
 use Rattle.flow_messages.specs.Cells.{Cell, flag}
 use Rattle.flow_base.specs.Columns.{Columns}
 use Rattle.flow_base.specs.Flags.{flags, lengths}
-use Rattle.flow_rows.specs.Lists.{bind, only_if, each, same_lists}
-use Rattle.flow_rows.specs.Decoded.{truths, a_seq_of}
-use Rattle.flow_rows.specs.Made.{same_flags_made}
-use Rattle.flow_rows.proofs.Options.{bind_gives, only_if_gives, same_lists_back}
-use Rattle.flow_rows.proofs.Decoding.{truths_back, flags_injective}
-use Rattle.flow_rows.proofs.FlagRows.{same_numbers, same_numbers_back}
-use Rattle.flow_rows.proofs.Encoded.{same_flags_makes}
-use Rattle.flow_rows.proofs.ValueDecoding.{list_values, elements_made}
-use Rattle.flow_plans.specs.Plans.{Step, streams_at, run}
+use Rattle.flow_nodes.specs.functions.Lists.{bind, only_if, each, same_lists}
+use Rattle.flow_nodes.specs.functions.Decoded.{truths, a_seq_of}
+use Rattle.flow_nodes.specs.functions.Made.{same_flags_made}
+use Rattle.flow_nodes.proofs.OfFunctions.Options.{bind_gives, only_if_gives, same_lists_back}
+use Rattle.flow_nodes.proofs.OfFunctions.Decoding.{truths_back, flags_injective}
+use Rattle.flow_nodes.proofs.OfFunctions.FlagRows.{same_numbers, same_numbers_back}
+use Rattle.flow_nodes.proofs.OfFunctions.Encoded.{same_flags_makes}
+use Rattle.flow_nodes.proofs.OfFunctions.ValueDecoding.{list_values, elements_made}
+use Rattle.flow_nodes.specs.plans.Plans.{Step, streams_at, run}
 use Rattle.snesl_translation.specs.Wires.{Wires, stream_of, Bound}
 use Rattle.snesl_translation.specs.Makings.{Making, done, and_then}
 use Rattle.snesl_translation.specs.FreeNames.{Names}

@@ -6,19 +6,19 @@ use Rattle.std.proofs.lemmas.Slice.Eq.{bytes_eq-Decides}
 use Rattle.snesl_data.specs.Types.{Ty, int, bool}
 use Rattle.snesl_data.specs.Values.{Value, an_int, a_bool}
 use Rattle.snesl_values.specs.Inputs.{Environment, value_in}
-use Rattle.snesl_operators.specs.declared.scalar.Scalar.{Scalar}
-use Rattle.snesl_operators.specs.declared.scalar.Scalar.TheVariants.{Int, Bool as Truth}
+use Rattle.snesl_data.specs.declared.operators.scalar.Scalar.{Scalar}
+use Rattle.snesl_data.specs.declared.operators.scalar.Scalar.TheVariants.{Int, Bool as Truth}
 use Rattle.snesl_evaluation.specs.Builtins.{scalar_value}
 use Rattle.snesl_types.specs.Contexts.{open_to, Context, bound as bound_to, found}
 use Rattle.flow_base.specs.Columns.{Columns}
 use Rattle.flow_messages.specs.Cells.{unit}
 use Rattle.flow_folds.specs.Scalars.{cell_of_scalar}
 use Rattle.flow_values.specs.Shapes.{cell_for}
-use Rattle.flow_rows.specs.Lists.{bind, each}
-use Rattle.flow_rows.specs.Made.{columns_of_values}
-use Rattle.flow_rows.proofs.Encoded.{const_makes}
-use Rattle.flow_rows.proofs.ValueDecoding.{AllAre, all_cons}
-use Rattle.flow_plans.specs.Plans.{const}
+use Rattle.flow_nodes.specs.functions.Lists.{bind, each}
+use Rattle.flow_nodes.specs.functions.Made.{columns_of_values}
+use Rattle.flow_nodes.proofs.OfFunctions.Encoded.{const_makes}
+use Rattle.flow_nodes.proofs.OfFunctions.ValueDecoding.{AllAre, all_cons}
+use Rattle.flow_nodes.specs.plans.Plans.{const}
 use Rattle.snesl_translation.specs.Wires.{Wires, IsSingle, Bound}
 use Rattle.snesl_translation.specs.Makings.{Making, done, and_then, stepped}
 use Rattle.snesl_translation.specs.FreeNames.{Names, is_among, without}

@@ -8,10 +8,10 @@ use Rattle.snesl_types.specs.Contexts.{Binding, open_to, shut, Context, found, i
 use Rattle.flow_messages.specs.Cells.{flag}
 use Rattle.flow_base.specs.Columns.{Columns}
 use Rattle.flow_base.specs.Flags.{flags}
-use Rattle.flow_rows.specs.Lists.{each, dist, pack}
-use Rattle.flow_rows.proofs.Options.{map_gives, each_forth, each_back}
-use Rattle.flow_rows.proofs.Mapped.{dist_map, pack_map}
-use Rattle.flow_plans.specs.Plans.{streams_at}
+use Rattle.flow_nodes.specs.functions.Lists.{each, dist, pack}
+use Rattle.flow_nodes.proofs.OfFunctions.Options.{map_gives, each_forth, each_back}
+use Rattle.flow_nodes.proofs.OfFunctions.Mapped.{dist_map, pack_map}
+use Rattle.flow_nodes.specs.plans.Plans.{streams_at}
 use Rattle.snesl_translation.specs.Wires.{Bound}
 use Rattle.snesl_translation.specs.FreeNames.{Names, is_among}
 use Rattle.snesl_translation.specs.Moving.{distributed, kept, all_moved}

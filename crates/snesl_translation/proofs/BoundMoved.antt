@@ -8,8 +8,8 @@ use Rattle.snesl_data.specs.Values.{Value}
 use Rattle.flow_messages.specs.Cells.{flag}
 use Rattle.flow_base.specs.Columns.{Columns}
 use Rattle.flow_base.specs.Flags.{flags}
-use Rattle.flow_rows.specs.Lists.{dist, pack}
-use Rattle.flow_plans.specs.Plans.{streams_at}
+use Rattle.flow_nodes.specs.functions.Lists.{dist, pack}
+use Rattle.flow_nodes.specs.plans.Plans.{streams_at}
 use Rattle.snesl_translation.specs.Wires.{Wires, Bound}
 use Rattle.snesl_translation.specs.Makings.{Making, done, and_then}
 use Rattle.snesl_translation.specs.FreeNames.{Names, is_among, without}

@@ -6,15 +6,15 @@ use Rattle.snesl_data.specs.Types.{Ty, seq, is_same}
 use Rattle.snesl_data.specs.Values.{Value}
 use Rattle.snesl_values.specs.Inputs.{Environment}
 use Rattle.snesl_data.proofs.SameTypes.{same_eq}
-use Rattle.snesl_tree.specs.declared.operator.Builtin.{Builtin}
-use Rattle.snesl_tree.specs.declared.operator.Operator.{Operator}
-use Rattle.snesl_tree.specs.declared.operator.Operator.TheVariants.{Append}
-use Rattle.snesl_tree.specs.declared.operator.Prefix.{Prefix}
-use Rattle.snesl_tree.specs.Tree.{Tree, Trees, binary, prefix, call}
+use Rattle.snesl_grammar.specs.declared.tree.operator.Builtin.{Builtin}
+use Rattle.snesl_grammar.specs.declared.tree.operator.Operator.{Operator}
+use Rattle.snesl_grammar.specs.declared.tree.operator.Operator.TheVariants.{Append}
+use Rattle.snesl_grammar.specs.declared.tree.operator.Prefix.{Prefix}
+use Rattle.snesl_grammar.specs.tree.Tree.{Tree, Trees, binary, prefix, call}
 use Rattle.snesl_types.specs.Forms.{operator_result, prefix_result, result_of}
 use Rattle.snesl_types.specs.Contexts.{Context}
 use Rattle.flow_base.specs.Columns.{Columns}
-use Rattle.flow_rows.specs.Lists.{bind, each}
+use Rattle.flow_nodes.specs.functions.Lists.{bind, each}
 use Rattle.snesl_evaluation.specs.Answer.{Answer, gives, faults, go, go_all}
 use Rattle.snesl_evaluation.specs.Builtins.{prefix_answer, binary_answer, applied}
 use Rattle.snesl_evaluation.specs.Eval.{Calls, eval, eval_all}

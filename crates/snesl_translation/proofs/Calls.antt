@@ -7,9 +7,9 @@ use Rattle.snesl_data.specs.declared.dialect.Dialect.{Dialect}
 use Rattle.snesl_data.specs.Types.{Ty}
 use Rattle.snesl_data.specs.Values.{Value}
 use Rattle.snesl_values.specs.Inputs.{InputDeclaration, Environment}
-use Rattle.snesl_tree.specs.declared.span.Span.{Span}
-use Rattle.snesl_tree.specs.Spelling.{spelling}
-use Rattle.snesl_tree.specs.Tree.{Tree, TypedName, TypeTree, DeclarationTree, declares_input, declares_function}
+use Rattle.snesl_grammar.specs.declared.tree.span.Span.{Span}
+use Rattle.snesl_grammar.specs.tree.Spelling.{spelling}
+use Rattle.snesl_grammar.specs.tree.Tree.{Tree, TypedName, TypeTree, DeclarationTree, declares_input, declares_function}
 use Rattle.snesl_evaluation.specs.Answer.{gives}
 use Rattle.snesl_evaluation.specs.Eval.{Calls, eval, parameters_with, function_answer, with_declaration, calls_after}
 use Rattle.snesl_types.specs.Contexts.{names_context, Signature, Signatures, function_named}
@@ -17,7 +17,7 @@ use Rattle.snesl_types.specs.Typing.{Types}
 use Rattle.snesl_types.specs.Programs.{Declared, with_inputs, with_function, typed_name, signature_of, NamesType, no_names, more_names, FunctionTypes}
 use Rattle.snesl_types.specs.Programs.{function_type, DeclarationsType, no_declarations, input_declared, function_declared}
 use Rattle.flow_base.specs.Columns.{Columns}
-use Rattle.flow_rows.specs.Lists.{bind, each}
+use Rattle.flow_nodes.specs.functions.Lists.{bind, each}
 use Rattle.snesl_translation.specs.Wires.{Wires}
 use Rattle.snesl_translation.specs.FreeNames.{Names, without, free}
 use Rattle.snesl_translation.specs.Translation.{Bodies, tr}

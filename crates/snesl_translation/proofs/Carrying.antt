@@ -11,11 +11,11 @@ use Rattle.flow_base.specs.Columns.{Columns}
 use Rattle.flow_base.specs.Flags.{flags, concatenation, lengths}
 use Rattle.flow_values.specs.Shapes.{is_a, kinds_of, cell_for, first_of, second_of, elements_of, all_are}
 use Rattle.flow_values.specs.Flats.{width}
-use Rattle.flow_rows.specs.Lists.{bind}
-use Rattle.flow_rows.specs.Made.{columns_of_values}
-use Rattle.flow_rows.proofs.Edges.{laid_pair, laid_seq, laid_length}
-use Rattle.flow_rows.proofs.ValueDecoding.{AllAre, all_split, all_cons, all_joined, values_list}
-use Rattle.flow_plans.specs.Plans.{Operation, made_by, streams_at, run}
+use Rattle.flow_nodes.specs.functions.Lists.{bind}
+use Rattle.flow_nodes.specs.functions.Made.{columns_of_values}
+use Rattle.flow_nodes.proofs.OfFunctions.Edges.{laid_pair, laid_seq, laid_length}
+use Rattle.flow_nodes.proofs.OfFunctions.ValueDecoding.{AllAre, all_split, all_cons, all_joined, values_list}
+use Rattle.flow_nodes.specs.plans.Plans.{Operation, made_by, streams_at, run}
 use Rattle.snesl_translation.specs.Wires.{Wires, wire, two, segments, type_of_wires, AreWhole, IsSingle, numbers_of, wires_from, stream_of, first_wires, second_wires, item_wires}
 use Rattle.snesl_translation.specs.Makings.{Making, and_then, stepped, tested}
 use Rattle.snesl_translation.specs.Carrying.{Carries, Makes}

@@ -7,26 +7,26 @@ use Rattle.snesl_data.specs.declared.dialect.Dialect.{Dialect}
 use Rattle.snesl_data.specs.Types.{Ty, bool, seq}
 use Rattle.snesl_data.specs.Values.{Value, an_int, a_bool, a_pair, a_vec, a_seq}
 use Rattle.snesl_values.specs.Inputs.{Environment}
-use Rattle.snesl_operators.specs.Operators.{unary_value}
-use Rattle.snesl_operators.specs.declared.scalar.Scalar.TheVariants.{Bool as Truth}
-use Rattle.snesl_operators.specs.declared.operator.UnaryOperator.TheVariants as unaries
-use Rattle.snesl_tree.specs.declared.operator.Prefix.TheVariants.{Not}
-use Rattle.snesl_tree.specs.Tree.{Tree, choice}
+use Rattle.snesl_data.specs.operators.Operators.{unary_value}
+use Rattle.snesl_data.specs.declared.operators.scalar.Scalar.TheVariants.{Bool as Truth}
+use Rattle.snesl_data.specs.declared.operators.operator.UnaryOperator.TheVariants as unaries
+use Rattle.snesl_grammar.specs.declared.tree.operator.Prefix.TheVariants.{Not}
+use Rattle.snesl_grammar.specs.tree.Tree.{Tree, choice}
 use Rattle.snesl_types.specs.Contexts.{Context}
 use Rattle.flow_messages.specs.Cells.{flag}
 use Rattle.flow_base.specs.Columns.{Columns}
 use Rattle.flow_base.specs.Flags.{flags, concatenation, lengths}
 use Rattle.flow_values.specs.Shapes.{elements_of}
-use Rattle.flow_rows.specs.Lists.{bind, each}
-use Rattle.flow_rows.specs.Decoded.{a_seq_of}
-use Rattle.flow_rows.specs.Made.{one, scalar_cells, unary_made}
-use Rattle.flow_rows.proofs.Options.{bind_gives, map_gives, some_same}
-use Rattle.flow_rows.proofs.Encoded.{unary_makes, the_check_makes}
-use Rattle.flow_rows.proofs.ValueDecoding.{elements_made}
+use Rattle.flow_nodes.specs.functions.Lists.{bind, each}
+use Rattle.flow_nodes.specs.functions.Decoded.{a_seq_of}
+use Rattle.flow_nodes.specs.functions.Made.{one, scalar_cells, unary_made}
+use Rattle.flow_nodes.proofs.OfFunctions.Options.{bind_gives, map_gives, some_same}
+use Rattle.flow_nodes.proofs.OfFunctions.Encoded.{unary_makes, the_check_makes}
+use Rattle.flow_nodes.proofs.OfFunctions.ValueDecoding.{elements_made}
 use Rattle.snesl_evaluation.specs.Answer.{Answer, gives, faults, go}
 use Rattle.snesl_evaluation.specs.Builtins.{truth_at}
 use Rattle.snesl_evaluation.specs.Eval.{Calls, eval}
-use Rattle.flow_plans.specs.Plans.{unary, the_check, streams_at, run}
+use Rattle.flow_nodes.specs.plans.Plans.{unary, the_check, streams_at, run}
 use Rattle.snesl_translation.specs.Wires.{Wires, stream_of, item_wires, Bound}
 use Rattle.snesl_translation.specs.Makings.{Making, and_then, tested}
 use Rattle.snesl_translation.specs.FreeNames.{Names, free}

@@ -7,7 +7,7 @@ use Rattle.snesl_data.specs.declared.dialect.Dialect.{Dialect}
 use Rattle.snesl_data.specs.Types.{Ty, seq}
 use Rattle.snesl_data.specs.Values.{Value}
 use Rattle.snesl_values.specs.Inputs.{InputDeclaration, Environment}
-use Rattle.snesl_tree.specs.declared.operator.Builtin.TheVariants.{Concat}
+use Rattle.snesl_grammar.specs.declared.tree.operator.Builtin.TheVariants.{Concat}
 use Rattle.snesl_evaluation.specs.Answer.{gives, go_all}
 use Rattle.snesl_evaluation.specs.Builtins.{applied}
 use Rattle.snesl_evaluation.specs.Eval.{BoundItems, height, in_step as rows_in_step}
@@ -16,13 +16,13 @@ use Rattle.flow_messages.specs.Cells.{unit}
 use Rattle.flow_base.specs.Columns.{Columns}
 use Rattle.flow_base.specs.Flags.{flags, concatenation, lengths}
 use Rattle.flow_values.specs.Shapes.{elements_of}
-use Rattle.flow_rows.specs.Lists.{bind, only_if, each, same_lists, copied}
-use Rattle.flow_rows.specs.Decoded.{a_seq_of}
-use Rattle.flow_rows.proofs.Options.{map_map, map_joined}
-use Rattle.flow_rows.proofs.FlagRows.{same_numbers, same_numbers_back}
-use Rattle.flow_rows.proofs.Encoded.{units_of_makes}
-use Rattle.flow_rows.proofs.ValueDecoding.{elements_made, groups_made}
-use Rattle.flow_plans.specs.Plans.{units_of, streams_at, run}
+use Rattle.flow_nodes.specs.functions.Lists.{bind, only_if, each, same_lists, copied}
+use Rattle.flow_nodes.specs.functions.Decoded.{a_seq_of}
+use Rattle.flow_nodes.proofs.OfFunctions.Options.{map_map, map_joined}
+use Rattle.flow_nodes.proofs.OfFunctions.FlagRows.{same_numbers, same_numbers_back}
+use Rattle.flow_nodes.proofs.OfFunctions.Encoded.{units_of_makes}
+use Rattle.flow_nodes.proofs.OfFunctions.ValueDecoding.{elements_made, groups_made}
+use Rattle.flow_nodes.specs.plans.Plans.{units_of, streams_at, run}
 use Rattle.snesl_translation.specs.Wires.{Wires, segments, stream_of, item_wires, Bound}
 use Rattle.snesl_translation.specs.Makings.{Making, done, and_then}
 use Rattle.snesl_translation.specs.FreeNames.{Names, is_among, without}

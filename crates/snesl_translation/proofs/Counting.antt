@@ -9,25 +9,25 @@ use Rattle.std.proofs.lemmas.List.FromFn.{length-map-range_with_len}
 use Rattle.snesl_data.specs.declared.dialect.Dialect.{Dialect}
 use Rattle.snesl_data.specs.Types.{Ty, int, pair, vec, seq, is_concrete}
 use Rattle.snesl_data.specs.Values.{Value, an_int, a_vec, values_of}
-use Rattle.snesl_operators.specs.Operators.{ranged}
-use Rattle.snesl_tree.specs.declared.operator.Builtin.TheVariants.{Iota, Length, The, Tab, Seq, Fst, Snd}
+use Rattle.snesl_data.specs.operators.Operators.{ranged}
+use Rattle.snesl_grammar.specs.declared.tree.operator.Builtin.TheVariants.{Iota, Length, The, Tab, Seq, Fst, Snd}
 use Rattle.flow_messages.specs.Cells.{int as int_cell, datum}
 use Rattle.flow_base.specs.Columns.{Columns}
 use Rattle.flow_base.specs.Flags.{flags, concatenation, lengths}
 use Rattle.flow_scalar.specs.Rows.{numbers_from, numbers_below as cells_below}
 use Rattle.flow_values.specs.Shapes.{cell_for, first_of, second_of, elements_of}
-use Rattle.flow_rows.specs.Lists.{bind, each, only_if, same_lists}
-use Rattle.flow_rows.specs.Decoded.{a_pair_of, a_seq_of}
-use Rattle.flow_rows.specs.Made.{one, integer_cells, columns_of_values, natural, the_check_made, tab_of, tab_made, seq_made}
-use Rattle.flow_rows.proofs.Options.{map_gives, some_same, only_if_true, map_map, map_append}
-use Rattle.flow_rows.proofs.Mapped.{map_some_map, map_some_same}
-use Rattle.flow_rows.proofs.Decoding.{numbers_forth, integers_forth}
-use Rattle.flow_rows.proofs.Edges.{laid_seq}
-use Rattle.flow_rows.proofs.Encoded.{length_makes, tab_makes, seq_makes}
-use Rattle.flow_rows.proofs.ValueDecoding.{AllAre, list_values}
+use Rattle.flow_nodes.specs.functions.Lists.{bind, each, only_if, same_lists}
+use Rattle.flow_nodes.specs.functions.Decoded.{a_pair_of, a_seq_of}
+use Rattle.flow_nodes.specs.functions.Made.{one, integer_cells, columns_of_values, natural, the_check_made, tab_of, tab_made, seq_made}
+use Rattle.flow_nodes.proofs.OfFunctions.Options.{map_gives, some_same, only_if_true, map_map, map_append}
+use Rattle.flow_nodes.proofs.OfFunctions.Mapped.{map_some_map, map_some_same}
+use Rattle.flow_nodes.proofs.OfFunctions.Decoding.{numbers_forth, integers_forth}
+use Rattle.flow_nodes.proofs.OfFunctions.Edges.{laid_seq}
+use Rattle.flow_nodes.proofs.OfFunctions.Encoded.{length_makes, tab_makes, seq_makes}
+use Rattle.flow_nodes.proofs.OfFunctions.ValueDecoding.{AllAre, list_values}
 use Rattle.snesl_evaluation.specs.Answer.{Answer, gives, faults, go, go_all, answer_at}
 use Rattle.snesl_evaluation.specs.Builtins.{numbers_below, the_answer, applied}
-use Rattle.flow_plans.specs.Plans.{iota, length_of, the_check, tab, seq_of, streams_at}
+use Rattle.flow_nodes.specs.plans.Plans.{iota, length_of, the_check, tab, seq_of, streams_at}
 use Rattle.snesl_translation.specs.Wires.{Wires, numbers_of, stream_of, first_wires, second_wires, item_wires, item_type}
 use Rattle.snesl_translation.specs.Makings.{done, stepped, tested}
 use Rattle.snesl_translation.specs.Translation.{call_streams}

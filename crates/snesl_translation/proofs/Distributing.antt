@@ -8,13 +8,13 @@ use Rattle.flow_base.specs.Columns.{Columns}
 use Rattle.flow_base.specs.Flags.{flags}
 use Rattle.flow_values.specs.Shapes.{is_a, cell_for, first_of, second_of}
 use Rattle.flow_values.specs.laws.Kinds.{both_true}
-use Rattle.flow_rows.specs.Lists.{paired, copied, dist}
-use Rattle.flow_rows.specs.Made.{one}
-use Rattle.flow_rows.proofs.Options.{map_gives, paired_back}
-use Rattle.flow_rows.proofs.Mapped.{dist_map}
-use Rattle.flow_rows.proofs.Encoded.{dist_makes}
-use Rattle.flow_rows.proofs.ValueDecoding.{AllAre, all_split, all_cons, all_joined}
-use Rattle.flow_plans.specs.Plans.{dist as dist_step, streams_at}
+use Rattle.flow_nodes.specs.functions.Lists.{paired, copied, dist}
+use Rattle.flow_nodes.specs.functions.Made.{one}
+use Rattle.flow_nodes.proofs.OfFunctions.Options.{map_gives, paired_back}
+use Rattle.flow_nodes.proofs.OfFunctions.Mapped.{dist_map}
+use Rattle.flow_nodes.proofs.OfFunctions.Encoded.{dist_makes}
+use Rattle.flow_nodes.proofs.OfFunctions.ValueDecoding.{AllAre, all_split, all_cons, all_joined}
+use Rattle.flow_nodes.specs.plans.Plans.{dist as dist_step, streams_at}
 use Rattle.snesl_translation.specs.Wires.{Wires, wire, two, segments, type_of_wires, kind_of_type, IsSingle}
 use Rattle.snesl_translation.specs.Makings.{stepped}
 use Rattle.snesl_translation.specs.Moving.{distributed}

@@ -8,9 +8,9 @@ use Rattle.flow_base.specs.Columns.{Columns}
 use Rattle.flow_base.specs.Flags.{flags, concatenation, lengths}
 use Rattle.flow_base.specs.Ranges.{AllOf}
 use Rattle.flow_values.specs.Shapes.{is_a, cell_for, first_of, second_of, elements_of}
-use Rattle.flow_rows.specs.Lists.{bind}
-use Rattle.flow_rows.proofs.ValueDecoding.{AllAre, all_split}
-use Rattle.flow_plans.specs.Plans.{Operation, made_by, streams_at, run}
+use Rattle.flow_nodes.specs.functions.Lists.{bind}
+use Rattle.flow_nodes.proofs.OfFunctions.ValueDecoding.{AllAre, all_split}
+use Rattle.flow_nodes.specs.plans.Plans.{Operation, made_by, streams_at, run}
 use Rattle.snesl_translation.specs.Wires.{Wires, two, segments, kind_of_type, IsSingle, stream_of}
 use Rattle.snesl_translation.specs.Makings.{Making, done, and_then}
 use Rattle.snesl_translation.specs.Moving.{flags_stepped}

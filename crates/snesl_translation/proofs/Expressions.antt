@@ -5,9 +5,9 @@ use Rattle.snesl_data.specs.declared.dialect.Dialect.{Dialect}
 use Rattle.snesl_data.specs.Types.{Ty, bool}
 use Rattle.snesl_data.specs.Values.{Value}
 use Rattle.snesl_values.specs.Inputs.{InputDeclaration, Environment}
-use Rattle.snesl_tree.specs.declared.span.Span.{Span}
-use Rattle.snesl_tree.specs.Spelling.{spelling}
-use Rattle.snesl_tree.specs.Tree.{Tree, Trees, both, Binders, binder}
+use Rattle.snesl_grammar.specs.declared.tree.span.Span.{Span}
+use Rattle.snesl_grammar.specs.tree.Spelling.{spelling}
+use Rattle.snesl_grammar.specs.tree.Tree.{Tree, Trees, both, Binders, binder}
 use Rattle.snesl_evaluation.specs.Answer.{Answer, gives, go}
 use Rattle.snesl_evaluation.specs.Eval.{Calls, eval}
 use Rattle.snesl_types.specs.Contexts.{Context, names_context, inside, Signatures}

@@ -5,22 +5,22 @@ use Rattle.snesl_data.specs.declared.dialect.Dialect.TheVariants.{One}
 use Rattle.snesl_data.specs.Types.{Ty, bool, seq}
 use Rattle.snesl_data.specs.Values.{Value, an_int, a_bool, a_pair, a_vec, a_seq}
 use Rattle.snesl_values.specs.Inputs.{Environment}
-use Rattle.snesl_operators.specs.declared.scalar.Scalar.TheVariants.{Bool as Truth}
+use Rattle.snesl_data.specs.declared.operators.scalar.Scalar.TheVariants.{Bool as Truth}
 use Rattle.snesl_types.specs.Contexts.{Context}
 use Rattle.flow_messages.specs.Cells.{flag, unit}
 use Rattle.flow_base.specs.Columns.{Columns}
 use Rattle.flow_base.specs.Flags.{flags, concatenation, lengths}
 use Rattle.flow_segment.specs.Rows.{one_if}
 use Rattle.flow_values.specs.Shapes.{cell_for, elements_of}
-use Rattle.flow_rows.specs.Lists.{bind, each, pack, kept as kept_items}
-use Rattle.flow_rows.specs.Decoded.{a_seq_of}
-use Rattle.flow_rows.proofs.Options.{paired_map}
-use Rattle.flow_rows.proofs.Encoded.{flag_of_bool_makes, units_of_makes}
-use Rattle.flow_rows.proofs.ValueDecoding.{elements_made, groups_made, list_values}
+use Rattle.flow_nodes.specs.functions.Lists.{bind, each, pack, kept as kept_items}
+use Rattle.flow_nodes.specs.functions.Decoded.{a_seq_of}
+use Rattle.flow_nodes.proofs.OfFunctions.Options.{paired_map}
+use Rattle.flow_nodes.proofs.OfFunctions.Encoded.{flag_of_bool_makes, units_of_makes}
+use Rattle.flow_nodes.proofs.OfFunctions.ValueDecoding.{elements_made, groups_made, list_values}
 use Rattle.snesl_evaluation.specs.Answer.{Answer, gives, faults, go}
 use Rattle.snesl_evaluation.specs.Builtins.{truth_at, sequence, seq_answer, append_answer}
 use Rattle.snesl_evaluation.specs.Eval.{kept as kept_answer}
-use Rattle.flow_plans.specs.Plans.{const, units_of, flag_of_bool, streams_at}
+use Rattle.flow_nodes.specs.plans.Plans.{const, units_of, flag_of_bool, streams_at}
 use Rattle.snesl_translation.specs.Wires.{Wires, segments, stream_of, Bound}
 use Rattle.snesl_translation.specs.Makings.{Making, done, and_then, stepped}
 use Rattle.snesl_translation.specs.FreeNames.{Names}

@@ -5,16 +5,16 @@ use Rattle.snesl_data.specs.declared.dialect.Dialect.{Dialect}
 use Rattle.snesl_data.specs.Types.{Ty, bool, seq}
 use Rattle.snesl_data.specs.Values.{Value}
 use Rattle.snesl_values.specs.Inputs.{InputDeclaration, Environment}
-use Rattle.snesl_tree.specs.declared.span.Span.{Span}
-use Rattle.snesl_tree.specs.Spelling.{spelling}
-use Rattle.snesl_tree.specs.Tree.{Tree, Trees, Binders, filter, each as each_tree, none, both, none_bound, binder, always, only_where}
+use Rattle.snesl_grammar.specs.declared.tree.span.Span.{Span}
+use Rattle.snesl_grammar.specs.tree.Spelling.{spelling}
+use Rattle.snesl_grammar.specs.tree.Tree.{Tree, Trees, Binders, filter, each as each_tree, none, both, none_bound, binder, always, only_where}
 use Rattle.snesl_evaluation.specs.Answer.{Answer, gives, faults, go, go_all, go_join}
 use Rattle.snesl_evaluation.specs.Builtins.{truth_at, items_at, seq_answer}
 use Rattle.snesl_evaluation.specs.Eval.{Calls, eval, eval_all, eval_binders, kept as kept_answer, BoundItems, in_step as rows_in_step}
 use Rattle.snesl_types.specs.Contexts.{Context, names_context, inside}
 use Rattle.flow_base.specs.Flags.{concatenation}
-use Rattle.flow_rows.specs.Lists.{bind, each}
-use Rattle.flow_rows.specs.Decoded.{a_seq_of}
+use Rattle.flow_nodes.specs.functions.Lists.{bind, each}
+use Rattle.flow_nodes.specs.functions.Decoded.{a_seq_of}
 use Rattle.snesl_translation.specs.Wires.{Wires, segments, stream_of, Bound}
 use Rattle.snesl_translation.specs.Makings.{Making, done, and_then}
 use Rattle.snesl_translation.specs.FreeNames.{Names, free, free_of_all, free_of_sources, without_binders}

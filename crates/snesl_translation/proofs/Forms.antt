@@ -9,8 +9,8 @@ use Rattle.snesl_types.specs.Contexts.{Context}
 use Rattle.flow_messages.specs.Cells.{unit}
 use Rattle.flow_base.specs.Columns.{Columns}
 use Rattle.flow_values.specs.Shapes.{is_a, first_of, second_of}
-use Rattle.flow_rows.specs.Lists.{bind, each}
-use Rattle.flow_rows.proofs.ValueDecoding.{AllAre, all_split, all_cons}
+use Rattle.flow_nodes.specs.functions.Lists.{bind, each}
+use Rattle.flow_nodes.proofs.OfFunctions.ValueDecoding.{AllAre, all_split, all_cons}
 use Rattle.snesl_translation.specs.Wires.{Wires, two, Bound}
 use Rattle.snesl_translation.specs.Makings.{Making, done, and_then}
 use Rattle.snesl_translation.specs.FreeNames.{Names, is_among}

@@ -6,10 +6,10 @@ use Rattle.snesl_data.specs.Values.{Value}
 use Rattle.flow_base.specs.Columns.{Columns}
 use Rattle.flow_base.specs.Flags.{flags, concatenation, lengths}
 use Rattle.flow_values.specs.Shapes.{elements_of}
-use Rattle.flow_rows.specs.Lists.{bind, each}
-use Rattle.flow_rows.specs.Decoded.{a_seq_of}
-use Rattle.flow_rows.proofs.ValueDecoding.{AllAre, all_cons, all_apart, all_split, elements_made, groups_made}
-use Rattle.flow_plans.specs.Plans.{streams_at}
+use Rattle.flow_nodes.specs.functions.Lists.{bind, each}
+use Rattle.flow_nodes.specs.functions.Decoded.{a_seq_of}
+use Rattle.flow_nodes.proofs.OfFunctions.ValueDecoding.{AllAre, all_cons, all_apart, all_split, elements_made, groups_made}
+use Rattle.flow_nodes.specs.plans.Plans.{streams_at}
 use Rattle.snesl_translation.specs.Wires.{Wires, segments, stream_of, item_wires}
 use Rattle.snesl_translation.specs.Carrying.{Carries}
 use Rattle.snesl_translation.proofs.Carrying.{flags_carry, items_carry, segments_carry}

@@ -8,26 +8,26 @@ use Rattle.snesl_data.specs.declared.dialect.Dialect.{Dialect}
 use Rattle.snesl_data.specs.declared.fault.FaultKind.{FaultKind}
 use Rattle.snesl_data.specs.Types.{Ty, int, seq}
 use Rattle.snesl_data.specs.Values.{Value, an_int, list_of, values_of}
-use Rattle.snesl_operators.specs.Operators.{type_of, ranged}
-use Rattle.snesl_operators.specs.Reductions.{and_then as result_then, reduction_type, reduction_of, scan_from, scan_of}
-use Rattle.snesl_operators.specs.declared.scalar.Scalar.{Scalar}
-use Rattle.snesl_operators.specs.declared.scalar.Scalar.TheVariants.{Int, Bool as Truth}
-use Rattle.snesl_operators.specs.declared.operator.Reduction.{Reduction}
-use Rattle.snesl_operators.proofs.ReductionLaws.{reduced_type}
-use Rattle.snesl_tree.specs.declared.operator.Builtin.TheVariants.{ScanAdd, Concat}
+use Rattle.snesl_data.specs.operators.Operators.{type_of, ranged}
+use Rattle.snesl_data.specs.operators.Reductions.{and_then as result_then, reduction_type, reduction_of, scan_from, scan_of}
+use Rattle.snesl_data.specs.declared.operators.scalar.Scalar.{Scalar}
+use Rattle.snesl_data.specs.declared.operators.scalar.Scalar.TheVariants.{Int, Bool as Truth}
+use Rattle.snesl_data.specs.declared.operators.operator.Reduction.{Reduction}
+use Rattle.snesl_data.proofs.OfOperators.ReductionLaws.{reduced_type}
+use Rattle.snesl_grammar.specs.declared.tree.operator.Builtin.TheVariants.{ScanAdd, Concat}
 use Rattle.flow_messages.specs.Cells.{int as int_cell}
 use Rattle.flow_base.specs.Columns.{Columns}
 use Rattle.flow_base.specs.Flags.{flags, concatenation, lengths}
 use Rattle.flow_values.specs.Shapes.{cell_for, elements_of}
-use Rattle.flow_rows.specs.Lists.{bind, each, cut, concat_flags as summed_groups}
-use Rattle.flow_rows.specs.Decoded.{a_seq_of}
-use Rattle.flow_rows.specs.Made.{one, scalar_cells, integer_cells, columns_of_values, scan_add_made, reduce_made, concat_flags_made}
-use Rattle.flow_rows.proofs.Options.{bind_gives, map_gives, some_same, cut_forth, map_map, map_joined}
-use Rattle.flow_rows.proofs.Encoded.{scan_add_makes, reduce_makes, concat_flags_makes}
-use Rattle.flow_rows.proofs.ValueDecoding.{AllAre, list_values, elements_made, groups_made}
+use Rattle.flow_nodes.specs.functions.Lists.{bind, each, cut, concat_flags as summed_groups}
+use Rattle.flow_nodes.specs.functions.Decoded.{a_seq_of}
+use Rattle.flow_nodes.specs.functions.Made.{one, scalar_cells, integer_cells, columns_of_values, scan_add_made, reduce_made, concat_flags_made}
+use Rattle.flow_nodes.proofs.OfFunctions.Options.{bind_gives, map_gives, some_same, cut_forth, map_map, map_joined}
+use Rattle.flow_nodes.proofs.OfFunctions.Encoded.{scan_add_makes, reduce_makes, concat_flags_makes}
+use Rattle.flow_nodes.proofs.OfFunctions.ValueDecoding.{AllAre, list_values, elements_made, groups_made}
 use Rattle.snesl_evaluation.specs.Answer.{Answer, gives, faults, go, go_all, go_join, answer_at}
 use Rattle.snesl_evaluation.specs.Builtins.{int_at, scalar_at, items_at, seq_answer, scalar_value, scalar_answer, reduce_answer, applied}
-use Rattle.flow_plans.specs.Plans.{scan_add, reduce, concat_flags, streams_at}
+use Rattle.flow_nodes.specs.plans.Plans.{scan_add, reduce, concat_flags, streams_at}
 use Rattle.snesl_translation.specs.Wires.{Wires, segments, stream_of, item_wires}
 use Rattle.snesl_translation.specs.Makings.{done, stepped}
 use Rattle.snesl_translation.specs.Moving.{flags_stepped}

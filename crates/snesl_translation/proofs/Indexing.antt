@@ -5,21 +5,21 @@ use Rattle.snesl_data.specs.declared.dialect.Dialect.{Dialect}
 use Rattle.snesl_data.specs.declared.fault.FaultKind.{FaultKind}
 use Rattle.snesl_data.specs.Types.{Ty, int, vec}
 use Rattle.snesl_data.specs.Values.{Value, an_int, values_of}
-use Rattle.snesl_tree.specs.declared.operator.Operator.TheVariants.{Index}
+use Rattle.snesl_grammar.specs.declared.tree.operator.Operator.TheVariants.{Index}
 use Rattle.flow_messages.specs.Cells.{datum}
 use Rattle.flow_base.specs.Columns.{Columns}
 use Rattle.flow_values.specs.Shapes.{cell_for}
 use Rattle.flow_values.specs.Rows.{element_at}
 use Rattle.flow_values.specs.laws.Index.{element_is}
-use Rattle.flow_rows.specs.Lists.{bind, each, paired}
-use Rattle.flow_rows.specs.Made.{integer_cells, columns_of_values, picked, index_made}
-use Rattle.flow_rows.proofs.Options.{bind_gives, map_gives, some_same, map_map, paired_map}
-use Rattle.flow_rows.proofs.Mapped.{map_some_same}
-use Rattle.flow_rows.proofs.Encoded.{index_makes}
-use Rattle.flow_rows.proofs.ValueDecoding.{AllAre, all_split, all_cons}
+use Rattle.flow_nodes.specs.functions.Lists.{bind, each, paired}
+use Rattle.flow_nodes.specs.functions.Made.{integer_cells, columns_of_values, picked, index_made}
+use Rattle.flow_nodes.proofs.OfFunctions.Options.{bind_gives, map_gives, some_same, map_map, paired_map}
+use Rattle.flow_nodes.proofs.OfFunctions.Mapped.{map_some_same}
+use Rattle.flow_nodes.proofs.OfFunctions.Encoded.{index_makes}
+use Rattle.flow_nodes.proofs.OfFunctions.ValueDecoding.{AllAre, all_split, all_cons}
 use Rattle.snesl_evaluation.specs.Answer.{go_all, or_fault}
 use Rattle.snesl_evaluation.specs.Builtins.{binary_answer}
-use Rattle.flow_plans.specs.Plans.{index, streams_at}
+use Rattle.flow_nodes.specs.plans.Plans.{index, streams_at}
 use Rattle.snesl_translation.specs.Wires.{Wires, stream_of, item_type}
 use Rattle.snesl_translation.specs.Makings.{stepped}
 use Rattle.snesl_translation.specs.Translation.{binary_streams}

@@ -2,7 +2,7 @@
 use Rattle.std.specs.Prelude.{◌≡◌, suc, List, [], ◌∷◌, ◌++◌, map, length, zip, Option, Some, None, option_map, refl}
 use Rattle.std.proofs.Common.{sym, ap, ◌∙◌}
 use Rattle.flow_base.specs.Flags.{concatenation, lengths}
-use Rattle.flow_rows.specs.Lists.{bind, each}
+use Rattle.flow_nodes.specs.functions.Lists.{bind, each}
 use Rattle.snesl_evaluation.specs.Answer.{Answer, gives, faults, go, go_all}
 use Rattle.snesl_translation.specs.Carrying.{given_by}
 

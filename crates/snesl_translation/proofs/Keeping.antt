@@ -10,13 +10,13 @@ use Rattle.flow_base.specs.Columns.{Columns}
 use Rattle.flow_base.specs.Flags.{flags, concatenation, lengths}
 use Rattle.flow_base.specs.Ranges.{AllOf}
 use Rattle.flow_values.specs.Shapes.{cell_for, first_of, second_of, elements_of}
-use Rattle.flow_rows.specs.Lists.{paired, copied, dist, pack, kept as kept_items}
-use Rattle.flow_rows.specs.Made.{one}
-use Rattle.flow_rows.proofs.Options.{map_gives, paired_back, paired_map, lengths_map}
-use Rattle.flow_rows.proofs.Mapped.{map_some_map, dist_map, pack_map}
-use Rattle.flow_rows.proofs.Encoded.{dist_makes, pack_makes, pack_groups_makes}
-use Rattle.flow_rows.proofs.ValueDecoding.{AllAre, all_split, all_cons}
-use Rattle.flow_plans.specs.Plans.{dist as dist_step, pack as pack_step, pack_groups, streams_at}
+use Rattle.flow_nodes.specs.functions.Lists.{paired, copied, dist, pack, kept as kept_items}
+use Rattle.flow_nodes.specs.functions.Made.{one}
+use Rattle.flow_nodes.proofs.OfFunctions.Options.{map_gives, paired_back, paired_map, lengths_map}
+use Rattle.flow_nodes.proofs.OfFunctions.Mapped.{map_some_map, dist_map, pack_map}
+use Rattle.flow_nodes.proofs.OfFunctions.Encoded.{dist_makes, pack_makes, pack_groups_makes}
+use Rattle.flow_nodes.proofs.OfFunctions.ValueDecoding.{AllAre, all_split, all_cons}
+use Rattle.flow_nodes.specs.plans.Plans.{dist as dist_step, pack as pack_step, pack_groups, streams_at}
 use Rattle.snesl_translation.specs.Wires.{Wires, wire, two, segments, type_of_wires, kind_of_type, IsSingle, stream_of}
 use Rattle.snesl_translation.specs.Makings.{done, and_then, stepped}
 use Rattle.snesl_translation.specs.Moving.{flags_stepped, kept}

@@ -1,3 +1,4 @@
+pub mod OfWiring
 pub mod Running
 pub mod Carrying
 pub mod Instances

@@ -10,13 +10,13 @@ use Rattle.flow_base.specs.Columns.{Columns}
 use Rattle.flow_base.specs.Flags.{flags, concatenation, lengths}
 use Rattle.flow_segment.specs.Rows.{Sides, lefts, rights, alternated}
 use Rattle.flow_values.specs.Shapes.{cell_for, first_of, second_of, elements_of}
-use Rattle.flow_rows.specs.Lists.{interleave, concat_flags}
-use Rattle.flow_rows.specs.Made.{one}
-use Rattle.flow_rows.proofs.Options.{cut_forth, lengths_map, interleave_forth, interleave_back}
-use Rattle.flow_rows.proofs.Mapped.{cut_map, interleave_map}
-use Rattle.flow_rows.proofs.Encoded.{interleave_makes, interleave_groups_makes, concat_flags_makes}
-use Rattle.flow_rows.proofs.ValueDecoding.{AllAre, all_joined, all_apart}
-use Rattle.flow_plans.specs.Plans.{interleave as interleave_step, interleave_groups, concat_flags as concat_step, streams_at}
+use Rattle.flow_nodes.specs.functions.Lists.{interleave, concat_flags}
+use Rattle.flow_nodes.specs.functions.Made.{one}
+use Rattle.flow_nodes.proofs.OfFunctions.Options.{cut_forth, lengths_map, interleave_forth, interleave_back}
+use Rattle.flow_nodes.proofs.OfFunctions.Mapped.{cut_map, interleave_map}
+use Rattle.flow_nodes.proofs.OfFunctions.Encoded.{interleave_makes, interleave_groups_makes, concat_flags_makes}
+use Rattle.flow_nodes.proofs.OfFunctions.ValueDecoding.{AllAre, all_joined, all_apart}
+use Rattle.flow_nodes.specs.plans.Plans.{interleave as interleave_step, interleave_groups, concat_flags as concat_step, streams_at}
 use Rattle.snesl_translation.specs.Wires.{Wires, wire, two, segments, type_of_wires, kind_of_type, IsSingle, stream_of, first_wires, second_wires, item_wires}
 use Rattle.snesl_translation.specs.Makings.{done, and_then, stepped}
 use Rattle.snesl_translation.specs.Moving.{flags_stepped, mixed}

@@ -6,7 +6,7 @@ use Rattle.snesl_data.specs.Values.{Value}
 use Rattle.snesl_values.specs.Inputs.{Environment}
 use Rattle.snesl_types.specs.Contexts.{Context}
 use Rattle.flow_base.specs.Columns.{Columns}
-use Rattle.flow_rows.specs.Lists.{bind, each}
+use Rattle.flow_nodes.specs.functions.Lists.{bind, each}
 use Rattle.snesl_translation.specs.Wires.{Wires, Bound}
 use Rattle.snesl_translation.specs.Makings.{Making, done, and_then}
 use Rattle.snesl_translation.specs.FreeNames.{Names}

@@ -8,21 +8,21 @@ use Rattle.std.proofs.lemmas.List.Sums.{sum_by-cons}
 use Rattle.snesl_data.specs.declared.dialect.Dialect.{Dialect}
 use Rattle.snesl_data.specs.Types.{Ty, bool, pair, seq}
 use Rattle.snesl_data.specs.Values.{Value, a_bool, list_of, values_of}
-use Rattle.snesl_tree.specs.declared.operator.Builtin.TheVariants.{Part}
+use Rattle.snesl_grammar.specs.declared.tree.operator.Builtin.TheVariants.{Part}
 use Rattle.flow_messages.specs.Cells.{Cell, flag}
 use Rattle.flow_base.specs.Columns.{Columns}
 use Rattle.flow_base.specs.Flags.{flags, concatenation, lengths}
 use Rattle.flow_values.specs.Shapes.{is_a, cell_for, elements_of}
-use Rattle.flow_rows.specs.Lists.{bind, only_if, each, same_lists, front, cut}
-use Rattle.flow_rows.specs.Decoded.{one_in_segment, numbers, a_seq_of}
-use Rattle.flow_rows.specs.Made.{part_flags_made}
-use Rattle.flow_rows.proofs.Options.{bind_gives, map_gives, some_same, front_back, cut_forth, cut_back, map_map, map_joined}
-use Rattle.flow_rows.proofs.Mapped.{map_some_map}
-use Rattle.flow_rows.proofs.Decoding.{numbers_forth}
-use Rattle.flow_rows.proofs.ValueDecoding.{list_values, elements_made}
+use Rattle.flow_nodes.specs.functions.Lists.{bind, only_if, each, same_lists, front, cut}
+use Rattle.flow_nodes.specs.functions.Decoded.{one_in_segment, numbers, a_seq_of}
+use Rattle.flow_nodes.specs.functions.Made.{part_flags_made}
+use Rattle.flow_nodes.proofs.OfFunctions.Options.{bind_gives, map_gives, some_same, front_back, cut_forth, cut_back, map_map, map_joined}
+use Rattle.flow_nodes.proofs.OfFunctions.Mapped.{map_some_map}
+use Rattle.flow_nodes.proofs.OfFunctions.Decoding.{numbers_forth}
+use Rattle.flow_nodes.proofs.OfFunctions.ValueDecoding.{list_values, elements_made}
 use Rattle.snesl_evaluation.specs.Answer.{Answer, gives, faults, go, go_all}
 use Rattle.snesl_evaluation.specs.Builtins.{truth_at, into_first, parts_answer, applied}
-use Rattle.flow_plans.specs.Plans.{Operation, part_flags, made_by, streams_at}
+use Rattle.flow_nodes.specs.plans.Plans.{Operation, part_flags, made_by, streams_at}
 use Rattle.snesl_translation.specs.Wires.{Wires, segments, stream_of, first_wires, second_wires, item_wires}
 use Rattle.snesl_translation.specs.Makings.{done, stepped}
 use Rattle.snesl_translation.specs.Translation.{call_streams}

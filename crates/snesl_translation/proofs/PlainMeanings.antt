@@ -6,14 +6,14 @@ use Rattle.snesl_data.specs.declared.fault.FaultKind.TheVariants.{Shape}
 use Rattle.snesl_data.specs.Types.{Ty, int, bool, pair}
 use Rattle.snesl_data.specs.Values.{Value, a_pair}
 use Rattle.snesl_values.specs.Inputs.{Environment, value_in}
-use Rattle.snesl_operators.specs.declared.scalar.Scalar.TheVariants.{Int, Bool as Truth}
-use Rattle.snesl_tree.specs.declared.span.Span.{Span}
-use Rattle.snesl_tree.specs.Spelling.{spelling}
-use Rattle.snesl_tree.specs.Tree.{Tree, Trees, integer, truth, name, pair as pair_tree, binding, apply, none, both}
+use Rattle.snesl_data.specs.declared.operators.scalar.Scalar.TheVariants.{Int, Bool as Truth}
+use Rattle.snesl_grammar.specs.declared.tree.span.Span.{Span}
+use Rattle.snesl_grammar.specs.tree.Spelling.{spelling}
+use Rattle.snesl_grammar.specs.tree.Tree.{Tree, Trees, integer, truth, name, pair as pair_tree, binding, apply, none, both}
 use Rattle.snesl_evaluation.specs.Answer.{Answer, gives, faults, go, or_fault}
 use Rattle.snesl_evaluation.specs.Eval.{Calls, eval, eval_all}
 use Rattle.snesl_types.specs.Contexts.{open_to, Context, bound as bound_to, found, Signature, Signatures, function_named}
-use Rattle.flow_rows.specs.Lists.{bind}
+use Rattle.flow_nodes.specs.functions.Lists.{bind}
 use Rattle.snesl_translation.specs.Wires.{Wires, Bound}
 use Rattle.snesl_translation.specs.Makings.{Making}
 use Rattle.snesl_translation.specs.FreeNames.{Names, without, free, free_of_all}

@@ -15,12 +15,12 @@ use Rattle.flow_messages.specs.Cells.{Cell, unit}
 use Rattle.flow_messages.specs.declared.message.Kind.{Kind}
 use Rattle.flow_base.specs.Columns.{Columns}
 use Rattle.flow_values.specs.Shapes.{is_a, all_are, kinds_of}
-use Rattle.flow_rows.specs.Lists.{bind, each}
-use Rattle.flow_rows.specs.Made.{columns_of_values, print_made}
-use Rattle.flow_rows.proofs.Edges.{laid_length}
-use Rattle.flow_rows.proofs.Encoded.{print_makes}
-use Rattle.flow_rows.proofs.ValueDecoding.{all_split, all_cons}
-use Rattle.flow_plans.specs.Plans.{print, streams_at, run}
+use Rattle.flow_nodes.specs.functions.Lists.{bind, each}
+use Rattle.flow_nodes.specs.functions.Made.{columns_of_values, print_made}
+use Rattle.flow_nodes.proofs.OfFunctions.Edges.{laid_length}
+use Rattle.flow_nodes.proofs.OfFunctions.Encoded.{print_makes}
+use Rattle.flow_nodes.proofs.OfFunctions.ValueDecoding.{all_split, all_cons}
+use Rattle.flow_nodes.specs.plans.Plans.{print, streams_at, run}
 use Rattle.snesl_translation.specs.Wires.{Wires, type_of_wires, numbers_of, wires_from, Bound}
 use Rattle.snesl_translation.specs.Makings.{Making, done, and_then, tested}
 use Rattle.snesl_translation.specs.FreeNames.{Names, without, free}

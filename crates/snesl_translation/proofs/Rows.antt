@@ -10,7 +10,7 @@ use Rattle.snesl_values.specs.Inputs.{Environment}
 use Rattle.snesl_evaluation.specs.Answer.{gives, faults}
 use Rattle.snesl_evaluation.specs.Eval.{BoundItems, height, beside, rows_of, in_step}
 use Rattle.flow_base.specs.Flags.{concatenation, lengths}
-use Rattle.flow_rows.specs.Lists.{bind, only_if, each, same_lists, paired, copied, dist}
+use Rattle.flow_nodes.specs.functions.Lists.{bind, only_if, each, same_lists, paired, copied, dist}
 use Rattle.snesl_translation.specs.Carrying.{given_by}
 use Rattle.snesl_translation.specs.Sources.{with_sequences}
 use Rattle.snesl_translation.proofs.Bindings.{with_name}

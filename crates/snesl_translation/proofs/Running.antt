@@ -2,8 +2,8 @@
 use Rattle.std.specs.Prelude.{◌≡◌, List, [], ◌∷◌, ◌++◌, Option, Some, None, refl}
 use Rattle.std.proofs.Common.{sym, ◌∙◌}
 use Rattle.flow_base.specs.Columns.{Columns}
-use Rattle.flow_rows.specs.Lists.{bind}
-use Rattle.flow_plans.specs.Plans.{Step, streams_at, made_by, run}
+use Rattle.flow_nodes.specs.functions.Lists.{bind}
+use Rattle.flow_nodes.specs.plans.Plans.{Step, streams_at, made_by, run}
 
 -- where both go on with the same, so does what goes on with them
 pub bind_bind : {A B C : Type 0} (o : Option A) (f : A → Option B) (g : B → Option C) → bind (bind o f) g ≡ bind o (λ x. bind (f x) g)

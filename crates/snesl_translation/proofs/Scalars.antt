@@ -5,29 +5,29 @@ use Rattle.std.proofs.Common.{sym, ap, ◌∙◌, subst}
 use Rattle.snesl_data.specs.declared.dialect.Dialect.{Dialect}
 use Rattle.snesl_data.specs.Types.{Ty, int, bool, vec}
 use Rattle.snesl_data.specs.Values.{Value, an_int, a_bool, a_pair, a_vec, a_seq}
-use Rattle.snesl_operators.specs.Operators.{type_of, unary_value, binary_value, unary_operand, binary_operand, binary_result}
-use Rattle.snesl_operators.specs.declared.scalar.Scalar.{Scalar}
-use Rattle.snesl_operators.specs.declared.scalar.Scalar.TheVariants.{Int, Bool as Truth}
-use Rattle.snesl_operators.specs.declared.operator.UnaryOperator.{UnaryOperator}
-use Rattle.snesl_operators.specs.declared.operator.UnaryOperator.TheVariants as unaries
-use Rattle.snesl_operators.specs.declared.operator.BinaryOperator.{BinaryOperator}
-use Rattle.snesl_operators.specs.declared.operator.BinaryOperator.TheVariants as binaries
-use Rattle.snesl_operators.proofs.OperatorLaws.{unary_type, binary_type}
-use Rattle.snesl_tree.specs.declared.operator.Operator.{Operator}
-use Rattle.snesl_tree.specs.declared.operator.Operator.TheVariants.{Or, And, Equal, Less, AtMost, Greater, AtLeast, Append, Add, Subtract, Multiply, Divide, Remainder, Index}
-use Rattle.snesl_tree.specs.declared.operator.Prefix.{Prefix}
-use Rattle.snesl_tree.specs.declared.operator.Prefix.TheVariants.{Negate, Not}
+use Rattle.snesl_data.specs.operators.Operators.{type_of, unary_value, binary_value, unary_operand, binary_operand, binary_result}
+use Rattle.snesl_data.specs.declared.operators.scalar.Scalar.{Scalar}
+use Rattle.snesl_data.specs.declared.operators.scalar.Scalar.TheVariants.{Int, Bool as Truth}
+use Rattle.snesl_data.specs.declared.operators.operator.UnaryOperator.{UnaryOperator}
+use Rattle.snesl_data.specs.declared.operators.operator.UnaryOperator.TheVariants as unaries
+use Rattle.snesl_data.specs.declared.operators.operator.BinaryOperator.{BinaryOperator}
+use Rattle.snesl_data.specs.declared.operators.operator.BinaryOperator.TheVariants as binaries
+use Rattle.snesl_data.proofs.OfOperators.OperatorLaws.{unary_type, binary_type}
+use Rattle.snesl_grammar.specs.declared.tree.operator.Operator.{Operator}
+use Rattle.snesl_grammar.specs.declared.tree.operator.Operator.TheVariants.{Or, And, Equal, Less, AtMost, Greater, AtLeast, Append, Add, Subtract, Multiply, Divide, Remainder, Index}
+use Rattle.snesl_grammar.specs.declared.tree.operator.Prefix.{Prefix}
+use Rattle.snesl_grammar.specs.declared.tree.operator.Prefix.TheVariants.{Negate, Not}
 use Rattle.snesl_types.specs.Forms.{operator_result, prefix_result}
 use Rattle.flow_base.specs.Columns.{Columns}
 use Rattle.flow_values.specs.Shapes.{cell_for}
-use Rattle.flow_rows.specs.Lists.{bind, each}
-use Rattle.flow_rows.specs.Made.{one, scalar_cells, binary_made}
-use Rattle.flow_rows.proofs.Options.{map_map, paired_forth}
-use Rattle.flow_rows.proofs.Encoded.{unary_makes, binary_makes}
-use Rattle.flow_rows.proofs.ValueDecoding.{AllAre, all_split}
+use Rattle.flow_nodes.specs.functions.Lists.{bind, each}
+use Rattle.flow_nodes.specs.functions.Made.{one, scalar_cells, binary_made}
+use Rattle.flow_nodes.proofs.OfFunctions.Options.{map_map, paired_forth}
+use Rattle.flow_nodes.proofs.OfFunctions.Encoded.{unary_makes, binary_makes}
+use Rattle.flow_nodes.proofs.OfFunctions.ValueDecoding.{AllAre, all_split}
 use Rattle.snesl_evaluation.specs.Answer.{gives, go, go_all}
 use Rattle.snesl_evaluation.specs.Builtins.{scalar_value, unary_answer, scalars_answer, equal_answer, prefix_answer, binary_answer}
-use Rattle.flow_plans.specs.Plans.{unary, binary, streams_at}
+use Rattle.flow_nodes.specs.plans.Plans.{unary, binary, streams_at}
 use Rattle.snesl_translation.specs.Wires.{Wires, stream_of}
 use Rattle.snesl_translation.specs.Makings.{stepped}
 use Rattle.snesl_translation.specs.Translation.{scalars_step, equality, prefix_streams, binary_streams}

@@ -6,9 +6,9 @@ use Rattle.snesl_values.specs.Inputs.{InputDeclaration, Environment}
 use Rattle.snesl_evaluation.specs.Eval.{BoundItems}
 use Rattle.snesl_types.specs.Contexts.{Context}
 use Rattle.flow_base.specs.Columns.{Columns}
-use Rattle.flow_rows.specs.Lists.{each}
-use Rattle.flow_rows.specs.Decoded.{a_seq_of}
-use Rattle.flow_plans.specs.Plans.{run}
+use Rattle.flow_nodes.specs.functions.Lists.{each}
+use Rattle.flow_nodes.specs.functions.Decoded.{a_seq_of}
+use Rattle.flow_nodes.specs.plans.Plans.{run}
 use Rattle.snesl_translation.specs.Wires.{Bound}
 use Rattle.snesl_translation.specs.Makings.{Making}
 use Rattle.snesl_translation.specs.FreeNames.{Names}

@@ -8,12 +8,12 @@ use Rattle.snesl_data.specs.Types.{Ty}
 use Rattle.snesl_data.specs.Values.{Value}
 use Rattle.flow_base.specs.Columns.{Columns}
 use Rattle.flow_values.specs.Shapes.{is_a}
-use Rattle.flow_rows.specs.Lists.{bind, each}
-use Rattle.flow_rows.specs.Made.{columns_of_values}
-use Rattle.flow_rows.proofs.Options.{bind_gives, map_gives, some_same}
-use Rattle.flow_rows.proofs.ValueDecoding.{AllAre, all_cons}
+use Rattle.flow_nodes.specs.functions.Lists.{bind, each}
+use Rattle.flow_nodes.specs.functions.Made.{columns_of_values}
+use Rattle.flow_nodes.proofs.OfFunctions.Options.{bind_gives, map_gives, some_same}
+use Rattle.flow_nodes.proofs.OfFunctions.ValueDecoding.{AllAre, all_cons}
 use Rattle.snesl_evaluation.specs.Answer.{Answer, gives, faults, go, go_all, answer_at}
-use Rattle.flow_plans.specs.Plans.{Operation, made_by, streams_at}
+use Rattle.flow_nodes.specs.plans.Plans.{Operation, made_by, streams_at}
 use Rattle.snesl_translation.specs.Wires.{Wires}
 use Rattle.snesl_translation.specs.Makings.{Making, stepped}
 use Rattle.snesl_translation.specs.Carrying.{Makes, Goes}

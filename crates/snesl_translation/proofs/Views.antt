@@ -4,18 +4,18 @@ use Rattle.std.proofs.Common.{sym, ap, ◌∙◌, subst}
 use Rattle.std.proofs.Math.Path.{ap₂}
 use Rattle.snesl_data.specs.Types.{Ty, int, bool, pair, vec, seq}
 use Rattle.snesl_data.specs.Values.{Value, an_int, a_bool, a_pair, a_vec, a_seq, list_of, values_of}
-use Rattle.snesl_operators.specs.Operators.{type_of}
-use Rattle.snesl_operators.specs.declared.scalar.Scalar.{Scalar}
-use Rattle.snesl_operators.specs.declared.scalar.Scalar.TheVariants.{Int, Bool as Truth}
-use Rattle.snesl_operators.specs.declared.scalar.ScalarType.{ScalarType}
-use Rattle.snesl_operators.specs.declared.scalar.ScalarType.TheVariants.{Int as IntType, Bool as BoolType}
+use Rattle.snesl_data.specs.operators.Operators.{type_of}
+use Rattle.snesl_data.specs.declared.operators.scalar.Scalar.{Scalar}
+use Rattle.snesl_data.specs.declared.operators.scalar.Scalar.TheVariants.{Int, Bool as Truth}
+use Rattle.snesl_data.specs.declared.operators.scalar.ScalarType.{ScalarType}
+use Rattle.snesl_data.specs.declared.operators.scalar.ScalarType.TheVariants.{Int as IntType, Bool as BoolType}
 use Rattle.flow_messages.specs.Cells.{flag, int as int_cell, datum}
 use Rattle.flow_base.specs.Flags.{flags, concatenation, lengths}
 use Rattle.flow_values.specs.Shapes.{is_a, cell_for}
-use Rattle.flow_rows.specs.Decoded.{a_pair_of, a_seq_of}
-use Rattle.flow_rows.specs.Made.{one, scalar_cells, integer_cells, columns_of_values}
-use Rattle.flow_rows.proofs.Edges.{laid_seq}
-use Rattle.flow_rows.proofs.ValueDecoding.{AllAre, values_list, all_split, all_apart, elements_made}
+use Rattle.flow_nodes.specs.functions.Decoded.{a_pair_of, a_seq_of}
+use Rattle.flow_nodes.specs.functions.Made.{one, scalar_cells, integer_cells, columns_of_values}
+use Rattle.flow_nodes.proofs.OfFunctions.Edges.{laid_seq}
+use Rattle.flow_nodes.proofs.OfFunctions.ValueDecoding.{AllAre, values_list, all_split, all_apart, elements_made}
 use Rattle.snesl_evaluation.specs.Builtins.{scalar_value}
 use Rattle.snesl_translation.specs.Wires.{IsSingle}
 

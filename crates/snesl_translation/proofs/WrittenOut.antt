@@ -1,7 +1,7 @@
 -- Literals have the steps of the forms that they stand for.
 use Rattle.std.specs.Prelude.{◌≡◌, ℕ, List, refl}
 use Rattle.snesl_data.specs.declared.dialect.Dialect.{Dialect}
-use Rattle.snesl_tree.specs.Tree.{Tree, Trees, none, both}
+use Rattle.snesl_grammar.specs.tree.Tree.{Tree, Trees, none, both}
 use Rattle.snesl_grammar.specs.Expressions.{added}
 use Rattle.snesl_translation.specs.Wires.{Wires, Bound}
 use Rattle.snesl_translation.specs.Makings.{Making}

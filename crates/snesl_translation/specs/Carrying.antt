@@ -5,9 +5,9 @@ use Rattle.snesl_data.specs.Values.{Value, values_of}
 use Rattle.flow_messages.specs.Cells.{unit}
 use Rattle.flow_base.specs.Columns.{Columns}
 use Rattle.flow_values.specs.Shapes.{all_are}
-use Rattle.flow_rows.specs.Made.{columns_of_values}
+use Rattle.flow_nodes.specs.functions.Made.{columns_of_values}
 use Rattle.snesl_evaluation.specs.Answer.{Answer, gives, faults}
-use Rattle.flow_plans.specs.Plans.{streams_at, run}
+use Rattle.flow_nodes.specs.plans.Plans.{streams_at, run}
 use Rattle.snesl_translation.specs.Wires.{Wires, type_of_wires, AreWhole, numbers_of}
 use Rattle.snesl_translation.specs.Makings.{Making}
 

@@ -1,3 +1,4 @@
+pub mod wiring
 pub mod Wires
 pub mod Makings
 pub mod FreeNames

@@ -1,8 +1,8 @@
 -- Literals are translated as the forms that they stand for.
 use Rattle.std.specs.Prelude.{◌≡◌, ℕ, List, true}
 use Rattle.snesl_data.specs.declared.dialect.Dialect.{Dialect}
-use Rattle.snesl_tree.specs.declared.operator.Operator.TheVariants.{Append}
-use Rattle.snesl_tree.specs.Tree.{Tree, Trees, truth, binary, literal, filter, none, both}
+use Rattle.snesl_grammar.specs.declared.tree.operator.Operator.TheVariants.{Append}
+use Rattle.snesl_grammar.specs.tree.Tree.{Tree, Trees, truth, binary, literal, filter, none, both}
 use Rattle.snesl_grammar.specs.Expressions.{added}
 use Rattle.snesl_translation.specs.Wires.{Bound}
 use Rattle.snesl_translation.specs.Translation.{Bodies, tr}

@@ -2,7 +2,7 @@
 use Rattle.std.specs.Prelude.{ℕ, ◌+◌, List, [], ◌∷◌, ◌++◌}
 use Rattle.snesl_data.specs.Types.{Ty}
 use Rattle.flow_values.specs.Flats.{width}
-use Rattle.flow_plans.specs.Plans.{Operation, Step}
+use Rattle.flow_nodes.specs.plans.Plans.{Operation, Step}
 use Rattle.snesl_translation.specs.Wires.{Wires, wires_from}
 
 -- the steps that are added, what they give, and the number of the next stream

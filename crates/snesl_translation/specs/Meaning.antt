@@ -5,7 +5,7 @@ use Rattle.snesl_data.specs.Values.{Value}
 use Rattle.snesl_values.specs.Inputs.{Environment, value_in}
 use Rattle.snesl_types.specs.Contexts.{open_to, Context, found}
 use Rattle.flow_base.specs.Columns.{Columns}
-use Rattle.flow_rows.specs.Lists.{each}
+use Rattle.flow_nodes.specs.functions.Lists.{each}
 use Rattle.snesl_translation.specs.Wires.{Wires, Bound}
 use Rattle.snesl_translation.specs.Makings.{Making}
 use Rattle.snesl_translation.specs.FreeNames.{Names, is_among}

@@ -2,7 +2,7 @@
 use Rattle.std.specs.Prelude.{ℕ, List, [], ◌∷◌, if◌then◌else◌}
 use Rattle.snesl_data.specs.Types.{bool}
 use Rattle.flow_messages.specs.declared.message.Kind.TheVariants.{Bool as BoolKind}
-use Rattle.flow_plans.specs.Plans.{Operation, dist, pack, pack_groups, concat_flags, interleave, interleave_groups}
+use Rattle.flow_nodes.specs.plans.Plans.{Operation, dist, pack, pack_groups, concat_flags, interleave, interleave_groups}
 use Rattle.snesl_translation.specs.Wires.{Wires, wire, two, segments, kind_of_type, stream_of, first_wires, second_wires, item_wires, Bound}
 use Rattle.snesl_translation.specs.Makings.{Making, done, and_then, stepped}
 use Rattle.snesl_translation.specs.FreeNames.{Names, is_among, without}

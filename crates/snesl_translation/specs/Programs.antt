@@ -4,7 +4,7 @@ use Rattle.snesl_data.specs.declared.fault.FaultKind.{FaultKind}
 use Rattle.snesl_data.specs.Types.{Ty}
 use Rattle.snesl_data.specs.Values.{Value}
 use Rattle.snesl_values.specs.Inputs.{InputDeclaration, Environment, FitDeclarations}
-use Rattle.snesl_tree.specs.Tree.{Tree, integer, truth, name, binary, prefix, call, apply, group, pair, binding, choice, literal, filter, each, ProgramTree}
+use Rattle.snesl_grammar.specs.tree.Tree.{Tree, integer, truth, name, binary, prefix, call, apply, group, pair, binding, choice, literal, filter, each, ProgramTree}
 use Rattle.snesl_evaluation.specs.Answer.{gives, faults}
 use Rattle.snesl_evaluation.specs.Eval.{program_value}
 use Rattle.snesl_types.specs.Programs.{Declared, ProgramTypes}
@@ -14,8 +14,8 @@ use Rattle.flow_messages.specs.declared.message.Kind.TheVariants.{Unit as UnitKi
 use Rattle.flow_base.specs.Columns.{Columns}
 use Rattle.flow_values.specs.Shapes.{kinds_of}
 use Rattle.flow_values.specs.Flats.{width}
-use Rattle.flow_rows.specs.Made.{columns_of_values}
-use Rattle.flow_plans.specs.Plans.{source, print, Step, streams_at, run}
+use Rattle.flow_nodes.specs.functions.Made.{columns_of_values}
+use Rattle.flow_nodes.specs.plans.Plans.{source, print, Step, streams_at, run}
 use Rattle.snesl_translation.specs.Wires.{Wires, type_of_wires, numbers_of, wires_from, Bound}
 use Rattle.snesl_translation.specs.Makings.{Making, done, and_then, tested}
 use Rattle.snesl_translation.specs.Translation.{tr}

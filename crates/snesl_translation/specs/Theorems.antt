@@ -3,13 +3,13 @@ use Rattle.std.specs.Prelude.{◌≡◌, ℕ, List, length, Some}
 use Rattle.snesl_data.specs.declared.dialect.Dialect.{Dialect}
 use Rattle.snesl_data.specs.Types.{Ty}
 use Rattle.snesl_data.specs.Values.{Value}
-use Rattle.snesl_tree.specs.Tree.{Tree, DeclarationTree}
+use Rattle.snesl_grammar.specs.tree.Tree.{Tree, DeclarationTree}
 use Rattle.snesl_evaluation.specs.Eval.{Calls, eval, calls_after}
 use Rattle.snesl_types.specs.Contexts.{Context, Signature, Signatures, function_named}
 use Rattle.snesl_types.specs.Typing.{Types}
 use Rattle.snesl_types.specs.Programs.{Declared, DeclarationsType}
 use Rattle.flow_base.specs.Columns.{Columns}
-use Rattle.flow_rows.specs.Lists.{each}
+use Rattle.flow_nodes.specs.functions.Lists.{each}
 use Rattle.snesl_translation.specs.Wires.{Wires}
 use Rattle.snesl_translation.specs.FreeNames.{free}
 use Rattle.snesl_translation.specs.Translation.{Bodies, tr}

@@ -4,10 +4,10 @@ use Rattle.std.proofs.lemmas.List.{map-append, take_more, take-append-drop}
 use Rattle.snesl_data.specs.declared.dialect.Dialect.{Dialect}
 use Rattle.snesl_data.specs.declared.refusal.Refusal.{Refusal}
 use Rattle.snesl_translation.specs.Makings.{Making, done, and_then}
-use Rattle.snesl_steps.specs.Views.{dialect_of_steps, steps_in, next_in}
-use Rattle.snesl_steps.specs.Added.{HasMade, Adds}
-use Rattle.snesl_steps.specs.declared.steps.Steps.{Steps}
-use Rattle.snesl_steps.proofs.Adding.{done_made, made_then, then_done, refused_first}
+use Rattle.snesl_translator.specs.steps.Views.{dialect_of_steps, steps_in, next_in}
+use Rattle.snesl_translator.specs.steps.Added.{HasMade, Adds}
+use Rattle.snesl_translator.specs.declared.steps.steps.Steps.{Steps}
+use Rattle.snesl_translator.proofs.OfSteps.Adding.{done_made, made_then, then_done, refused_first}
 use Rattle.snesl_translator.proofs.Listed.{made_all, made_all-append}
 
 -- after a first making that was made the rest is added, in the same dialect

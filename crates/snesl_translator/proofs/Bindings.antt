@@ -1,15 +1,15 @@
 -- The names of parameters and of binders, item by item.
 use Rattle.std.proofs.Common.{◌≡◌, ℕ, suc, ◌<◌, ◌+◌, List, [], ◌∷◌, ◌++◌, map, length, drop, get_or, refl, sym, ap, ◌∙◌, arith, zero, min, drop-cons, add-one, append_assoc}
 use Rattle.std.proofs.lemmas.List.{map-append}
-use Rattle.snesl_tree.specs.declared.declaration.Typing.{Typing}
-use Rattle.snesl_tree.specs.Spelling.{spelling}
-use Rattle.snesl_tree.specs.View.{typed_of}
+use Rattle.snesl_grammar.specs.declared.tree.declaration.Typing.{Typing}
+use Rattle.snesl_grammar.specs.tree.Spelling.{spelling}
+use Rattle.snesl_grammar.specs.tree.View.{typed_of}
 use Rattle.snesl_translation.specs.Wires.{Wires as WiresOf, Bound, item_wires}
 use Rattle.snesl_translation.specs.Functions.{parameters_bound}
 use Rattle.snesl_translation.specs.Translation.{items_bound}
-use Rattle.snesl_steps.specs.Views.{binding_of, bindings_of, wires_of}
-use Rattle.snesl_steps.specs.declared.wires.Wires.{Wires}
-use Rattle.snesl_steps.specs.declared.wires.Binding.{Binding}
+use Rattle.snesl_translator.specs.steps.Views.{binding_of, bindings_of, wires_of}
+use Rattle.snesl_translator.specs.declared.steps.wires.Wires.{Wires}
+use Rattle.snesl_translator.specs.declared.steps.wires.Binding.{Binding}
 
 pub items_mapped : (sources : List Binding) → map (λ source. (source.name.now, item_wires (wires_of source.wires))) sources ≡ items_bound (bindings_of sources)
 items_mapped [] = refl

@@ -1,3 +1,5 @@
+pub mod OfSteps
+pub mod OfScopes
 pub mod Expressions
 pub mod Declared
 pub mod Makings

@@ -3,19 +3,19 @@ use Rattle.std.proofs.Common.{◌≡◌, ◌<◌, ◌≤◌, ◌+◌, ◌∙◌,
 use Rattle.std.proofs.lemmas.List.{take_more, take-append-drop}
 use Rattle.snesl_data.specs.declared.dialect.Dialect.{Dialect}
 use Rattle.snesl_data.specs.declared.refusal.Refusal.{Refusal}
-use Rattle.snesl_tree.specs.declared.expr.Expr.{Expr}
-use Rattle.snesl_tree.specs.Tree.{Tree, Trees, none, both, literal}
-use Rattle.snesl_tree.specs.View.{tree_of, trees_of}
+use Rattle.snesl_grammar.specs.declared.tree.expr.Expr.{Expr}
+use Rattle.snesl_grammar.specs.tree.Tree.{Tree, Trees, none, both, literal}
+use Rattle.snesl_grammar.specs.tree.View.{tree_of, trees_of}
 use Rattle.snesl_translation.specs.Wires.{Wires, Bound}
 use Rattle.snesl_translation.specs.Makings.{Making, done, and_then}
 use Rattle.snesl_translation.specs.FreeNames.{free}
 use Rattle.snesl_translation.specs.Translation.{Bodies, appended, followed, single, tr, tr_further}
-use Rattle.snesl_steps.specs.Views.{dialect_of_steps, next_in, wires_of}
-use Rattle.snesl_steps.specs.Added.{HasMade, Adds}
-use Rattle.snesl_steps.specs.declared.steps.Steps.{Steps}
-use Rattle.snesl_steps.proofs.Adding.{made_then, refused_first, then_done}
-use Rattle.snesl_scopes.specs.Scopes.{bound_of}
-use Rattle.snesl_scopes.specs.declared.scope.Scope.{Scope}
+use Rattle.snesl_translator.specs.steps.Views.{dialect_of_steps, next_in, wires_of}
+use Rattle.snesl_translator.specs.steps.Added.{HasMade, Adds}
+use Rattle.snesl_translator.specs.declared.steps.steps.Steps.{Steps}
+use Rattle.snesl_translator.proofs.OfSteps.Adding.{made_then, refused_first, then_done}
+use Rattle.snesl_translator.specs.scopes.Scopes.{bound_of}
+use Rattle.snesl_translator.specs.declared.scopes.scope.Scope.{Scope}
 use Rattle.snesl_translator.specs.declared.translator.ProgramContext.{ProgramContext}
 use Rattle.snesl_translator.specs.Translated.{bodies_in, further_in, single_in}
 use Rattle.snesl_translator.proofs.Expressions.{tr_in}

@@ -1,6 +1,6 @@
 -- What parts of a program that run more often, or less often, see, step by step.
 use Rattle.std.proofs.Common.{◌≡◌, ℕ, [], ◌∷◌, ◌++◌, ap, ◌∙◌}
-use Rattle.flow_plans.specs.Plans.{flag_of_bool}
+use Rattle.flow_nodes.specs.plans.Plans.{flag_of_bool}
 use Rattle.snesl_translation.specs.Makings.{Making, done, and_then}
 use Rattle.snesl_translation.specs.Wires.{Bound, Wires, segments, stream_of}
 use Rattle.snesl_translation.specs.FreeNames.{Names}

@@ -2,28 +2,28 @@
 use Rattle.std.specs.Prelude.{ℕ, List, ◌++◌, map, Result, Vec}
 use Rattle.std.specs.Global.{Global}
 use Rattle.snesl_data.specs.declared.refusal.Refusal.{Refusal}
-use Rattle.snesl_tree.specs.Spelling.{spelling}
-use Rattle.snesl_tree.specs.Tree.{Tree, always, apply, binary, binding, call, choice, each, filter, literal, only_where, pair, prefix}
-use Rattle.snesl_tree.specs.View.{binders_of, tree_of, trees_of}
-use Rattle.snesl_tree.specs.declared.declaration.Declaration.{Declaration}
-use Rattle.snesl_tree.specs.declared.declaration.Function.{Function}
-use Rattle.snesl_tree.specs.declared.expr.Binder.{Binder}
-use Rattle.snesl_tree.specs.declared.expr.Expr.{Expr}
-use Rattle.snesl_tree.specs.declared.operator.Builtin.{Builtin}
-use Rattle.snesl_tree.specs.declared.operator.Operator.{Operator}
-use Rattle.snesl_tree.specs.declared.operator.Prefix.{Prefix}
-use Rattle.snesl_tree.specs.declared.operator.Prefix.TheVariants.{Not}
-use Rattle.snesl_tree.specs.declared.span.Span.{Span}
+use Rattle.snesl_grammar.specs.tree.Spelling.{spelling}
+use Rattle.snesl_grammar.specs.tree.Tree.{Tree, always, apply, binary, binding, call, choice, each, filter, literal, only_where, pair, prefix}
+use Rattle.snesl_grammar.specs.tree.View.{binders_of, tree_of, trees_of}
+use Rattle.snesl_grammar.specs.declared.tree.declaration.Declaration.{Declaration}
+use Rattle.snesl_grammar.specs.declared.tree.declaration.Function.{Function}
+use Rattle.snesl_grammar.specs.declared.tree.expr.Binder.{Binder}
+use Rattle.snesl_grammar.specs.declared.tree.expr.Expr.{Expr}
+use Rattle.snesl_grammar.specs.declared.tree.operator.Builtin.{Builtin}
+use Rattle.snesl_grammar.specs.declared.tree.operator.Operator.{Operator}
+use Rattle.snesl_grammar.specs.declared.tree.operator.Prefix.{Prefix}
+use Rattle.snesl_grammar.specs.declared.tree.operator.Prefix.TheVariants.{Not}
+use Rattle.snesl_grammar.specs.declared.tree.span.Span.{Span}
 use Rattle.snesl_translation.specs.Wires.{stream_of}
 use Rattle.snesl_translation.specs.Makings.{and_then}
 use Rattle.snesl_translation.specs.Translation.{prefix_streams, tr}
-use Rattle.snesl_steps.specs.Added.{Adds}
-use Rattle.snesl_steps.specs.Views.{bindings_of, dialect_of_steps, next_in, wires_of}
-use Rattle.snesl_steps.specs.declared.steps.Steps.{Steps}
-use Rattle.snesl_steps.specs.declared.wires.Binding.{Binding}
-use Rattle.snesl_steps.specs.declared.wires.Wires.{Wires as WiresData}
-use Rattle.snesl_scopes.specs.Scopes.{bound_of}
-use Rattle.snesl_scopes.specs.declared.scope.Scope.{Scope}
+use Rattle.snesl_translator.specs.steps.Added.{Adds}
+use Rattle.snesl_translator.specs.steps.Views.{bindings_of, dialect_of_steps, next_in, wires_of}
+use Rattle.snesl_translator.specs.declared.steps.steps.Steps.{Steps}
+use Rattle.snesl_translator.specs.declared.steps.wires.Binding.{Binding}
+use Rattle.snesl_translator.specs.declared.steps.wires.Wires.{Wires as WiresData}
+use Rattle.snesl_translator.specs.scopes.Scopes.{bound_of}
+use Rattle.snesl_translator.specs.declared.scopes.scope.Scope.{Scope}
 use Rattle.snesl_translator.specs.declared.translator.ProgramContext.{ProgramContext}
 use Rattle.snesl_translator.specs.declared.rows.Rows.{Rows}
 use Rattle.snesl_translator.specs.Called.{entered}

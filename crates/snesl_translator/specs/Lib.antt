@@ -1,3 +1,5 @@
+pub mod steps
+pub mod scopes
 pub mod Called
 pub mod Rows
 pub mod Translated

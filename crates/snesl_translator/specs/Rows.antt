@@ -2,25 +2,25 @@
 use Rattle.std.specs.Prelude.{◌≡◌, ℕ, List, ◌∷◌, [], ◌++◌, Result, map, Vec}
 use Rattle.std.specs.Global.{Global}
 use Rattle.snesl_data.specs.declared.refusal.Refusal.{Refusal}
-use Rattle.snesl_tree.specs.View.{binders_of, tree_of, typed_of}
-use Rattle.snesl_tree.specs.declared.declaration.Typing.{Typing}
-use Rattle.snesl_tree.specs.declared.expr.Binder.{Binder}
-use Rattle.snesl_tree.specs.declared.expr.Expr.{Expr}
+use Rattle.snesl_grammar.specs.tree.View.{binders_of, tree_of, typed_of}
+use Rattle.snesl_grammar.specs.declared.tree.declaration.Typing.{Typing}
+use Rattle.snesl_grammar.specs.declared.tree.expr.Binder.{Binder}
+use Rattle.snesl_grammar.specs.declared.tree.expr.Expr.{Expr}
 use Rattle.snesl_translation.specs.Wires.{Bound, stream_of}
 use Rattle.snesl_translation.specs.Makings.{Making, done, and_then}
 use Rattle.snesl_translation.specs.Moving.{all_moved, distributed, flags_stepped, kept}
 use Rattle.snesl_translation.specs.FreeNames.{Names, free, without_binders}
 use Rattle.snesl_translation.specs.Functions.{parameters_bound}
 use Rattle.snesl_translation.specs.Translation.{Sources, first_flags, in_step, items_bound, units_step}
-use Rattle.flow_plans.specs.Plans.{flag_of_bool}
-use Rattle.snesl_steps.specs.Added.{Adds}
-use Rattle.snesl_steps.specs.Views.{bindings_of, next_in, wires_of}
-use Rattle.snesl_steps.specs.declared.steps.Steps.{Steps}
-use Rattle.snesl_steps.specs.declared.wires.Binding.{Binding}
-use Rattle.snesl_steps.specs.declared.wires.Wires.{Wires}
-use Rattle.snesl_scopes.specs.Scopes.{bound_of, names_in}
-use Rattle.snesl_scopes.specs.declared.part.Part.{Part}
-use Rattle.snesl_scopes.specs.declared.scope.Scope.{Scope}
+use Rattle.flow_nodes.specs.plans.Plans.{flag_of_bool}
+use Rattle.snesl_translator.specs.steps.Added.{Adds}
+use Rattle.snesl_translator.specs.steps.Views.{bindings_of, next_in, wires_of}
+use Rattle.snesl_translator.specs.declared.steps.steps.Steps.{Steps}
+use Rattle.snesl_translator.specs.declared.steps.wires.Binding.{Binding}
+use Rattle.snesl_translator.specs.declared.steps.wires.Wires.{Wires}
+use Rattle.snesl_translator.specs.scopes.Scopes.{bound_of, names_in}
+use Rattle.snesl_translator.specs.declared.scopes.part.Part.{Part}
+use Rattle.snesl_translator.specs.declared.scopes.scope.Scope.{Scope}
 use Rattle.snesl_translator.specs.declared.rows.Rows.{Rows}
 
 -- the flags that its values stand under, the streams of its names, and its control stream

@@ -2,21 +2,21 @@
 use Rattle.std.specs.Prelude.{ℕ, true, List, [], ◌∷◌, ◌++◌, map}
 use Rattle.snesl_data.specs.declared.dialect.Dialect.{Dialect}
 use Rattle.snesl_data.specs.Types.{bool}
-use Rattle.snesl_operators.specs.declared.scalar.Scalar.TheVariants.{Bool as Truth}
-use Rattle.flow_plans.specs.Plans.{const, the_check}
-use Rattle.snesl_tree.specs.Spelling.{spelling}
-use Rattle.snesl_tree.specs.Tree.{Tree, Trees, Binders}
-use Rattle.snesl_tree.specs.View.{declaration_of}
-use Rattle.snesl_tree.specs.declared.span.Span.{Span}
+use Rattle.snesl_data.specs.declared.operators.scalar.Scalar.TheVariants.{Bool as Truth}
+use Rattle.flow_nodes.specs.plans.Plans.{const, the_check}
+use Rattle.snesl_grammar.specs.tree.Spelling.{spelling}
+use Rattle.snesl_grammar.specs.tree.Tree.{Tree, Trees, Binders}
+use Rattle.snesl_grammar.specs.tree.View.{declaration_of}
+use Rattle.snesl_grammar.specs.declared.tree.span.Span.{Span}
 use Rattle.snesl_translation.specs.Wires.{Wires, item_wires, segments, stream_of}
 use Rattle.snesl_translation.specs.Makings.{Making, done, and_then, stepped, tested}
 use Rattle.snesl_translation.specs.FreeNames.{free, without_binders}
 use Rattle.snesl_translation.specs.Translation.{Bodies, Sources, appended, concatenated, filtered, single, tr, tr_all, tr_binders, tr_further, wires_named}
 use Rattle.snesl_translation.specs.Functions.{bodies_of}
-use Rattle.snesl_steps.specs.Views.{dialect_of_steps, next_in}
-use Rattle.snesl_steps.specs.declared.steps.Steps.{Steps}
-use Rattle.snesl_scopes.specs.Scopes.{bound_of}
-use Rattle.snesl_scopes.specs.declared.scope.Scope.{Scope}
+use Rattle.snesl_translator.specs.steps.Views.{dialect_of_steps, next_in}
+use Rattle.snesl_translator.specs.declared.steps.steps.Steps.{Steps}
+use Rattle.snesl_translator.specs.scopes.Scopes.{bound_of}
+use Rattle.snesl_translator.specs.declared.scopes.scope.Scope.{Scope}
 use Rattle.snesl_translator.specs.declared.translator.ProgramContext.{ProgramContext}
 use Rattle.snesl_translator.specs.Rows.{Opened, each_opened}
 

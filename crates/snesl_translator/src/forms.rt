@@ -2,18 +2,18 @@
 
 ghost use Rattle.snesl_translation.specs.Wires.{segments, two};
 ghost use Rattle.snesl_translation.specs.Translation.{concatenated};
-ghost use Rattle.snesl_steps.specs.Views.{next_in, wires_of};
-ghost use Rattle.snesl_steps.specs.Added.{Adds, AddsWires, OnlyGives};
+ghost use Rattle.snesl_translator.specs.steps.Views.{next_in, wires_of};
+ghost use Rattle.snesl_translator.specs.steps.Added.{Adds, AddsWires, OnlyGives};
 ghost use Rattle.snesl_translator.specs.Forms.{AddsOneOf};
 ghost use Rattle.snesl_translator.specs.Translated.{always_true, streams_named};
 
-use snesl_data::{Refusal, Ty};
-use snesl_operators::Scalar;
-use snesl_scopes::{Scope, look_up};
-use snesl_steps::{
+use crate::scopes::{Scope, look_up};
+use crate::steps::{
     Steps, Wires, append, apply_built_in, concatenate, constant, pair_wires, sequence_wires,
 };
-use snesl_tree::{Builtin, Span};
+use snesl_data::operators::Scalar;
+use snesl_data::{Refusal, Ty};
+use snesl_grammar::tree::{Builtin, Span};
 
 // The streams of a name.
 #[inline(never)]

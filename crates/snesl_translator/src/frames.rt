@@ -2,11 +2,11 @@
 
 ghost use Rattle.std.specs.Prelude.{◌≡◌, ◌∷◌, [], IfOk};
 ghost use Rattle.snesl_translation.specs.Translation.{first_flags, items_bound};
-ghost use Rattle.snesl_steps.specs.Views.{bindings_of, wires_of};
+ghost use Rattle.snesl_translator.specs.steps.Views.{bindings_of, wires_of};
 ghost use Rattle.snesl_translator.specs.Rows.{AreBound};
 
-use snesl_steps::{Binding, Wires, copy_wires};
-use snesl_tree::Typing;
+use crate::steps::{Binding, Wires, copy_wires};
+use snesl_grammar::tree::Typing;
 use std::alloc::{AllocError, Global};
 
 // One name.

@@ -3,7 +3,7 @@
 ghost use Rattle.std.specs.Prelude.{IfNone, IfSome};
 ghost use Rattle.snesl_translator.specs.Called.{IsLast, IsNoHeavier, IsUnknown};
 
-use snesl_tree::{Declaration, Function};
+use snesl_grammar::tree::{Declaration, Function};
 
 // The last function of a name, and the declarations before it.
 pub(crate) fn find_function<'a>(

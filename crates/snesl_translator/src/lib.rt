@@ -5,6 +5,8 @@ mod forms;
 mod frames;
 mod functions;
 mod rows;
+pub mod scopes;
+pub mod steps;
 mod translator;
 
 pub use translator::{ProgramContext, translate};

@@ -1,18 +1,18 @@
 // Parts of a program that run more often, or less often, than what is around them.
 
 ghost use Rattle.std.specs.Prelude.{◌≡◌, ◌∷◌, []};
-ghost use Rattle.flow_plans.specs.Plans.{flag_of_bool};
+ghost use Rattle.flow_nodes.specs.plans.Plans.{flag_of_bool};
 ghost use Rattle.snesl_translation.specs.Moving.{flags_stepped};
-ghost use Rattle.snesl_steps.specs.Added.{AddsWires};
-ghost use Rattle.snesl_scopes.specs.Scopes.{names_in};
+ghost use Rattle.snesl_translator.specs.steps.Added.{AddsWires};
+ghost use Rattle.snesl_translator.specs.scopes.Scopes.{names_in};
 ghost use Rattle.snesl_translator.specs.Rows.{OpensEach, OpensWhere, names_taken, names_taken_where};
 
 use crate::frames::{bind_items, flags_of_first};
-use flow_plans::Operation;
+use crate::scopes::{Part, Scope, distribute_all, keep_all};
+use crate::steps::{Binding, Steps, Wires, same_lengths, unit_for_each};
+use flow_nodes::plans::Operation;
 use snesl_data::{Refusal, Ty};
-use snesl_scopes::{Part, Scope, distribute_all, keep_all};
-use snesl_steps::{Binding, Steps, Wires, same_lengths, unit_for_each};
-use snesl_tree::{Binder, Expr};
+use snesl_grammar::tree::{Binder, Expr};
 
 // What such a part sees: the flags that its values stand under, its own names, those from outside, and its control stream.
 #[derive(Drop)]

@@ -1,19 +1,19 @@
 // Translation.
 
-ghost use Rattle.snesl_tree.specs.View.{tree_of};
+ghost use Rattle.snesl_grammar.specs.tree.View.{tree_of};
 ghost use Rattle.snesl_translator.specs.Forms.{Applies, CallsNamed, Chooses, Combines, Enters, Extends, Filters, FiltersNot, Invokes, Lets, PairsUp, Repeats, RepeatsOver, RepeatsWhere, Sifts, SiftsOver, SiftsRows, Singles, Translates, TranslatesAll, TranslatesIn, TranslatesLiteral, TranslatesRows, TranslatesSources, Uses};
 
 use crate::forms::{always_true, flat, named, one_of, paired, sequence};
 use crate::frames::{bind_parameters, one_bound};
 use crate::functions::find_function;
 use crate::rows::{Rows, open_each, open_where, part_of, part_where};
-use snesl_data::{Refusal, Ty};
-use snesl_operators::Scalar;
-use snesl_scopes::Scope;
-use snesl_steps::{
+use crate::scopes::Scope;
+use crate::steps::{
     Binding, Steps, Wires, append, apply_built_in, apply_operator, apply_prefix, constant,
 };
-use snesl_tree::{Binder, Builtin, Declaration, Expr, Function, Operator, Prefix, Span};
+use snesl_data::operators::Scalar;
+use snesl_data::{Refusal, Ty};
+use snesl_grammar::tree::{Binder, Builtin, Declaration, Expr, Function, Operator, Prefix, Span};
 
 /// What stays the same in one body: the text, in which names are spelled, and the declarations whose functions may be
 /// called.

@@ -4,6 +4,7 @@
 mod configuration;
 mod expected;
 mod running;
+pub mod tables;
 
 pub use configuration::in_threads;
 pub use expected::Expected;

@@ -10,20 +10,20 @@ use Rattle.snesl_data.specs.declared.fault.FaultKind.TheVariants.{Overflow, Inde
 use Rattle.snesl_data.specs.Integers.{IsInteger, is_integer, greatest_integer}
 use Rattle.snesl_data.specs.Types.{Ty, int, bool, pair, vec, seq, is_concrete, is_same}
 use Rattle.snesl_data.specs.Values.{Value, an_int, a_bool, a_pair, a_vec, a_seq, Values, no_values, more_values, list_of, values_of, HasType, AllHaveType}
-use Rattle.snesl_operators.specs.declared.scalar.Scalar.{Scalar}
-use Rattle.snesl_operators.specs.declared.scalar.Scalar.TheVariants.{Int, Bool as Truth}
-use Rattle.snesl_operators.specs.declared.operator.Reduction.{Reduction}
-use Rattle.snesl_operators.specs.declared.operator.Reduction.TheVariants.{Sum, Max, All, Any}
-use Rattle.snesl_operators.specs.Operators.{ranged, quotient, remainder, an_integer}
-use Rattle.snesl_operators.specs.Reductions.{reduction_of, reduction_from, reduced_more, reduced_all, reduced_nothing, and_then, some_of, scan_of, scan_from}
-use Rattle.snesl_operators.proofs.OperatorLaws.{rem_integer}
-use Rattle.snesl_operators.proofs.ReductionLaws.{nothing_range}
-use Rattle.snesl_tree.specs.declared.operator.Builtin.{Builtin}
-use Rattle.snesl_tree.specs.declared.operator.Builtin.TheVariants.{Iota, ScanAdd, ReduceAdd, ReduceMax, ReduceAnd, ReduceOr, Length, Concat, Part, The, Tab, Seq, Fst, Snd}
-use Rattle.snesl_tree.specs.declared.operator.Operator.{Operator}
-use Rattle.snesl_tree.specs.declared.operator.Operator.TheVariants.{Or, And, Equal, Less, AtMost, Greater, AtLeast, Append, Add, Subtract, Multiply, Divide as Over, Remainder, Index}
-use Rattle.snesl_tree.specs.declared.operator.Prefix.{Prefix}
-use Rattle.snesl_tree.specs.declared.operator.Prefix.TheVariants.{Negate, Not}
+use Rattle.snesl_data.specs.declared.operators.scalar.Scalar.{Scalar}
+use Rattle.snesl_data.specs.declared.operators.scalar.Scalar.TheVariants.{Int, Bool as Truth}
+use Rattle.snesl_data.specs.declared.operators.operator.Reduction.{Reduction}
+use Rattle.snesl_data.specs.declared.operators.operator.Reduction.TheVariants.{Sum, Max, All, Any}
+use Rattle.snesl_data.specs.operators.Operators.{ranged, quotient, remainder, an_integer}
+use Rattle.snesl_data.specs.operators.Reductions.{reduction_of, reduction_from, reduced_more, reduced_all, reduced_nothing, and_then, some_of, scan_of, scan_from}
+use Rattle.snesl_data.proofs.OfOperators.OperatorLaws.{rem_integer}
+use Rattle.snesl_data.proofs.OfOperators.ReductionLaws.{nothing_range}
+use Rattle.snesl_grammar.specs.declared.tree.operator.Builtin.{Builtin}
+use Rattle.snesl_grammar.specs.declared.tree.operator.Builtin.TheVariants.{Iota, ScanAdd, ReduceAdd, ReduceMax, ReduceAnd, ReduceOr, Length, Concat, Part, The, Tab, Seq, Fst, Snd}
+use Rattle.snesl_grammar.specs.declared.tree.operator.Operator.{Operator}
+use Rattle.snesl_grammar.specs.declared.tree.operator.Operator.TheVariants.{Or, And, Equal, Less, AtMost, Greater, AtLeast, Append, Add, Subtract, Multiply, Divide as Over, Remainder, Index}
+use Rattle.snesl_grammar.specs.declared.tree.operator.Prefix.{Prefix}
+use Rattle.snesl_grammar.specs.declared.tree.operator.Prefix.TheVariants.{Negate, Not}
 use Rattle.snesl_evaluation.specs.Answer.{Answer, gives, faults, go, go_all, go_join, or_fault, answer_at}
 use Rattle.snesl_evaluation.specs.Builtins.{int_at, truth_at, scalar_at, items_at, elements_at, each_at, sequence, seq_answer, scalar_answer}
 use Rattle.snesl_evaluation.specs.Builtins.{item_answer, append_answer, prefix_answer, binary_answer, numbers_below, iota_answer, reduce_answer}

@@ -7,10 +7,10 @@ use Rattle.snesl_data.specs.declared.refusal.Refusal.TheVariants.{Mismatch, Stre
 use Rattle.snesl_values.specs.Inputs.{InputDeclaration}
 use Rattle.snesl_data.specs.Integers.{is_integer}
 use Rattle.snesl_data.specs.Types.{Ty, int, bool, pair, vec, seq, is_concrete, is_same}
-use Rattle.snesl_tree.specs.declared.operator.Builtin.{Builtin}
-use Rattle.snesl_tree.specs.declared.operator.Builtin.TheVariants.{Tab}
-use Rattle.snesl_tree.specs.declared.span.Span.{Span}
-use Rattle.snesl_tree.specs.Tree.{Tree, Trees, Binders, Condition, each, none_bound, binder}
+use Rattle.snesl_grammar.specs.declared.tree.operator.Builtin.{Builtin}
+use Rattle.snesl_grammar.specs.declared.tree.operator.Builtin.TheVariants.{Tab}
+use Rattle.snesl_grammar.specs.declared.tree.span.Span.{Span}
+use Rattle.snesl_grammar.specs.tree.Tree.{Tree, Trees, Binders, Condition, each, none_bound, binder}
 use Rattle.snesl_types.specs.Contexts.{Context, names_context, inside, Signature, Signatures}
 use Rattle.snesl_types.specs.Forms.{result_of, tabs_streamed}
 use Rattle.snesl_types.specs.Sizes.{is_small}

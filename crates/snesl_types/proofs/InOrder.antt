@@ -4,9 +4,9 @@ use Rattle.snesl_data.specs.declared.refusal.Refusal.{Refusal}
 use Rattle.snesl_data.specs.declared.refusal.Refusal.TheVariants.{NoMemory}
 use Rattle.snesl_values.specs.Inputs.{InputDeclaration}
 use Rattle.snesl_data.specs.Types.{Ty}
-use Rattle.snesl_tree.specs.declared.expr.Expr.{Expr}
-use Rattle.snesl_tree.specs.declared.expr.Binder.{Binder}
-use Rattle.snesl_tree.specs.View.{tree_of, trees_of, binders_of}
+use Rattle.snesl_grammar.specs.declared.tree.expr.Expr.{Expr}
+use Rattle.snesl_grammar.specs.declared.tree.expr.Binder.{Binder}
+use Rattle.snesl_grammar.specs.tree.View.{tree_of, trees_of, binders_of}
 use Rattle.snesl_types.specs.declared.names.Scope.{Scope}
 use Rattle.snesl_types.specs.Names.{typed_in, all_typed_in, binders_typed_in}
 use Rattle.snesl_types.specs.Programs.{and_then}

@@ -9,8 +9,8 @@ use Rattle.snesl_data.specs.declared.fault.FaultKind.TheVariants.{Length as Leng
 use Rattle.snesl_values.specs.Inputs.{InputDeclaration, Environment, value_in, FitDeclarations}
 use Rattle.snesl_data.specs.Types.{Ty, bool, pair, seq, is_concrete}
 use Rattle.snesl_data.specs.Values.{Value, a_pair, HasType}
-use Rattle.snesl_tree.specs.Spelling.{spelling}
-use Rattle.snesl_tree.specs.Tree.{Tree, Trees, Binders, binder}
+use Rattle.snesl_grammar.specs.tree.Spelling.{spelling}
+use Rattle.snesl_grammar.specs.tree.Tree.{Tree, Trees, Binders, binder}
 use Rattle.snesl_evaluation.specs.Answer.{Answer, gives, faults, go, go_all, go_join, or_fault}
 use Rattle.snesl_evaluation.specs.Builtins.{truth_at, items_at, seq_answer, prefix_answer, binary_answer, applied}
 use Rattle.snesl_evaluation.specs.Eval.{Calls, value_named, kept, BoundItems, height, beside, rows_of, in_step, eval, eval_all, eval_binders}

@@ -10,17 +10,17 @@ use Rattle.snesl_data.specs.declared.ty.Ty.{Ty as TyTree}
 use Rattle.snesl_data.specs.Types.{Ty, bool, seq, ty_of, is_same}
 use Rattle.snesl_data.proofs.SameTypes.{and_true, same_of}
 use Rattle.snesl_values.specs.Inputs.{InputDeclaration}
-use Rattle.snesl_tree.specs.declared.operator.Builtin.{Builtin}
-use Rattle.snesl_tree.specs.declared.operator.Operator.{Operator}
-use Rattle.snesl_tree.specs.declared.operator.Prefix.{Prefix}
-use Rattle.snesl_tree.specs.declared.span.Span.{Span}
-use Rattle.snesl_tree.specs.declared.expr.Expr.{Expr}
-use Rattle.snesl_tree.specs.declared.expr.Binder.{Binder}
-use Rattle.snesl_tree.specs.View.{tree_of, trees_of, binders_of, declaration_of}
-use Rattle.snesl_tree.specs.declared.declaration.Declaration.{Declaration as Written}
-use Rattle.snesl_tree.specs.Spelling.{spelling}
-use Rattle.snesl_tree.specs.Tree.{Tree, Trees, Binders, Condition, binary, prefix, call, apply, choice, literal, filter, binding, each, always}
-use Rattle.snesl_tree.specs.Tree.{only_where, both, none, TypeTree, TypedName, DeclarationTree, declares_function, offset}
+use Rattle.snesl_grammar.specs.declared.tree.operator.Builtin.{Builtin}
+use Rattle.snesl_grammar.specs.declared.tree.operator.Operator.{Operator}
+use Rattle.snesl_grammar.specs.declared.tree.operator.Prefix.{Prefix}
+use Rattle.snesl_grammar.specs.declared.tree.span.Span.{Span}
+use Rattle.snesl_grammar.specs.declared.tree.expr.Expr.{Expr}
+use Rattle.snesl_grammar.specs.declared.tree.expr.Binder.{Binder}
+use Rattle.snesl_grammar.specs.tree.View.{tree_of, trees_of, binders_of, declaration_of}
+use Rattle.snesl_grammar.specs.declared.tree.declaration.Declaration.{Declaration as Written}
+use Rattle.snesl_grammar.specs.tree.Spelling.{spelling}
+use Rattle.snesl_grammar.specs.tree.Tree.{Tree, Trees, Binders, Condition, binary, prefix, call, apply, choice, literal, filter, binding, each, always}
+use Rattle.snesl_grammar.specs.tree.Tree.{only_where, both, none, TypeTree, TypedName, DeclarationTree, declares_function, offset}
 use Rattle.snesl_types.specs.declared.clashes.Clash.{Clash as Told}
 use Rattle.snesl_types.specs.declared.names.Scope.{Scope}
 use Rattle.snesl_types.specs.Contexts.{Context, bound, names_context, inside, Signature, Signatures, function_named}

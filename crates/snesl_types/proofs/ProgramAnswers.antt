@@ -8,11 +8,11 @@ use Rattle.snesl_data.specs.declared.refusal.Refusal.{Refusal}
 use Rattle.snesl_data.specs.declared.refusal.Refusal.TheVariants.{Name, Mismatch, TooBig}
 use Rattle.snesl_values.specs.Inputs.{InputDeclaration}
 use Rattle.snesl_data.specs.Types.{Ty}
-use Rattle.snesl_tree.specs.declared.span.Span.{Span}
-use Rattle.snesl_tree.specs.Spelling.{spelling}
-use Rattle.snesl_tree.specs.Tree.{Tree, Trees, Binders, Condition, integer, truth, name, binary, prefix, call, apply, group, pair as pair_tree}
-use Rattle.snesl_tree.specs.Tree.{binding, choice, literal, filter, each, none, both, none_bound, binder, always, only_where, TypeTree, TypedName}
-use Rattle.snesl_tree.specs.Tree.{DeclarationTree, ProgramTree}
+use Rattle.snesl_grammar.specs.declared.tree.span.Span.{Span}
+use Rattle.snesl_grammar.specs.tree.Spelling.{spelling}
+use Rattle.snesl_grammar.specs.tree.Tree.{Tree, Trees, Binders, Condition, integer, truth, name, binary, prefix, call, apply, group, pair as pair_tree}
+use Rattle.snesl_grammar.specs.tree.Tree.{binding, choice, literal, filter, each, none, both, none_bound, binder, always, only_where, TypeTree, TypedName}
+use Rattle.snesl_grammar.specs.tree.Tree.{DeclarationTree, ProgramTree}
 use Rattle.snesl_types.specs.Contexts.{type_in, Signature, Signatures}
 use Rattle.snesl_types.specs.Sizes.{BodySizes, body_size, size, size_of_all, size_of_binders, size_of_condition, greatest_size}
 use Rattle.snesl_types.specs.Programs.{and_then, written_type, Declared, with_function, typed_name, NamesType, no_names, more_names, NamesViolate}

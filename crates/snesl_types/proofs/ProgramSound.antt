@@ -7,9 +7,9 @@ use Rattle.snesl_data.specs.declared.refusal.Refusal.{Refusal}
 use Rattle.snesl_data.specs.declared.refusal.Refusal.TheVariants.{Name, Mismatch, TooBig, NoMemory}
 use Rattle.snesl_values.specs.Inputs.{InputDeclaration}
 use Rattle.snesl_data.specs.Types.{Ty, is_same}
-use Rattle.snesl_tree.specs.declared.span.Span.{Span}
-use Rattle.snesl_tree.specs.Spelling.{spelling}
-use Rattle.snesl_tree.specs.Tree.{Tree, TypeTree, TypedName, DeclarationTree, declares_input, declares_function, ProgramTree}
+use Rattle.snesl_grammar.specs.declared.tree.span.Span.{Span}
+use Rattle.snesl_grammar.specs.tree.Spelling.{spelling}
+use Rattle.snesl_grammar.specs.tree.Tree.{Tree, TypeTree, TypedName, DeclarationTree, declares_input, declares_function, ProgramTree}
 use Rattle.snesl_types.specs.Contexts.{names_context, type_in, Signature, Signatures, function_named}
 use Rattle.snesl_types.specs.Sizes.{size, greatest_size}
 use Rattle.snesl_types.specs.Ranges.{IsInRange, DeclarationsInRange, ProgramInRange}

@@ -7,9 +7,9 @@ use Rattle.std.specs.Str.{bytes_eq}
 use Rattle.snesl_data.specs.declared.dialect.Dialect.{Dialect}
 use Rattle.snesl_values.specs.Inputs.{InputDeclaration, Environment, FitDeclarations}
 use Rattle.snesl_data.specs.Values.{Value, HasType}
-use Rattle.snesl_tree.specs.declared.span.Span.{Span}
-use Rattle.snesl_tree.specs.Spelling.{spelling}
-use Rattle.snesl_tree.specs.Tree.{Tree, TypeTree, TypedName, DeclarationTree, declares_input, declares_function}
+use Rattle.snesl_grammar.specs.declared.tree.span.Span.{Span}
+use Rattle.snesl_grammar.specs.tree.Spelling.{spelling}
+use Rattle.snesl_grammar.specs.tree.Tree.{Tree, TypeTree, TypedName, DeclarationTree, declares_input, declares_function}
 use Rattle.snesl_evaluation.specs.Answer.{gives}
 use Rattle.snesl_evaluation.specs.Eval.{Calls, eval, no_calls, parameters_with, function_answer, with_declaration, calls_after}
 use Rattle.snesl_types.specs.Contexts.{names_context, Signature, Signatures, function_named}

@@ -4,13 +4,13 @@ use Rattle.std.specs.Result.{IsErr, IsErrAnd}
 use Rattle.snesl_data.specs.declared.refusal.Refusal.{Refusal}
 use Rattle.snesl_data.specs.declared.refusal.Refusal.TheVariants.{NoMemory}
 use Rattle.snesl_data.specs.declared.ty.Ty.{Ty as TyTree}
-use Rattle.snesl_values.specs.Inputs.{InputDeclaration}
+use Rattle.snesl_values.specs.Inputs.{InputDeclaration, declared}
 use Rattle.snesl_data.specs.Types.{Ty, ty_of}
-use Rattle.snesl_tree.specs.declared.expr.Expr.{Expr, Each}
-use Rattle.snesl_tree.specs.declared.expr.Binder.{Binder}
-use Rattle.snesl_tree.specs.Tree.{Tree, Binders, Condition, each, always, only_where}
-use Rattle.snesl_tree.specs.View.{tree_of, binders_of}
-use Rattle.snesl_tree.proofs.Arguments.{binders_row}
+use Rattle.snesl_grammar.specs.declared.tree.expr.Expr.{Expr, Each}
+use Rattle.snesl_grammar.specs.declared.tree.expr.Binder.{Binder}
+use Rattle.snesl_grammar.specs.tree.Tree.{Tree, Binders, Condition, each, always, only_where}
+use Rattle.snesl_grammar.specs.tree.View.{tree_of, binders_of}
+use Rattle.snesl_grammar.proofs.OfTree.Arguments.{binders_row}
 use Rattle.snesl_types.specs.declared.names.Scope.{Scope}
 use Rattle.snesl_types.specs.Verdicts.{verdict, condition_verdict, IsVerdict, both_of, of_each}
 use Rattle.snesl_types.specs.Contexts.{Context, names_context, inside}
@@ -29,6 +29,16 @@ pub record Within (inner scope : Scope) (context : Context) : Type 0 where
   pub text : inner.text.now ≡ scope.text.now
   pub functions : inner.functions.now ≡ scope.functions.now
   pub names : context_of inner.text.now inner.names.now ≡ context
+
+-- a scope that has other names alone, as code makes it
+pub within_names : (inner scope : Scope) (names : List ℕ → Context) → inner.dialect ≡ scope.dialect → inner.text.now ≡ scope.text.now
+    → inner.functions.now ≡ scope.functions.now → context_of inner.text.now inner.names.now ≡ names inner.text.now → Within inner scope (names scope.text.now)
+within_names inner scope names dialect text functions held = record { dialect = dialect; text = text; functions = functions; names = held ∙ ap names text }
+
+-- the elements of binders, in both as code holds them
+pub bound_items : (scope : Scope) {held binders : List Binder} {items given : List (Vec ℕ Global × TyTree)} → held ≡ binders
+    → binders_typed_in scope [] (binders_of held) ≡ Ok (declared given) → items ≡ given → binders_typed_in scope [] (binders_of binders) ≡ Ok (declared items)
+bound_items scope same is kept = ap (λ l. binders_typed_in scope [] (binders_of l)) (sym same) ∙ is ∙ ap (λ l. Ok (declared l)) (sym kept)
 
 abbrev verdict_at : Scope → Context → Tree → Result Ty Refusal
 verdict_at scope context tree = verdict scope.dialect scope.text.now (signatures_in scope.text.now scope.functions.now) context tree

@@ -16,9 +16,9 @@ pub mod Misfitting
 pub use Rattle.snesl_data.specs.declared.refusal.Refusal
 pub use Rattle.snesl_values.specs.Inputs
 pub use Rattle.snesl_data.specs.Types
-pub use Rattle.snesl_tree.specs.Tree
-pub use Rattle.snesl_tree.specs.Spelling
-pub use Rattle.snesl_tree.specs.View
+pub use Rattle.snesl_grammar.specs.tree.Tree
+pub use Rattle.snesl_grammar.specs.tree.Spelling
+pub use Rattle.snesl_grammar.specs.tree.View
 pub use Rattle.snesl_grammar.specs.declared.program.Program
 pub use Rattle.snesl_grammar.specs.View as GrammarView
 pub use Rattle.snesl_evaluation.specs.Eval

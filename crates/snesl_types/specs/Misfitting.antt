@@ -6,13 +6,13 @@ use Rattle.snesl_data.specs.declared.refusal.Refusal.TheVariants.{Mismatch}
 use Rattle.snesl_data.specs.declared.ty.Ty.{Ty as TyTree}
 use Rattle.snesl_data.specs.Types.{Ty, seq}
 use Rattle.snesl_values.specs.Inputs.{InputDeclaration}
-use Rattle.snesl_tree.specs.Tree.{Tree, Trees, Binders, Condition, always, only_where, binding, each, TypeTree, DeclarationTree}
-use Rattle.snesl_tree.specs.declared.declaration.Declaration.{Declaration}
-use Rattle.snesl_tree.specs.declared.declaration.Function.{Function as WrittenFunction}
-use Rattle.snesl_tree.specs.declared.expr.Binder.{Binder}
-use Rattle.snesl_tree.specs.declared.expr.Expr.{Expr}
-use Rattle.snesl_tree.specs.declared.span.Span.{Span}
-use Rattle.snesl_tree.specs.View.{tree_of, binders_of, type_tree, typed_of, declaration_of}
+use Rattle.snesl_grammar.specs.tree.Tree.{Tree, Trees, Binders, Condition, always, only_where, binding, each, TypeTree, DeclarationTree}
+use Rattle.snesl_grammar.specs.declared.tree.declaration.Declaration.{Declaration}
+use Rattle.snesl_grammar.specs.declared.tree.declaration.Function.{Function as WrittenFunction}
+use Rattle.snesl_grammar.specs.declared.tree.expr.Binder.{Binder}
+use Rattle.snesl_grammar.specs.declared.tree.expr.Expr.{Expr}
+use Rattle.snesl_grammar.specs.declared.tree.span.Span.{Span}
+use Rattle.snesl_grammar.specs.tree.View.{tree_of, binders_of, type_tree, typed_of, declaration_of}
 use Rattle.snesl_grammar.specs.declared.program.Program.{Program}
 use Rattle.snesl_grammar.specs.Spelled.{program_with}
 use Rattle.snesl_grammar.specs.View.{program_of as tree_of_program}

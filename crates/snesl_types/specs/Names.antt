@@ -6,11 +6,11 @@ use Rattle.snesl_data.specs.declared.refusal.Refusal.{Refusal}
 use Rattle.snesl_data.specs.declared.ty.Ty.{Ty as TyTree}
 use Rattle.snesl_data.specs.Types.{Ty, ty_of}
 use Rattle.snesl_values.specs.Inputs.{InputDeclaration, declared}
-use Rattle.snesl_tree.specs.declared.span.Span.{Span}
-use Rattle.snesl_tree.specs.Spelling.{spelling}
-use Rattle.snesl_tree.specs.Tree.{Tree, Trees, Binders, Condition, always, only_where}
-use Rattle.snesl_tree.specs.declared.expr.Expr.{Expr}
-use Rattle.snesl_tree.specs.View.{tree_of}
+use Rattle.snesl_grammar.specs.declared.tree.span.Span.{Span}
+use Rattle.snesl_grammar.specs.tree.Spelling.{spelling}
+use Rattle.snesl_grammar.specs.tree.Tree.{Tree, Trees, Binders, Condition, always, only_where}
+use Rattle.snesl_grammar.specs.declared.tree.expr.Expr.{Expr}
+use Rattle.snesl_grammar.specs.tree.View.{tree_of}
 use Rattle.snesl_types.specs.declared.names.Names.{Names}
 use Rattle.snesl_types.specs.declared.names.Names.TheVariants.{Declared, Bound', Inside'}
 use Rattle.snesl_types.specs.declared.names.Meaning.{Meaning}

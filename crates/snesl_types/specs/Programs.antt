@@ -5,9 +5,9 @@ use Rattle.snesl_data.specs.declared.refusal.Refusal.{Refusal}
 use Rattle.snesl_data.specs.declared.refusal.Refusal.TheVariants.{Name, Mismatch, Streamed, TooBig, NoMemory}
 use Rattle.snesl_values.specs.Inputs.{InputDeclaration}
 use Rattle.snesl_data.specs.Types.{Ty, int, bool, pair, vec, seq, is_concrete}
-use Rattle.snesl_tree.specs.declared.span.Span.{Span}
-use Rattle.snesl_tree.specs.Spelling.{spelling}
-use Rattle.snesl_tree.specs.Tree.{Tree, TypeTree, int_type, bool_type, pair_type, vector_type, sequence_type, TypedName, DeclarationTree, declares_input, declares_function, ProgramTree}
+use Rattle.snesl_grammar.specs.declared.tree.span.Span.{Span}
+use Rattle.snesl_grammar.specs.tree.Spelling.{spelling}
+use Rattle.snesl_grammar.specs.tree.Tree.{Tree, TypeTree, int_type, bool_type, pair_type, vector_type, sequence_type, TypedName, DeclarationTree, declares_input, declares_function, ProgramTree}
 use Rattle.snesl_types.specs.Contexts.{names_context, declared_types, type_in, Signature, Signatures, function_named}
 use Rattle.snesl_types.specs.Sizes.{BodySizes, is_small, size, greatest_size, greatest_count}
 use Rattle.snesl_types.specs.Ranges.{ProgramInRange}

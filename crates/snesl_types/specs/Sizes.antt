@@ -2,9 +2,9 @@
 use Rattle.std.specs.Prelude.{ℕ, suc, ◌+◌, nat_le, Bool, if◌then◌else◌, List, [], ◌∷◌}
 use Rattle.std.specs.Str.{bytes_eq}
 use Rattle.snesl_data.specs.Types.{Ty, int, bool, pair, vec, seq}
-use Rattle.snesl_tree.specs.Spelling.{spelling}
-use Rattle.snesl_tree.specs.Tree.{Tree, Trees, Binders, Condition, integer, truth, name, binary, prefix, call, apply, group, pair as pair_tree}
-use Rattle.snesl_tree.specs.Tree.{binding, choice, literal, filter, each, none, both, none_bound, binder, always, only_where}
+use Rattle.snesl_grammar.specs.tree.Spelling.{spelling}
+use Rattle.snesl_grammar.specs.tree.Tree.{Tree, Trees, Binders, Condition, integer, truth, name, binary, prefix, call, apply, group, pair as pair_tree}
+use Rattle.snesl_grammar.specs.tree.Tree.{binding, choice, literal, filter, each, none, both, none_bound, binder, always, only_where}
 
 -- how often `int`, `bool`, pairs, vectors and sequences occur in a type
 abbrev pub type_size : Ty → ℕ

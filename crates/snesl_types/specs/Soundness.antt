@@ -7,7 +7,7 @@ use Rattle.snesl_data.specs.declared.fault.FaultKind.TheVariants.{Shape}
 use Rattle.snesl_data.specs.Types.{Ty}
 use Rattle.snesl_data.specs.Values.{Value, value_of, HasType}
 use Rattle.snesl_values.specs.Inputs.{Environment, FitDeclarations}
-use Rattle.snesl_tree.specs.Tree.{Tree, ProgramTree}
+use Rattle.snesl_grammar.specs.tree.Tree.{Tree, ProgramTree}
 use Rattle.snesl_evaluation.specs.Answer.{Answer, gives, faults}
 use Rattle.snesl_evaluation.specs.Eval.{Calls, eval, program_value}
 use Rattle.snesl_types.specs.Contexts.{Binding, open_to, shut, Context, Signature, Signatures, function_named}

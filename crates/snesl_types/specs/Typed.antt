@@ -8,7 +8,7 @@ use Rattle.snesl_data.specs.Types.{Ty, ty_of}
 use Rattle.snesl_values.specs.declared.environment.Inputs.{Inputs}
 use Rattle.snesl_values.specs.Inputs.{InputDeclaration, Environment, declared, declarations_of, dialect_of}
 use Rattle.snesl_grammar.specs.declared.program.Program.{Program}
-use Rattle.snesl_tree.specs.Tree.{ProgramTree}
+use Rattle.snesl_grammar.specs.tree.Tree.{ProgramTree}
 use Rattle.snesl_grammar.specs.View.{program_of as tree_of_program}
 use Rattle.snesl_evaluation.specs.Eval.{program_value}
 use Rattle.snesl_evaluation.specs.Results.{IsAnswer}

@@ -5,13 +5,13 @@ use Rattle.snesl_data.specs.declared.refusal.Refusal.{Refusal}
 use Rattle.snesl_data.specs.declared.refusal.Refusal.TheVariants.{Name, Mismatch, Streamed, TooBig}
 use Rattle.snesl_values.specs.Inputs.{InputDeclaration}
 use Rattle.snesl_data.specs.Types.{Ty, bool, seq}
-use Rattle.snesl_tree.specs.declared.operator.Builtin.{Builtin}
-use Rattle.snesl_tree.specs.declared.operator.Operator.{Operator}
-use Rattle.snesl_tree.specs.declared.operator.Prefix.{Prefix}
-use Rattle.snesl_tree.specs.declared.span.Span.{Span}
-use Rattle.snesl_tree.specs.Spelling.{spelling}
-use Rattle.snesl_tree.specs.Tree.{Tree, Trees, Binders, Condition, name, binary, prefix, call, apply, group, pair as pair_tree, binding, choice}
-use Rattle.snesl_tree.specs.Tree.{literal, filter, each, both, none_bound, binder, only_where}
+use Rattle.snesl_grammar.specs.declared.tree.operator.Builtin.{Builtin}
+use Rattle.snesl_grammar.specs.declared.tree.operator.Operator.{Operator}
+use Rattle.snesl_grammar.specs.declared.tree.operator.Prefix.{Prefix}
+use Rattle.snesl_grammar.specs.declared.tree.span.Span.{Span}
+use Rattle.snesl_grammar.specs.tree.Spelling.{spelling}
+use Rattle.snesl_grammar.specs.tree.Tree.{Tree, Trees, Binders, Condition, name, binary, prefix, call, apply, group, pair as pair_tree, binding, choice}
+use Rattle.snesl_grammar.specs.tree.Tree.{literal, filter, each, both, none_bound, binder, only_where}
 use Rattle.snesl_types.specs.Contexts.{shut, Context, bound, names_context, found, inside, type_in, Signature, Signatures, function_named}
 use Rattle.snesl_types.specs.Forms.{operator_result, prefix_result, result_of, tabs_streamed}
 use Rattle.snesl_types.specs.Sizes.{is_small}

@@ -2,12 +2,12 @@
 
 ghost use Rattle.std.specs.Prelude.{◌≡◌, [], ◌∷◌, map};
 ghost use Rattle.snesl_data.specs.Types.{ty_of, int, bool, pair, vec, seq};
-ghost use Rattle.snesl_tree.specs.declared.operator.Builtin.TheVariants.{Tab};
+ghost use Rattle.snesl_grammar.specs.declared.tree.operator.Builtin.TheVariants.{Tab};
 ghost use Rattle.snesl_types.specs.Verdicts.{IsType, of_builtin};
 
 use crate::forms::sequence_of;
 use snesl_data::{Refusal, Ty, copy_ty};
-use snesl_tree::Builtin;
+use snesl_grammar::tree::Builtin;
 use std::alloc::Global;
 
 // The type of a built-in's result.

@@ -4,7 +4,7 @@ ghost use Rattle.std.specs.Prelude.{◌≡◌, IfOk, IfErr};
 ghost use Rattle.snesl_types.specs.Programs.{HaveOneTyping, HaveSomeTyping};
 ghost use Rattle.snesl_types.specs.Typed.{program_of, HasTypingIn, IsFirstViolationIn, IsMemoryIfTypedIn};
 ghost use Rattle.snesl_types.specs.Views.{IsTyping, IsFinalType};
-ghost use Rattle.snesl_tree.specs.View.{tree_of};
+ghost use Rattle.snesl_grammar.specs.tree.View.{tree_of};
 
 use crate::declarations::{Declarations, declarations_of, few};
 use crate::expressions::type_of;
@@ -13,7 +13,7 @@ use crate::sizes::size_of;
 use crate::typed::TypedProgram;
 use snesl_data::{Dialect, Refusal, Ty};
 use snesl_grammar::Program;
-use snesl_tree::Expr;
+use snesl_grammar::tree::Expr;
 use std::alloc::Global;
 
 /// The greatest size of the final expression with its calls written out.

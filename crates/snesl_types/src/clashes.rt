@@ -1,7 +1,7 @@
 // The types that stand where types do not fit.
 
 ghost use Rattle.std.specs.Prelude.{◌≡◌, ◌<◌, length, Ok, None, IfOk, IsSome, IsTrue};
-ghost use Rattle.snesl_tree.specs.View.{tree_of, trees_of, binders_of};
+ghost use Rattle.snesl_grammar.specs.tree.View.{tree_of, trees_of, binders_of};
 ghost use Rattle.snesl_types.specs.Views.{two_trees, three_trees};
 ghost use Rattle.snesl_types.specs.Clashes.{IsFound, seen_parts, sources};
 ghost use Rattle.snesl_types.specs.Misfitting.{ClashesIn, AnyClashesIn, ConditionClashesIn, BoundClashesIn, FinalClashes, FunctionClashesIn, DeclarationClashesIn, WrittenClashes, ProgramClashesIn, BodyMisfitsIn};
@@ -13,7 +13,7 @@ use crate::misfits::{misfit, source_misfit};
 use crate::names::{Function, Names, Scope};
 use snesl_data::{Dialect, Refusal, Ty};
 use snesl_grammar::Program;
-use snesl_tree::{Binder, Declaration, Expr, Function as WrittenFunction, Span};
+use snesl_grammar::tree::{Binder, Declaration, Expr, Function as WrittenFunction, Span};
 use std::alloc::{AllocError, Global};
 
 /// The types that stand where types do not fit.

@@ -2,7 +2,7 @@
 
 ghost use Rattle.std.specs.Prelude.{◌≡◌, [], map, IfOk};
 ghost use Rattle.snesl_values.specs.Inputs.{declaration_of};
-ghost use Rattle.snesl_tree.specs.View.{tree_of, type_tree, typed_of, declaration_of as declaration_tree};
+ghost use Rattle.snesl_grammar.specs.tree.View.{tree_of, type_tree, typed_of, declaration_of as declaration_tree};
 ghost use Rattle.snesl_types.specs.Names.{HasBodySize};
 ghost use Rattle.snesl_types.specs.Programs.{written_type, are_few};
 ghost use Rattle.snesl_types.specs.Verdicts.{IsVerdict, IsType, names_verdict};
@@ -13,7 +13,7 @@ use crate::forms::{pair_of, sequence_of, small};
 use crate::names::{Function, Names, Scope, function_named, type_in};
 use crate::sizes::size_of;
 use snesl_data::{Dialect, Refusal, Ty};
-use snesl_tree::{Declaration, Function as WrittenFunction, Typing, WrittenType};
+use snesl_grammar::tree::{Declaration, Function as WrittenFunction, Typing, WrittenType};
 use std::alloc::Global;
 
 /// The greatest number of functions, and of inputs.

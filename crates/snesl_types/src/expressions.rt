@@ -2,7 +2,7 @@
 
 ghost use Rattle.std.specs.Prelude.{[], map};
 ghost use Rattle.snesl_data.specs.Types.{ty_of};
-ghost use Rattle.snesl_tree.specs.View.{tree_of, trees_of, binders_of};
+ghost use Rattle.snesl_grammar.specs.tree.View.{tree_of, trees_of, binders_of};
 ghost use Rattle.snesl_types.specs.Verdicts.{IsVerdict, IsType, of_binding, of_function, of_binder};
 ghost use Rattle.snesl_types.specs.Names.{typed_in, AreTyped, ruled_in, all_typed_in, binders_typed_in, condition_typed_in, condition_in, binding_in, callee_in};
 ghost use Rattle.snesl_types.specs.Views.{held_types, held_names, binding_of, if_of};
@@ -14,7 +14,7 @@ use crate::forms::{
 };
 use crate::names::{Meaning, Names, Scope, function_named, look_up, type_in};
 use snesl_data::{Refusal, Ty, copy_ty};
-use snesl_tree::{Binder, Expr, Span};
+use snesl_grammar::tree::{Binder, Expr, Span};
 use std::alloc::Global;
 
 // The type of an expression.

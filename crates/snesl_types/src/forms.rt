@@ -3,14 +3,14 @@
 ghost use Rattle.std.specs.Prelude.{◌≡◌, ◌+◌, ◌<◌, map, Ok, IfSome, IfNone};
 ghost use Rattle.snesl_data.specs.Types.{ty_of, int, bool, pair, vec, seq, is_same};
 ghost use Rattle.snesl_values.specs.Inputs.{declared};
-ghost use Rattle.snesl_tree.specs.View.{binders_of};
+ghost use Rattle.snesl_grammar.specs.tree.View.{binders_of};
 ghost use Rattle.snesl_types.specs.Contexts.{declared_types};
 ghost use Rattle.snesl_types.specs.Programs.{small_type};
 ghost use Rattle.snesl_types.specs.Sizes.{type_size};
 ghost use Rattle.snesl_types.specs.Verdicts.{IsType, of_operator, of_prefix, are_same, all_same as all_are, of_items, of_choice, of_filter, of_each};
 
 use snesl_data::{Refusal, Ty, copy_ty};
-use snesl_tree::{Binder, Operator, Prefix};
+use snesl_grammar::tree::{Binder, Operator, Prefix};
 use std::alloc::Global;
 
 /// The greatest size of a type.

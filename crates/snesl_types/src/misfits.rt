@@ -3,8 +3,8 @@
 ghost use Rattle.std.specs.Prelude.{◌≡◌, IfOk, IsTrue};
 ghost use Rattle.snesl_data.specs.Types.{ty_of, bool, is_same};
 ghost use Rattle.snesl_values.specs.Inputs.{declared};
-ghost use Rattle.snesl_tree.specs.Tree.{prefix, call, apply, literal};
-ghost use Rattle.snesl_tree.specs.View.{tree_of, trees_of, binders_of};
+ghost use Rattle.snesl_grammar.specs.tree.Tree.{prefix, call, apply, literal};
+ghost use Rattle.snesl_grammar.specs.tree.View.{tree_of, trees_of, binders_of};
 ghost use Rattle.snesl_types.specs.Clashes.{IsFound};
 ghost use Rattle.snesl_types.specs.Misfitting.{IsMismatch, MisfitsIn, EachMisfitsIn, SourceMisfitsIn, IsNoSequence, is_sequence};
 ghost use Rattle.snesl_types.specs.Contexts.{declared_types};
@@ -18,7 +18,7 @@ use crate::expressions::{binder_types, type_of, types_of};
 use crate::forms::{arguments_fit, literal_type, operator_type, prefix_type};
 use crate::names::{Names, Scope, function_named};
 use snesl_data::{Refusal, Ty, copy_ty};
-use snesl_tree::{Binder, Builtin, Expr, Operator, Prefix, Span};
+use snesl_grammar::tree::{Binder, Builtin, Expr, Operator, Prefix, Span};
 use std::alloc::{AllocError, Global};
 
 // The types of the parts of an expression to which its own rule gives none. A refusal is that of a part,

@@ -7,7 +7,7 @@ ghost use Rattle.snesl_types.specs.Contexts.{open_to, type_in as type_among};
 ghost use Rattle.snesl_types.specs.Names.{found_binding, binding_named, seen, found_signature, signature_named};
 
 use snesl_data::{Dialect, Ty};
-use snesl_tree::Span;
+use snesl_grammar::tree::Span;
 
 // What a call sees of a declared function: its name, its parameters with their types, and the type of its result.
 #[derive(Debug, Drop)]

@@ -1,14 +1,14 @@
 // Sizes of expressions with their calls written out.
 
 ghost use Rattle.std.specs.Prelude.{◌≡◌, ◌+◌};
-ghost use Rattle.snesl_tree.specs.Spelling.{spelling};
-ghost use Rattle.snesl_tree.specs.View.{tree_of, trees_of, binders_of};
+ghost use Rattle.snesl_grammar.specs.tree.Spelling.{spelling};
+ghost use Rattle.snesl_grammar.specs.tree.View.{tree_of, trees_of, binders_of};
 ghost use Rattle.snesl_types.specs.Sizes.{body_size as size_named};
 ghost use Rattle.snesl_types.specs.Names.{condition_in, sizes_in, size_in, all_sizes_in, binders_size_in, condition_size_in};
 ghost use Rattle.snesl_types.specs.Verdicts.{capped};
 
 use crate::names::Function;
-use snesl_tree::{Binder, Expr, Span};
+use snesl_grammar::tree::{Binder, Expr, Span};
 
 /// One more than the greatest size of the final expression; it stands for all greater sizes too.
 const OVER: usize = 65_537;

@@ -8,9 +8,9 @@ use Rattle.snesl_values.specs.declared.inputs.InputError.{InputError}
 use Rattle.snesl_values.specs.declared.inputs.InputError.TheVariants.{Bad, NoMemory}
 use Rattle.snesl_data.specs.Types.{Ty, int, bool, pair, vec, seq}
 use Rattle.snesl_data.specs.Values.{Value, an_int, a_bool, a_pair, a_vec, a_seq, Values, no_values, more_values, HasType, AllHaveType}
-use Rattle.snesl_values.specs.InputTokens.{Token, word, integer, sign, next_at, next_token, HasTokens, none}
+use Rattle.snesl_values.specs.InputTokens.{Token, word, integer, sign, next_at, next_token, HasTokens, none, IsNextToken}
 use Rattle.snesl_values.specs.Inputs.{value_tokens, items_tokens, further_tokens, left_paren, right_paren, comma, left_bracket, right_bracket, left_brace, right_brace, StopsAt}
-use Rattle.snesl_values.specs.Wants.{ToCome, one, perhaps, a_value, items, further_items, Fills, IsStop}
+use Rattle.snesl_values.specs.Wants.{ToCome, one, perhaps, a_value, items, further_items, Fills, IsStop, IsValueRead}
 use Rattle.snesl_values.proofs.InputReads.{stops_after, stops_unless, stops_first}
 
 -- the signs that close items
@@ -373,9 +373,55 @@ pub passed_on : {A : Type 0} (P : InputError → Type 0) (r : Result A InputErro
 passed_on P (Ok x) e h p = tt
 passed_on P (Err x) e h p = subst P (sym h) p
 
--- the error of a part, as that of the whole
-pub stop_of : (dialect : Dialect) → (text : List ℕ) (part whole : List ToCome) (place from : ℕ) (e : InputError)
-    → ((n : ℕ) → ((further : List ToCome) → StopsAt (Fills dialect (part ++ further)) text place n) → (further : List ToCome) → StopsAt (Fills dialect (whole ++ further)) text from n)
-    → IsStop dialect part text place e → IsStop dialect whole text from e
-stop_of dialect text part whole place from (Bad n) f h = f n h
-stop_of dialect text part whole place from NoMemory f h = tt
+-- of what a whole wants from an offset on these wants are left at this place
+pub record Leaves (dialect : Dialect) (text : List ℕ) (whole : List ToCome) (from : ℕ) (left : List ToCome) (place : ℕ) : Type 0 where
+  pub stops : (n : ℕ) (further : List ToCome) → StopsAt (Fills dialect (left ++ further)) text place n → StopsAt (Fills dialect (whole ++ further)) text from n
+
+module _ {dialect : Dialect} {text : List ℕ} where
+  -- at first all are left
+  pub leaves_all : {whole : List ToCome} {from : ℕ} → Leaves dialect text whole from whole from
+  leaves_all = record { stops = λ n further s. s }
+
+  pub leaves_pair : {a b : Ty} {from : ℕ} → Leaves dialect text (a_value (pair a b) ∷ []) from (one left_paren ∷ a_value a ∷ one comma ∷ a_value b ∷ one right_paren ∷ []) from
+  leaves_pair {a = a} {b = b} {from = from} = record { stops = λ n further. pair_stops dialect text a b further from n }
+
+  pub leaves_vec : {a t : Ty} {from : ℕ} → vec a ≡ t → Leaves dialect text (a_value t ∷ []) from (one left_bracket ∷ items a 93 ∷ []) from
+  leaves_vec {a = a} {from = from} same =
+      subst (λ u. Leaves dialect text (a_value u ∷ []) from (one left_bracket ∷ items a 93 ∷ []) from) same (record { stops = λ n further. vec_stops dialect text a further from n })
+
+  pub leaves_seq : {a t : Ty} {from : ℕ} → seq a ≡ t → Leaves dialect text (a_value t ∷ []) from (one left_brace ∷ items a 125 ∷ []) from
+  leaves_seq {a = a} {from = from} same =
+      subst (λ u. Leaves dialect text (a_value u ∷ []) from (one left_brace ∷ items a 125 ∷ []) from) same (record { stops = λ n further. seq_stops dialect text a further from n })
+
+  module _ {whole left : List ToCome} {from place next : ℕ} where
+    -- a token, a value or the first of the items less
+    pub past_one : {t : Token} → Leaves dialect text whole from (one t ∷ left) place → IsNextToken text place t next → Leaves dialect text whole from left next
+    past_one {t = t} l taken = record { stops = λ n further s. l.stops n further (after_one dialect text t (left ++ further) place next n taken.reads s) }
+
+    pub past_value : {t : Ty} {v : Value} → Leaves dialect text whole from (a_value t ∷ left) place → IsValueRead dialect text place t v next → Leaves dialect text whole from left next
+    past_value {t = t} {v = v} l read =
+        record { stops = λ n further s. l.stops n further (after_value dialect text t v (left ++ further) place next n read.has_type read.reads s) }
+
+  module _ {whole left : List ToCome} {from place : ℕ} {t : Ty} {close : ℕ} where
+    pub at_first_item : Leaves dialect text whole from (items t close ∷ left) place → (next_token text place ≡ Some (sign close) → ⊥)
+        → Leaves dialect text whole from (a_value t ∷ further_items t close ∷ left) place
+    at_first_item l another = record { stops = λ n further s. l.stops n further (first_item dialect text t close (left ++ further) place n another s) }
+
+    pub at_later_item : Leaves dialect text whole from (further_items t close ∷ left) place → (next_token text place ≡ Some (sign close) → ⊥)
+        → Leaves dialect text whole from (one comma ∷ a_value t ∷ further_items t close ∷ left) place
+    at_later_item l another = record { stops = λ n further s. l.stops n further (later_item dialect text t close (left ++ further) place n another s) }
+
+  -- where a part that is wanted next stops, the whole stops
+  pub stops_part : {whole left : List ToCome} {part : ToCome} {from place : ℕ} → Leaves dialect text whole from (part ∷ left) place
+      → (n : ℕ) → ((further : List ToCome) → StopsAt (Fills dialect (part ∷ further)) text place n)
+      → (further : List ToCome) → StopsAt (Fills dialect (whole ++ further)) text from n
+  stops_part {left = left} l n s further = l.stops n further (s (left ++ further))
+
+  -- and its error is one of the whole, after a `?` too
+  pub stop_passed : {A : Type 0} {whole left : List ToCome} {part : ToCome} {from place : ℕ} → Leaves dialect text whole from (part ∷ left) place
+      → (r : Result A InputError) (e : InputError) → IsErrAnd r (λ x. x ≡ e) → IsStop dialect (part ∷ []) text place e → IfErr r (IsStop dialect whole text from)
+  stop_passed {whole = whole} {left = left} {part = part} {from = from} {place = place} l r e h s = passed_on (IsStop dialect whole text from) r e h (by_error e s)
+    where
+      by_error : (e : InputError) → IsStop dialect (part ∷ []) text place e → IsStop dialect whole text from e
+      by_error (Bad n) s = stops_part l n s
+      by_error NoMemory s = tt

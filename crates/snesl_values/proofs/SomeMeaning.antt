@@ -9,12 +9,13 @@ use Rattle.snesl_data.specs.Types.{Ty, int, bool, pair, vec, seq}
 use Rattle.snesl_data.specs.Values.{Value, an_int, a_bool, a_pair, a_vec, a_seq, Values, values_of, AllHaveType}
 use Rattle.snesl_values.specs.InputTokens.{Token, word, integer, sign, bad, next_at, next_token, HasTokens, none, IsNextToken}
 use Rattle.snesl_values.specs.Inputs.{greatest_input_length, InputDeclaration, Environment, equals, semicolon, comma, left_paren, right_paren}
-use Rattle.snesl_values.specs.Inputs.{left_bracket, left_brace, StopsAt, SpellsEnvironment, InputAnswer, spells, refused_at, InputMeans, too_long}
+use Rattle.snesl_values.specs.Inputs.{StopsAt, SpellsEnvironment, InputAnswer, spells, refused_at, InputMeans, too_long}
 use Rattle.snesl_values.specs.Inputs.{lawful, unlawful}
 use Rattle.snesl_values.specs.Wants.{ToCome, one, a_value, items, further_items, Fills, entry_wants, further_wants, IsValueRead, AreRead, IsEntry, AllRead}
 use Rattle.snesl_values.proofs.InputScan.{Coming, nothing_comes, comes, coming}
 use Rattle.snesl_values.proofs.InputReads.{reads-append, first_next}
-use Rattle.snesl_values.proofs.InputWants.{after_one, after_value, another_one, no_integer, no_truth, pair_stops, vec_stops, seq_stops, first_item, later_item}
+use Rattle.snesl_values.proofs.InputWants.{after_one, another_one, no_integer, no_truth, Leaves, leaves_all, leaves_pair, leaves_vec, leaves_seq}
+use Rattle.snesl_values.proofs.InputWants.{past_one, past_value, at_first_item, at_later_item, stops_part}
 use Rattle.snesl_values.proofs.InputItems.{leading_tokens, have_type-push, items_read, item_read, vec_read, seq_read, pair_read}
 use Rattle.snesl_values.proofs.InputEntries.{stops_lawful, SoFar, first_so_far, next_so_far, all_read_closed, all_read_open, none_read}
 
@@ -116,42 +117,28 @@ a_pair_of dialect text a b first second from within = by_open (one_sign dialect 
         → Reading dialect text last (one right_paren ∷ []) (IsNextToken text last right_paren) → ReadingOf dialect text (pair a b) from
     by_close place behind start last v w opening one_read parting other_read (done end closing) =
         done end (a_pair v w, pair_read dialect text from place behind start last end a b v w opening one_read parting other_read closing)
-    by_close place behind start last v w opening one_read parting other_read (stopped n s) = stopped n (λ further.
-        pair_stops dialect text a b further from n
-        (after_one dialect text left_paren (a_value a ∷ one comma ∷ a_value b ∷ one right_paren ∷ further) from place n opening.reads
-        (after_value dialect text a v (one comma ∷ a_value b ∷ one right_paren ∷ further) place behind n one_read.has_type one_read.reads
-        (after_one dialect text comma (a_value b ∷ one right_paren ∷ further) behind start n parting.reads
-        (after_value dialect text b w (one right_paren ∷ further) start last n other_read.has_type other_read.reads (s further))))))
+    by_close place behind start last v w opening one_read parting other_read (stopped n s) =
+        stopped n (stops_part (past_value (past_one (past_value (past_one leaves_pair opening) one_read) parting) other_read) n s)
 
     by_second : (place behind start : ℕ) (v : Value) → IsNextToken text from left_paren place → IsValueRead dialect text place a v behind
         → IsNextToken text behind comma start → ReadingOf dialect text b start → ReadingOf dialect text (pair a b) from
     by_second place behind start v opening one_read parting (done last (w, other_read)) =
         by_close place behind start last v w opening one_read parting other_read (one_sign dialect text last 41 other_read.within)
-    by_second place behind start v opening one_read parting (stopped n s) = stopped n (λ further.
-        pair_stops dialect text a b further from n
-        (after_one dialect text left_paren (a_value a ∷ one comma ∷ a_value b ∷ one right_paren ∷ further) from place n opening.reads
-        (after_value dialect text a v (one comma ∷ a_value b ∷ one right_paren ∷ further) place behind n one_read.has_type one_read.reads
-        (after_one dialect text comma (a_value b ∷ one right_paren ∷ further) behind start n parting.reads (s (one right_paren ∷ further))))))
+    by_second place behind start v opening one_read parting (stopped n s) =
+        stopped n (stops_part (past_one (past_value (past_one leaves_pair opening) one_read) parting) n s)
 
     by_comma : (place behind : ℕ) (v : Value) → IsNextToken text from left_paren place → IsValueRead dialect text place a v behind
         → Reading dialect text behind (one comma ∷ []) (IsNextToken text behind comma) → ReadingOf dialect text (pair a b) from
     by_comma place behind v opening one_read (done start parting) = by_second place behind start v opening one_read parting (second start parting.within)
-    by_comma place behind v opening one_read (stopped n s) = stopped n (λ further.
-        pair_stops dialect text a b further from n
-        (after_one dialect text left_paren (a_value a ∷ one comma ∷ a_value b ∷ one right_paren ∷ further) from place n opening.reads
-        (after_value dialect text a v (one comma ∷ a_value b ∷ one right_paren ∷ further) place behind n one_read.has_type one_read.reads
-        (s (a_value b ∷ one right_paren ∷ further)))))
+    by_comma place behind v opening one_read (stopped n s) = stopped n (stops_part (past_value (past_one leaves_pair opening) one_read) n s)
 
     by_first : (place : ℕ) → IsNextToken text from left_paren place → ReadingOf dialect text a place → ReadingOf dialect text (pair a b) from
     by_first place opening (done behind (v, one_read)) = by_comma place behind v opening one_read (one_sign dialect text behind 44 one_read.within)
-    by_first place opening (stopped n s) = stopped n (λ further.
-        pair_stops dialect text a b further from n
-        (after_one dialect text left_paren (a_value a ∷ one comma ∷ a_value b ∷ one right_paren ∷ further) from place n opening.reads
-        (s (one comma ∷ a_value b ∷ one right_paren ∷ further))))
+    by_first place opening (stopped n s) = stopped n (stops_part (past_one leaves_pair opening) n s)
 
     by_open : Reading dialect text from (one left_paren ∷ []) (IsNextToken text from left_paren) → ReadingOf dialect text (pair a b) from
     by_open (done place opening) = by_first place opening (first place opening.within)
-    by_open (stopped n s) = stopped n (λ further. pair_stops dialect text a b further from n (s (a_value a ∷ one comma ∷ a_value b ∷ one right_paren ∷ further)))
+    by_open (stopped n s) = stopped n (stops_part leaves_pair n s)
 
 -- some items were read from an offset on, each with a comma after it
 record ItemsSoFar (dialect : Dialect) (text : List ℕ) (from place : ℕ) (t : Ty) (close : ℕ) (vs : List Value) : Type 0 where
@@ -159,8 +146,7 @@ record ItemsSoFar (dialect : Dialect) (text : List ℕ) (from place : ℕ) (t : 
   begun : from ≤ place
   have_type : AllHaveType dialect (values_of vs) t
   reads : HasTokens text from (leading_tokens vs) place
-  stops : (wants : List ToCome) (n : ℕ) → StopsAt (Fills dialect (a_value t ∷ further_items t close ∷ wants)) text place n
-      → StopsAt (Fills dialect (items t close ∷ wants)) text from n
+  leaves : Leaves dialect text (items t close ∷ []) from (a_value t ∷ further_items t close ∷ []) place
 
 abbrev ReadingOfItems : Dialect → List ℕ → Ty → ℕ → ℕ → Type 0
 ReadingOfItems dialect text t close from = Reading dialect text from (items t close ∷ []) (λ end. (vs : Values) × AreRead dialect text from t close vs end)
@@ -178,20 +164,14 @@ next_items dialect text t close from readable place vs sofar later = by_item (re
       begun = omega (arith, sofar.begun, read.moves, parting.moves);
       have_type = have_type-push dialect vs v t sofar.have_type read.has_type;
       reads = item_read dialect text from place behind start t vs (vs ++ v ∷ []) v refl sofar.reads read parting;
-      stops = λ wants n s. sofar.stops wants n
-          (after_value dialect text t v (further_items t close ∷ wants) place behind n read.has_type read.reads
-          (later_item dialect text t close wants behind n unclosed
-          (after_one dialect text comma (a_value t ∷ further_items t close ∷ wants) behind start n parting.reads s)));
+      leaves = past_one (at_later_item (past_value sofar.leaves read) unclosed) parting;
     }
 
     by_comma : (behind : ℕ) (v : Value) → IsValueRead dialect text place t v behind → (next_token text behind ≡ Some (sign close) → ⊥)
         → Reading dialect text behind (one comma ∷ []) (IsNextToken text behind comma) → ReadingOfItems dialect text t close from
     by_comma behind v read unclosed (done start parting) =
         later start (vs ++ v ∷ []) (grown behind start v read unclosed parting) (omega (arith, read.moves, parting.moves))
-    by_comma behind v read unclosed (stopped n s) = stopped n (λ further.
-        sofar.stops further n
-        (after_value dialect text t v (further_items t close ∷ further) place behind n read.has_type read.reads
-        (later_item dialect text t close further behind n unclosed (s (a_value t ∷ further_items t close ∷ further)))))
+    by_comma behind v read unclosed (stopped n s) = stopped n (stops_part (at_later_item (past_value sofar.leaves read) unclosed) n s)
 
     by_close : (behind : ℕ) (v : Value) → IsValueRead dialect text place t v behind → Whether text behind (sign close) → ReadingOfItems dialect text t close from
     by_close behind v read (taken end closing) =
@@ -200,7 +180,7 @@ next_items dialect text t close from readable place vs sofar later = by_item (re
 
     by_item : ReadingOf dialect text t place → ReadingOfItems dialect text t close from
     by_item (done behind (v, read)) = by_close behind v read (whether text behind (sign close) (same_sign close) read.within)
-    by_item (stopped n s) = stopped n (λ further. sofar.stops further n (s (further_items t close ∷ further)))
+    by_item (stopped n s) = stopped n (stops_part sofar.leaves n s)
 
 -- further items; of the bytes that are left fewer than the bound
 more_items : (dialect : Dialect) → (bound : ℕ) (text : List ℕ) (t : Ty) (close from : ℕ) → Readable dialect text t → (place : ℕ) (vs : List Value) → ItemsSoFar dialect text from place t close vs
@@ -218,40 +198,33 @@ all_items dialect text t close readable from within = by_close (whether text fro
         done end (values_of [], record { have_type = tt; reads = closing.reads; moves = closing.moves; within = closing.within })
     by_close (another unclosed) =
         more_items dialect (suc (length text)) text t close from readable from []
-        (record { within = within; begun = omega arith; have_type = tt; reads = none; stops = λ wants n. first_item dialect text t close wants from n unclosed })
+        (record { within = within; begun = omega arith; have_type = tt; reads = none; leaves = at_first_item leaves_all unclosed })
         (omega arith)
 
-a_vec_of : (dialect : Dialect) → (text : List ℕ) (a : Ty) → Readable dialect text a → Readable dialect text (vec a)
-a_vec_of dialect text a readable from within = by_open (one_sign dialect text from 91 within)
+-- items between two signs
+a_row_of : (dialect : Dialect) → (text : List ℕ) (a t : Ty) (begin close : ℕ) (make : Values → Value)
+    → ((from : ℕ) → Leaves dialect text (a_value t ∷ []) from (one (sign begin) ∷ items a close ∷ []) from)
+    → ((from place end : ℕ) (vs : Values) → IsNextToken text from (sign begin) place → AreRead dialect text place a close vs end → IsValueRead dialect text from t (make vs) end)
+    → Readable dialect text a → Readable dialect text t
+a_row_of dialect text a t begin close make leaves row_read readable from within = by_open (one_sign dialect text from begin within)
   where
-    by_items : (place : ℕ) → IsNextToken text from left_bracket place → ReadingOfItems dialect text a 93 place → ReadingOf dialect text (vec a) from
-    by_items place opening (done end (vs, all)) = done end (a_vec vs, vec_read dialect text from place end a vs opening all)
-    by_items place opening (stopped n s) = stopped n (λ further.
-        vec_stops dialect text a further from n (after_one dialect text left_bracket (items a 93 ∷ further) from place n opening.reads (s further)))
+    by_items : (place : ℕ) → IsNextToken text from (sign begin) place → ReadingOfItems dialect text a close place → ReadingOf dialect text t from
+    by_items place opening (done end (vs, all)) = done end (make vs, row_read from place end vs opening all)
+    by_items place opening (stopped n s) = stopped n (stops_part (past_one (leaves from) opening) n s)
 
-    by_open : Reading dialect text from (one left_bracket ∷ []) (IsNextToken text from left_bracket) → ReadingOf dialect text (vec a) from
-    by_open (done place opening) = by_items place opening (all_items dialect text a 93 readable place opening.within)
-    by_open (stopped n s) = stopped n (λ further. vec_stops dialect text a further from n (s (items a 93 ∷ further)))
-
-a_seq_of : (dialect : Dialect) → (text : List ℕ) (a : Ty) → Readable dialect text a → Readable dialect text (seq a)
-a_seq_of dialect text a readable from within = by_open (one_sign dialect text from 123 within)
-  where
-    by_items : (place : ℕ) → IsNextToken text from left_brace place → ReadingOfItems dialect text a 125 place → ReadingOf dialect text (seq a) from
-    by_items place opening (done end (vs, all)) = done end (a_seq vs, seq_read dialect text from place end a vs opening all)
-    by_items place opening (stopped n s) = stopped n (λ further.
-        seq_stops dialect text a further from n (after_one dialect text left_brace (items a 125 ∷ further) from place n opening.reads (s further)))
-
-    by_open : Reading dialect text from (one left_brace ∷ []) (IsNextToken text from left_brace) → ReadingOf dialect text (seq a) from
-    by_open (done place opening) = by_items place opening (all_items dialect text a 125 readable place opening.within)
-    by_open (stopped n s) = stopped n (λ further. seq_stops dialect text a further from n (s (items a 125 ∷ further)))
+    by_open : Reading dialect text from (one (sign begin) ∷ []) (IsNextToken text from (sign begin)) → ReadingOf dialect text t from
+    by_open (done place opening) = by_items place opening (all_items dialect text a close readable place opening.within)
+    by_open (stopped n s) = stopped n (stops_part (leaves from) n s)
 
 -- values of each type can be read
 readable : (dialect : Dialect) → (text : List ℕ) (t : Ty) → Readable dialect text t
 readable dialect text int = an_integer dialect text
 readable dialect text bool = a_truth dialect text
 readable dialect text (pair a b) = a_pair_of dialect text a b (readable dialect text a) (readable dialect text b)
-readable dialect text (vec a) = a_vec_of dialect text a (readable dialect text a)
-readable dialect text (seq a) = a_seq_of dialect text a (readable dialect text a)
+readable dialect text (vec a) =
+    a_row_of dialect text a (vec a) 91 93 a_vec (λ from. leaves_vec refl) (λ from place end vs. vec_read dialect text from place end a vs) (readable dialect text a)
+readable dialect text (seq a) =
+    a_row_of dialect text a (seq a) 123 125 a_seq (λ from. leaves_seq refl) (λ from place end vs. seq_read dialect text from place end a vs) (readable dialect text a)
 
 -- a declared input
 abbrev ReadingOfEntry : Dialect → List ℕ → InputDeclaration → ℕ → Type 0
@@ -271,18 +244,15 @@ an_entry dialect text d from within = by_name (one_word dialect text from d.0 wi
         within = read.within;
       },
     )
-    by_value behind start name is (stopped n s) = stopped n (λ further.
-        after_one dialect text (word d.0) (one equals ∷ a_value d.1 ∷ further) from behind n name.reads
-        (after_one dialect text equals (a_value d.1 ∷ further) behind start n is.reads (s further)))
+    by_value behind start name is (stopped n s) = stopped n (stops_part (past_one (past_one (leaves_all {whole = entry_wants d []}) name) is) n s)
 
     by_equals : (behind : ℕ) → IsNextToken text from (word d.0) behind → Reading dialect text behind (one equals ∷ []) (IsNextToken text behind equals) → ReadingOfEntry dialect text d from
     by_equals behind name (done start is) = by_value behind start name is (readable dialect text d.1 start is.within)
-    by_equals behind name (stopped n s) = stopped n (λ further.
-        after_one dialect text (word d.0) (one equals ∷ a_value d.1 ∷ further) from behind n name.reads (s (a_value d.1 ∷ further)))
+    by_equals behind name (stopped n s) = stopped n (stops_part (past_one (leaves_all {whole = entry_wants d []}) name) n s)
 
     by_name : Reading dialect text from (one (word d.0) ∷ []) (IsNextToken text from (word d.0)) → ReadingOfEntry dialect text d from
     by_name (done behind name) = by_equals behind name (one_sign dialect text behind 61 name.within)
-    by_name (stopped n s) = stopped n (λ further. s (one equals ∷ a_value d.1 ∷ further))
+    by_name (stopped n s) = stopped n (stops_part (leaves_all {whole = entry_wants d []}) n s)
 
 -- all declared inputs were read, or the reader stops
 data WholeReading (dialect : Dialect) (text : List ℕ) (ds : List InputDeclaration) : Type 0 where

@@ -1,6 +1,7 @@
 -- The tokens of an input text.
-use Rattle.std.specs.Prelude.{◌≡◌, ℕ, zero, suc, ◌+◌, ◌==◌, ◌<◌, ◌≤◌, ℤ, pos, negsuc, Bool, true, false, nat_le, if◌then◌else◌, List, [], ◌∷◌, length, drop, Option, Some, None, option_map, codes}
-use Rattle.std.specs.List.{take_while, prefix_len, list_any}
+use Rattle.std.specs.Prelude.{◌≡◌, ℕ, zero, suc, ◌+◌, ◌==◌, ◌<◌, ◌≤◌, ℤ, pos, negsuc, Bool, true, false, IsTrue, nat_le, if◌then◌else◌}
+use Rattle.std.specs.Prelude.{List, [], ◌∷◌, length, drop, Option, Some, None, option_map, codes}
+use Rattle.std.specs.List.{AllByRecursion, take_while, prefix_len, list_any}
 use Rattle.std.specs.Char.{is_ascii_digit, is_ascii_alphabetic}
 use Rattle.snesl_data.specs.Blanks.{is_blank}
 use Rattle.snesl_data.specs.Characters.{is_word, value_from}
@@ -88,6 +89,10 @@ integer_in dialect n = if is_integer dialect n then Some n else None
 -- the number, where it is not over the greatest magnitude of the wider dialect
 abbrev pub magnitude_of : ℕ → Option ℕ
 magnitude_of number = if nat_le number (suc (greatest_integer Two)) then Some number else None
+
+-- all bytes are digits
+abbrev pub AreDigits : List ℕ → Type 0
+AreDigits bytes = AllByRecursion (λ c. IsTrue (is_ascii_digit c)) bytes
 
 -- the digits from an offset on
 abbrev pub digits_at : List ℕ → ℕ → List ℕ

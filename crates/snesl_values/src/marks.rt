@@ -1,9 +1,9 @@
 // Tokens of a text, as a scanner sees them.
 
-ghost use Rattle.std.specs.Prelude.{◌≡◌, ◌+◌, ◌<◌, ◌≤◌, ◌^◌, length, IsTrue, IfSome, Some, option_map};
-ghost use Rattle.std.specs.List.{AllByRecursion, take_while};
+ghost use Rattle.std.specs.Prelude.{◌≡◌, ◌+◌, ◌<◌, ◌≤◌, ◌^◌, length, IfSome, Some, option_map};
+ghost use Rattle.std.specs.List.{take_while};
 ghost use Rattle.std.specs.Char.{is_ascii_digit};
-ghost use Rattle.snesl_values.specs.InputTokens.{integer, number_of, minus_lexeme, first, next_lexeme, next_at};
+ghost use Rattle.snesl_values.specs.InputTokens.{AreDigits, integer, number_of, minus_lexeme, first, next_lexeme, next_at};
 ghost use Rattle.snesl_values.specs.Marks.{mark_of, sized_mark, sign_mark, word_mark, found_from};
 
 use crate::scan::{signed_number, skip_blanks};
@@ -131,7 +131,7 @@ pub fn sign_mark(byte: u8) -> Mark
 // The integer that digits write with this sign, where 128 bits hold it.
 #[inline(always)]
 fn number_mark(is_negative: bool, digits: &[u8]) -> Mark
-    requires { AllByRecursion (λ c. IsTrue (is_ascii_digit c)) digits.now }
+    requires { AreDigits digits.now }
     ensures { result ≡ mark_of (integer (number_of is_negative digits.now)) }
 {
     match signed_number(Dialect::Two, is_negative, digits) {

@@ -1,13 +1,13 @@
 // Single tokens of an input text.
 
 ghost use Rattle.std.specs.Prelude.{◌≡◌, ◌<◌, suc, ◌≤◌, length, IsTrue, IfSome, IfNone, Some, true, false};
-ghost use Rattle.std.specs.List.{AllByRecursion, prefix_len};
-ghost use Rattle.std.specs.Char.{is_ascii_digit};
+ghost use Rattle.std.specs.List.{prefix_len};
 ghost use Rattle.snesl_data.specs.Blanks.{is_blank};
 ghost use Rattle.snesl_data.specs.Characters.{value_from};
 ghost use Rattle.snesl_data.specs.declared.dialect.Dialect.TheVariants.{Two};
 ghost use Rattle.snesl_data.specs.Integers.{greatest_integer};
-ghost use Rattle.snesl_values.specs.InputTokens.{digits_at, number_of, integer_in, magnitude_of, IsNumber, WritesInteger, word, sign, is_sign, next_at, next_token, signed, IsNextToken, IsNextInteger, IsNoInteger};
+ghost use Rattle.snesl_values.specs.InputTokens.{AreDigits, digits_at, number_of, integer_in, magnitude_of, IsNumber, WritesInteger};
+ghost use Rattle.snesl_values.specs.InputTokens.{word, sign, is_sign, next_at, next_token, signed, IsNextToken, IsNextInteger, IsNoInteger};
 
 use snesl_data::{Dialect, digits_len, is_blank, word_len};
 
@@ -105,7 +105,7 @@ fn number_at(dialect: Dialect, text: &[u8], from: usize, is_negative: bool) -> O
 // The integer that digits write with this sign, where it is in the range of the dialect.
 #[inline(always)]
 pub fn signed_number(dialect: Dialect, is_negative: bool, digits: &[u8]) -> Option<i128>
-    requires { AllByRecursion (λ c. IsTrue (is_ascii_digit c)) digits.now }
+    requires { AreDigits digits.now }
     ensures { result ≡ integer_in dialect (number_of is_negative digits.now) }
 {
     let number = signed(is_negative, magnitude(digits)?)?;
@@ -119,7 +119,7 @@ pub fn signed_number(dialect: Dialect, is_negative: bool, digits: &[u8]) -> Opti
 // The number that digits write, where it is not over the greatest magnitude.
 #[inline(always)]
 fn magnitude(digits: &[u8]) -> Option<u128>
-    requires { AllByRecursion (λ c. IsTrue (is_ascii_digit c)) digits.now }
+    requires { AreDigits digits.now }
     ensures { result ≡ magnitude_of (value_from 0 digits.now) }
 {
     let mut value = 0u64;
@@ -137,7 +137,7 @@ fn magnitude(digits: &[u8]) -> Option<u128>
 // magnitude.
 fn wide_magnitude(number: u128, digits: &[u8]) -> Option<u128>
     requires within { number ≤ suc (greatest_integer Two) }
-    requires digits { AllByRecursion (λ c. IsTrue (is_ascii_digit c)) digits.now }
+    requires digits { AreDigits digits.now }
     ensures { result ≡ magnitude_of (value_from number digits.now) }
 {
     let mut value = number;

@@ -8,7 +8,7 @@ ghost use Rattle.snesl_data.specs.Types.{ty_of, int, seq};
 
 use anyhow::{Result, ensure};
 use flow_base::Transducer;
-use flow_inputs::TextSource;
+use flow_nodes::inputs::TextSource;
 use kahn::Want;
 use snesl_data::{Dialect, Ty};
 use snesl_values::{Inputs, read_inputs};

@@ -1,6 +1,6 @@
 // Tries the jobs of the tables in the folder that the program runs in, and says what differs.
 //
-// Each file whose name ends in `.jobs` is a table (`table.rt` of snesl_tables has its form). A line is printed for each job that
+// Each file whose name ends in `.jobs` is a table (`table.rt` of snesl_trials has its form). A line is printed for each job that
 // is answered otherwise than its row tells, and then how many jobs there are and how many differ. After it stands how the
 // programs of the jobs ended as networks beside their plain evaluation (`beside.rt`), which faults that meets (`faults.rt`), and then
 // how many worked rows there are.
@@ -17,7 +17,7 @@ use anyhow::{Context, Result, ensure};
 use beside::Beside;
 use drives::Drives;
 use faults::Faults;
-use snesl_tables::{Row, SpellingError, rows_of};
+use snesl_trials::tables::{Row, SpellingError, rows_of};
 use std::alloc::Global;
 use std::rt::Files;
 use std::thread::Threads;

@@ -10,7 +10,7 @@ mod runs;
 
 use anyhow::{Result, bail};
 use runs::{Failure, Totals};
-use snesl_dice::Dice;
+use snesl_generator::dice::Dice;
 use snesl_generator::random_job;
 use std::alloc::Global;
 use std::rt::Clock;

@@ -1,8 +1,8 @@
 // The plain evaluation of a job, which holds whole sequences.
 
 use anyhow::Result;
-use snesl_console::split_job;
 use snesl_data::{Counted, Datum, Fault, Refusal, text_of};
+use snesl_run::console::split_job;
 use snesl_syntax::parse;
 use snesl_types::{check, plain};
 use snesl_values::read_inputs;

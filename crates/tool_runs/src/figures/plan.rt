@@ -11,7 +11,7 @@ use flow_nodes::StreamNode;
 use flow_scalar::workers::{Binary, Const, Fork, Iota, Reduce, Sink, UnitsOf};
 use flow_scalar::{Source, Stream};
 use snesl_data::Dialect;
-use snesl_operators::{BinaryOperator, Reduction, Scalar};
+use snesl_data::operators::{BinaryOperator, Reduction, Scalar};
 use std::alloc::Global;
 use std::io::{self, Error, ErrorKind};
 

@@ -3,7 +3,7 @@
 use crate::jobs::Trial;
 use snesl_data::Counted;
 use snesl_run::answer;
-use snesl_tables::{Row, SpellingError, spelled_bytes};
+use snesl_trials::tables::{Row, SpellingError, spelled_bytes};
 use std::alloc::{AllocError, Global};
 use std::fmt;
 use std::thread::Threads;

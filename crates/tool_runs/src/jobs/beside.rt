@@ -4,9 +4,9 @@
 use crate::endings::Endings;
 use crate::jobs::Trial;
 use crate::jobs::answers::job_of;
-use snesl_console::split_job;
 use snesl_data::{Counted, Refusal};
-use snesl_tables::{Row, SpellingError};
+use snesl_run::console::split_job;
+use snesl_trials::tables::{Row, SpellingError};
 use snesl_trials::{Expected, ran_in_one_thread};
 use std::alloc::{AllocError, Global};
 use std::fmt;

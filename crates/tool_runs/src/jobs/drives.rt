@@ -3,9 +3,9 @@
 use crate::jobs::Trial;
 use crate::jobs::answers::job_of;
 use flow_drives::{Config, Drive};
-use snesl_console::split_job;
 use snesl_data::Counted;
-use snesl_tables::{Row, SpellingError};
+use snesl_run::console::split_job;
+use snesl_trials::tables::{Row, SpellingError};
 use snesl_trials::{Done, ran, ran_in_one_thread};
 use std::alloc::{AllocError, Global};
 use std::fmt;

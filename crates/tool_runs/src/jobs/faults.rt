@@ -3,10 +3,10 @@
 
 use crate::jobs::Trial;
 use crate::jobs::answers::job_of;
-use snesl_console::split_job;
 use snesl_data::{Counted, Fault, Refusal};
-use snesl_tables::{Row, SpellingError};
+use snesl_run::console::split_job;
 use snesl_trials::Expected;
+use snesl_trials::tables::{Row, SpellingError};
 use std::alloc::{AllocError, Global};
 use std::fmt;
 use std::thread::Threads;

@@ -1,6 +1,6 @@
 use Rattle.std.proofs.Common.{◌∙◌, ap, sym}
-use Rattle.snesl_tree.specs.View.{tree_of, trees_of, binders_of}
-use Rattle.snesl_tree.proofs.Arguments.{tree_of-Call, tree_of-Apply, tree_of-Literal}
+use Rattle.snesl_grammar.specs.tree.View.{tree_of, trees_of, binders_of}
+use Rattle.snesl_grammar.proofs.OfTree.Arguments.{tree_of-Call, tree_of-Apply, tree_of-Literal}
 use Rattle.snesl_types.specs.Names.{condition_in}
 use Rattle.snesl_types.proofs.Scopes.{tree_of-Each}
 use Rattle.snesl_draw.specs.Forms.{last_among, last_bound, last_offset, last_tested}

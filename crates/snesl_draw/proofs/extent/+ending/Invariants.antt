@@ -1,6 +1,6 @@
 use Rattle.std.proofs.Common.{◌≡◌, ℕ, ◌+◌, ◌*◌, drop}
-use Rattle.snesl_tree.specs.declared.expr.Expr.{size-Expr}
-use Rattle.snesl_tree.specs.View.{binders_of, trees_of}
+use Rattle.snesl_grammar.specs.declared.tree.expr.Expr.{size-Expr}
+use Rattle.snesl_grammar.specs.tree.View.{binders_of, trees_of}
 use Rattle.snesl_draw.specs.Forms.{last_among, last_bound}
 use Rattle.snesl_draw.proofs.extent.+ending.Given as goal
 

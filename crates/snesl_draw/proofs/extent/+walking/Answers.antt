@@ -1,7 +1,7 @@
 use Rattle.std.proofs.Common.{◌≡◌, ◌∙◌, true, false, ap, sym}
 use Rattle.std.specs.Option.{is_some, option_or}
-use Rattle.snesl_tree.specs.View.{tree_of, trees_of, binders_of}
-use Rattle.snesl_tree.proofs.Arguments.{tree_of-Call, tree_of-Apply, tree_of-Literal}
+use Rattle.snesl_grammar.specs.tree.View.{tree_of, trees_of, binders_of}
+use Rattle.snesl_grammar.proofs.OfTree.Arguments.{tree_of-Call, tree_of-Apply, tree_of-Literal}
 use Rattle.snesl_types.specs.Names.{condition_in}
 use Rattle.snesl_types.proofs.Scopes.{tree_of-Each}
 use Rattle.snesl_draw.specs.Forms.{extent_among, extent_in, extent_in_condition, extent_in_sources, extent_inside}

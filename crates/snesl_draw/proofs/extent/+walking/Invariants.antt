@@ -1,5 +1,5 @@
 use Rattle.std.proofs.Common.{◌≡◌, ℕ, ◌+◌, ◌*◌, drop}
-use Rattle.snesl_tree.specs.declared.expr.Expr.{size-Expr}
+use Rattle.snesl_grammar.specs.declared.tree.expr.Expr.{size-Expr}
 use Rattle.snesl_draw.proofs.Extents.{among_all, bound_all}
 use Rattle.snesl_draw.proofs.extent.+walking.Given as goal
 

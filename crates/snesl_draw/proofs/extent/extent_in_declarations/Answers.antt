@@ -1,6 +1,6 @@
 use Rattle.std.proofs.Common.{◌≡◌, ◌∙◌, true, false}
 use Rattle.std.specs.Option.{is_some}
-use Rattle.snesl_tree.specs.View.{declaration_of}
+use Rattle.snesl_grammar.specs.tree.View.{declaration_of}
 use Rattle.snesl_draw.specs.Forms.{extent_in_declaration}
 use Rattle.snesl_draw.proofs.Extents.{at_this, declared_all, declared_end, declared_items, past_item}
 use Rattle.snesl_draw.proofs.extent.extent_in_declarations.Goals as goal

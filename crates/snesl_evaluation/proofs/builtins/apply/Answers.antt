@@ -5,8 +5,8 @@ use Rattle.snesl_data.specs.declared.datum.Datum.{Datum}
 use Rattle.snesl_data.specs.declared.dialect.Dialect.{Dialect}
 use Rattle.snesl_data.specs.declared.fault.FaultKind.TheVariants.{Shape}
 use Rattle.snesl_data.specs.Values.{Value, a_pair, value_of}
-use Rattle.snesl_tree.specs.declared.operator.Builtin.{Builtin}
-use Rattle.snesl_tree.specs.declared.operator.Builtin.TheVariants as builtin
+use Rattle.snesl_grammar.specs.declared.tree.operator.Builtin.{Builtin}
+use Rattle.snesl_grammar.specs.declared.tree.operator.Builtin.TheVariants as builtin
 use Rattle.snesl_evaluation.specs.Answer.{faults}
 use Rattle.snesl_evaluation.specs.Builtins.{applied}
 use Rattle.snesl_evaluation.specs.Results.{Answers}

@@ -1,8 +1,8 @@
-use Rattle.std.proofs.Common.{◌≡◌, ◌+◌, ◌≤◌, ◌∷◌, ◌++◌, [], true, false, Bor, List, sym, ap, ◌∙◌, subst, arith}
+use Rattle.std.proofs.Common.{◌≡◌, ℕ, ◌+◌, ◌≤◌, ◌∷◌, ◌++◌, [], true, false, Bor, List, Option, IfSome, IfNone, sym, ap, ◌∙◌, subst, arith}
 use Rattle.std.specs.Str.{bytes_eq}
-use Rattle.snesl_tree.specs.declared.declaration.Declaration.{Declaration}
-use Rattle.snesl_tree.specs.declared.declaration.Function.{Function}
-use Rattle.snesl_tree.specs.Spelling.{spelling}
+use Rattle.snesl_grammar.specs.declared.tree.declaration.Declaration.{Declaration}
+use Rattle.snesl_grammar.specs.declared.tree.declaration.Function.{Function}
+use Rattle.snesl_grammar.specs.tree.Spelling.{spelling}
 use Rattle.snesl_evaluation.specs.Scopes.{IsCalled, IsUnknown, weight, weight_of}
 use Rattle.snesl_evaluation.proofs.Declared.{IsOther, calls_pass, calls_reach, found_before, none_before, weight-less, weight-function}
 use Rattle.snesl_evaluation.proofs.calls.+find_function.Goals as goal
@@ -10,34 +10,41 @@ use Rattle.snesl_evaluation.proofs.calls.+find_function.Goals as goal
 abbrev Found : Type 0
 Found = Bor Function × Bor (List Declaration)
 
+-- what is found before the last declaration is found in all, where that is no function of the name
+module _ (text name : List ℕ) (all earlier : List Declaration) (last : Declaration) (is : all ≡ earlier ++ last ∷ []) (found : Option Found) where
+  abbrev Called : List Declaration → Found → Type 0
+  Called declarations one = IsCalled text declarations name one.0.now one.1.now
+
+  abbrev Weighs : List Declaration → Found → Type 0
+  Weighs declarations one = weight_of one.0.now + weight one.1.now ≤ weight declarations
+
+  found_pass : IsOther text name last → IfSome found (Called earlier) → IfSome found (Called all)
+  found_pass other h =
+      found_before (Called earlier) (Called all) found (λ one k dialect at values. calls_pass dialect text name all earlier last is other at values ∙ k dialect at values) h
+
+  unknown_pass : IsOther text name last → IfNone found (IsUnknown text earlier name) → IfNone found (IsUnknown text all name)
+  unknown_pass other h =
+      none_before (IsUnknown text earlier name) (IsUnknown text all name) found
+      (λ k dialect at values. calls_pass dialect text name all earlier last is other at values ∙ k dialect at values) h
+
+  weighed_pass : IfSome found (Weighs earlier) → IfSome found (Weighs all)
+  weighed_pass h = found_before (Weighs earlier) (Weighs all) found (λ one k. weight-less all earlier last _ is k) h
+
 pub returns-in-Input-clause-found : goal.returns-in-Input-clause-found
 returns-in-Input-clause-found t c =
-    let text = c.args.text.now in
-    let name = c.args.name.now in
-    let all = c.args.declarations.now in
-    let earlier = c.in_ok-last.earlier.now in
-    let other = subst (IsOther text name) (sym c.in-Input.is) tt in
-    found_before (λ (found : Found). IsCalled text earlier name found.0.now found.1.now) (λ (found : Found). IsCalled text all name found.0.now found.1.now) c.find_function.result
-    (λ found h dialect at values. calls_pass dialect text name all earlier c.in_ok-last.last.now c.in_ok-last.ensures.cases.0 other at values ∙ h dialect at values)
-    c.find_function.ensures.found
+    let last = c.in_ok-last.last.now in
+    let other = subst (IsOther c.args.text.now c.args.name.now) (sym c.in-Input.is) tt in
+    found_pass c.args.text.now c.args.name.now c.args.declarations.now c.in_ok-last.earlier.now last c.in_ok-last.ensures.cases.0 c.find_function.result other c.find_function.ensures.found
 
 pub returns-in-Input-clause-unknown : goal.returns-in-Input-clause-unknown
 returns-in-Input-clause-unknown t c =
-    let text = c.args.text.now in
-    let name = c.args.name.now in
-    let all = c.args.declarations.now in
-    let earlier = c.in_ok-last.earlier.now in
-    let other = subst (IsOther text name) (sym c.in-Input.is) tt in
-    none_before (IsUnknown text earlier name) (IsUnknown text all name) c.find_function.result
-    (λ h dialect at values. calls_pass dialect text name all earlier c.in_ok-last.last.now c.in_ok-last.ensures.cases.0 other at values ∙ h dialect at values)
-    c.find_function.ensures.unknown
+    let last = c.in_ok-last.last.now in
+    let other = subst (IsOther c.args.text.now c.args.name.now) (sym c.in-Input.is) tt in
+    unknown_pass c.args.text.now c.args.name.now c.args.declarations.now c.in_ok-last.earlier.now last c.in_ok-last.ensures.cases.0 c.find_function.result other c.find_function.ensures.unknown
 
 pub returns-in-Input-clause-weighed : goal.returns-in-Input-clause-weighed
 returns-in-Input-clause-weighed t c =
-    let all = c.args.declarations.now in
-    let earlier = c.in_ok-last.earlier.now in
-    found_before (λ (found : Found). weight_of found.0.now + weight found.1.now ≤ weight earlier) (λ (found : Found). weight_of found.0.now + weight found.1.now ≤ weight all) c.find_function.result
-    (λ found h. weight-less all earlier c.in_ok-last.last.now _ c.in_ok-last.ensures.cases.0 h)
+    weighed_pass c.args.text.now c.args.name.now c.args.declarations.now c.in_ok-last.earlier.now c.in_ok-last.last.now c.in_ok-last.ensures.cases.0 c.find_function.result
     c.find_function.ensures.weighed
 
 pub returns-then-eq-clause-found : goal.returns-then-eq-clause-found
@@ -58,31 +65,21 @@ pub returns-else-eq-clause-found : goal.returns-else-eq-clause-found
 returns-else-eq-clause-found t c =
     let text = c.args.text.now in
     let name = c.args.name.now in
-    let all = c.args.declarations.now in
-    let earlier = c.in_ok-last.earlier.now in
     let away : bytes_eq name (spelling text c.in-Function.function.name) ≡ false = ap (bytes_eq name) (sym c.spelled.ensures) ∙ sym c.eq.ensures ∙ c.if-eq.false in
-    let other = subst (IsOther text name) (sym c.in-Function.is) away in
-    found_before (λ (found : Found). IsCalled text earlier name found.0.now found.1.now) (λ (found : Found). IsCalled text all name found.0.now found.1.now) c.find_function-else-eq.result
-    (λ found h dialect at values. calls_pass dialect text name all earlier c.in_ok-last.last.now c.in_ok-last.ensures.cases.0 other at values ∙ h dialect at values)
-    c.find_function-else-eq.ensures.found
+    let last = c.in_ok-last.last.now in
+    found_pass text name c.args.declarations.now c.in_ok-last.earlier.now last c.in_ok-last.ensures.cases.0 c.find_function-else-eq.result
+    (subst (IsOther text name) (sym c.in-Function.is) away) c.find_function-else-eq.ensures.found
 
 pub returns-else-eq-clause-unknown : goal.returns-else-eq-clause-unknown
 returns-else-eq-clause-unknown t c =
     let text = c.args.text.now in
     let name = c.args.name.now in
-    let all = c.args.declarations.now in
-    let earlier = c.in_ok-last.earlier.now in
     let away : bytes_eq name (spelling text c.in-Function.function.name) ≡ false = ap (bytes_eq name) (sym c.spelled.ensures) ∙ sym c.eq.ensures ∙ c.if-eq.false in
-    let other = subst (IsOther text name) (sym c.in-Function.is) away in
-    none_before (IsUnknown text earlier name) (IsUnknown text all name) c.find_function-else-eq.result
-    (λ h dialect at values. calls_pass dialect text name all earlier c.in_ok-last.last.now c.in_ok-last.ensures.cases.0 other at values ∙ h dialect at values)
-    c.find_function-else-eq.ensures.unknown
+    let last = c.in_ok-last.last.now in
+    unknown_pass text name c.args.declarations.now c.in_ok-last.earlier.now last c.in_ok-last.ensures.cases.0 c.find_function-else-eq.result
+    (subst (IsOther text name) (sym c.in-Function.is) away) c.find_function-else-eq.ensures.unknown
 
 pub returns-else-eq-clause-weighed : goal.returns-else-eq-clause-weighed
 returns-else-eq-clause-weighed t c =
-    let all = c.args.declarations.now in
-    let earlier = c.in_ok-last.earlier.now in
-    found_before (λ (found : Found). weight_of found.0.now + weight found.1.now ≤ weight earlier)
-    (λ (found : Found). weight_of found.0.now + weight found.1.now ≤ weight all) c.find_function-else-eq.result
-    (λ found h. weight-less all earlier c.in_ok-last.last.now _ c.in_ok-last.ensures.cases.0 h)
+    weighed_pass c.args.text.now c.args.name.now c.args.declarations.now c.in_ok-last.earlier.now c.in_ok-last.last.now c.in_ok-last.ensures.cases.0 c.find_function-else-eq.result
     c.find_function-else-eq.ensures.weighed

@@ -1,24 +1,23 @@
-use Rattle.std.proofs.Common.{◌≡◌, ◌+◌, ◌∷◌, ◌++◌, if◌then◌else◌, map, drop, zip, Option, option_map, option_to_list, Err, Vec, Global, sym, ap, ◌∙◌, subst, arith}
+use Rattle.std.proofs.Common.{◌≡◌, ◌∷◌, ◌++◌, if◌then◌else◌, map, zip, Option, option_map, option_to_list, Err, Vec, Global, sym, ap, ◌∙◌, subst, arith}
 use Rattle.snesl_data.specs.declared.datum.Datum.{Datum}
 use Rattle.snesl_values.specs.Inputs.{Environment}
 use Rattle.snesl_data.specs.Values.{a_pair, value_of}
-use Rattle.snesl_tree.specs.Spelling.{spelling}
-use Rattle.snesl_tree.specs.View.{tree_of, trees_of, binders_of, declaration_of}
-use Rattle.snesl_tree.specs.declared.expr.Expr.{Expr, Each}
-use Rattle.snesl_tree.specs.Tree.{Binders}
-use Rattle.snesl_tree.proofs.Arguments.{tree_of-Call, tree_of-Apply, tree_of-Literal, binders_row}
-use Rattle.snesl_evaluation.specs.Answer.{go, go_all, go_join, gives}
+use Rattle.snesl_grammar.specs.tree.Spelling.{spelling}
+use Rattle.snesl_grammar.specs.tree.View.{tree_of, trees_of, binders_of, declaration_of}
+use Rattle.snesl_grammar.specs.declared.tree.expr.Expr.{Expr, Each}
+use Rattle.snesl_grammar.specs.tree.Tree.{Binders}
+use Rattle.snesl_grammar.proofs.OfTree.Arguments.{tree_of-Call, tree_of-Apply, tree_of-Literal, binders_row}
+use Rattle.snesl_evaluation.specs.Answer.{go, gives}
 use Rattle.snesl_evaluation.specs.declared.scope.Column.{Column}
 use Rattle.snesl_evaluation.specs.Builtins.{applied, binary_answer, items_at, seq_answer, truth_at}
-use Rattle.snesl_evaluation.specs.Eval.{calls_of, eval, in_step, kept, rows_of}
+use Rattle.snesl_evaluation.specs.Eval.{calls_of, eval, in_step, kept}
 use Rattle.snesl_evaluation.specs.Forms.{filter_in}
 use Rattle.snesl_evaluation.specs.Results.{Answers}
-use Rattle.snesl_evaluation.specs.Scopes.{all_in, binders_in, calls_in, bound_items_of, each_in, entered, environment_in, eval_in, kept_at, names_of, names_at, where_in}
+use Rattle.snesl_evaluation.specs.Scopes.{all_in, binders_in, calls_in, bound_items_of, each_in, entered, environment_in, eval_in, kept_at, names_of, where_in}
 use Rattle.snesl_evaluation.proofs.Arguments.{values_given, values_faults, values_all, columns_given, columns_faults, columns_all}
 use Rattle.snesl_evaluation.proofs.Passed.{halt_passes, parameters_seen, parameters_differ, filter_seen}
-use Rattle.snesl_evaluation.proofs.Reading.{behind}
 use Rattle.snesl_evaluation.proofs.Rows.{level_seen}
-use Rattle.snesl_evaluation.proofs.Steps.{after, row_given, row_faults, rows_end, kept_given, kept_faults, kept_end}
+use Rattle.snesl_evaluation.proofs.Steps.{row_given, row_faults, rows_end, kept_given, kept_faults, kept_end}
 use Rattle.snesl_evaluation.proofs.evaluator.+value.Goals as goal
 
 pub enter-returns-then-len-values : goal.enter-returns-then-len-values
@@ -61,23 +60,15 @@ enter-returns t c =
 
 pub all_values-returns-in_err-value : goal.all_values-returns-in_err-value
 all_values-returns-in_err-value t c =
-    let context = c.args.context.now in
-    let scope = c.args.scope.now in
-    let exprs = c.args.exprs.now in
-    let expr = c.expr-item.result in
-    halt_passes value_of (λ (values : Vec Datum Global). map value_of values.items) c.from_residual.result c.in_err-value.field-0.0
-    (eval_in context scope (tree_of expr)) (all_in context scope (trees_of exprs)) c.from_residual.ensures.1 c.in_err-value.ensures
-    (λ kind at e. c.loop-expr.invariant ∙ values_faults context scope (map value_of c.loop-expr.values.items) exprs c.loop-expr.expr-index expr kind at c.loop-expr-test.true c.expr-item.is e)
+    halt_passes value_of (λ (values : Vec Datum Global). map value_of values.items) c.from_residual.result c.in_err-value.field-0.0 _ _ c.from_residual.ensures.1 c.in_err-value.ensures
+    (λ kind at e. c.loop-expr.invariant ∙ values_faults c.args.context.now c.args.scope.now (map value_of c.loop-expr.values.items) c.args.exprs.now c.loop-expr.expr-index
+    c.expr-item.result kind at c.loop-expr-test.true c.expr-item.is e)
 
 pub all_values-loop-expr-preserved : goal.all_values-loop-expr-preserved
 all_values-loop-expr-preserved t c =
-    let context = c.args.context.now in
-    let scope = c.args.scope.now in
-    let exprs = c.args.exprs.now in
-    let i = c.loop-expr.expr-index in
     c.loop-expr.invariant
-    ∙ values_given context scope (map value_of c.loop-expr.values.items) exprs i c.expr-item.result (value_of c.in_ok-value.value) c.loop-expr-test.true c.expr-item.is c.in_ok-value.ensures
-    ∙ ap (λ done. behind done (all_in context scope (trees_of (drop (i + 1) exprs)))) (sym c.in_ok-add.ensures)
+    ∙ values_given c.args.context.now c.args.scope.now (map value_of c.loop-expr.values.items) c.args.exprs.now c.loop-expr.expr-index c.expr-item.result (value_of c.in_ok-value.value)
+    c.loop-expr-test.true c.expr-item.is c.in_ok-value.ensures c.in_ok-add.ensures
 
 pub all_values-returns : goal.all_values-returns
 all_values-returns t c =
@@ -86,39 +77,29 @@ all_values-returns t c =
 pub all_columns-returns-in_err-sequence : goal.all_columns-returns-in_err-sequence
 all_columns-returns-in_err-sequence t c =
     let context = c.args.context.now in
-    let scope = c.args.scope.now in
     let columns = λ (all : Vec Column Global). map (bound_items_of context.text.now) all.items in
-    let binders = c.args.binders.now in
     let binder = c.binder-item.result in
-    halt_passes value_of columns c.from_residual.result c.in_err-sequence.field-0.0 (eval_in context scope (tree_of binder.source))
-    (binders_in context scope (binders_of binders)) c.from_residual.ensures.1 c.in_err-sequence.ensures
-    (λ kind at e. c.loop-binder.invariant ∙ columns_faults context scope (columns c.loop-binder.columns) binders c.loop-binder.binder-index binder kind at c.loop-binder-test.true c.binder-item.is
-    (ap (λ answer. go answer (items_at binder.name.at)) e))
+    halt_passes value_of columns c.from_residual.result c.in_err-sequence.field-0.0 _ _ c.from_residual.ensures.1 c.in_err-sequence.ensures
+    (λ kind at e. c.loop-binder.invariant ∙ columns_faults context c.args.scope.now (columns c.loop-binder.columns) c.args.binders.now c.loop-binder.binder-index binder kind at
+    c.loop-binder-test.true c.binder-item.is (ap (λ answer. go answer (items_at binder.name.at)) e))
 
 pub all_columns-returns-in_err-items : goal.all_columns-returns-in_err-items
 all_columns-returns-in_err-items t c =
     let context = c.args.context.now in
-    let scope = c.args.scope.now in
     let columns = λ (all : Vec Column Global). map (bound_items_of context.text.now) all.items in
-    let binders = c.args.binders.now in
     let binder = c.binder-item.result in
-    halt_passes (λ (all : Vec Datum Global). map value_of all.items) columns c.from_residual-in_err-items.result c.in_err-items.field-0.0
-    (items_at binder.name.at (value_of c.in_ok-sequence.sequence)) (binders_in context scope (binders_of binders))
-    c.from_residual-in_err-items.ensures.1 c.in_err-items.ensures
-    (λ kind at e. c.loop-binder.invariant ∙ columns_faults context scope (columns c.loop-binder.columns) binders c.loop-binder.binder-index binder kind at c.loop-binder-test.true c.binder-item.is
-    (ap (λ answer. go answer (items_at binder.name.at)) c.in_ok-sequence.ensures ∙ e))
+    halt_passes (λ (all : Vec Datum Global). map value_of all.items) columns c.from_residual-in_err-items.result c.in_err-items.field-0.0 _ _ c.from_residual-in_err-items.ensures.1
+    c.in_err-items.ensures
+    (λ kind at e. c.loop-binder.invariant ∙ columns_faults context c.args.scope.now (columns c.loop-binder.columns) c.args.binders.now c.loop-binder.binder-index binder kind at
+    c.loop-binder-test.true c.binder-item.is (ap (λ answer. go answer (items_at binder.name.at)) c.in_ok-sequence.ensures ∙ e))
 
 pub all_columns-loop-binder-preserved : goal.all_columns-loop-binder-preserved
 all_columns-loop-binder-preserved t c =
     let context = c.args.context.now in
-    let scope = c.args.scope.now in
-    let binders = c.args.binders.now in
-    let i = c.loop-binder.binder-index in
     c.loop-binder.invariant
-    ∙ columns_given context scope (map (bound_items_of context.text.now) c.loop-binder.columns.items) binders i c.binder-item.result
-    (value_of c.in_ok-sequence.sequence) (map value_of c.in_ok-items.items.items) c.loop-binder-test.true c.binder-item.is c.in_ok-sequence.ensures
-    c.in_ok-items.ensures
-    ∙ ap (λ done. behind done (binders_in context scope (binders_of (drop (i + 1) binders)))) (sym (c.in_ok-add_column.ensures context.text.now))
+    ∙ columns_given context c.args.scope.now (map (bound_items_of context.text.now) c.loop-binder.columns.items) c.args.binders.now c.loop-binder.binder-index c.binder-item.result
+    (value_of c.in_ok-sequence.sequence) (map value_of c.in_ok-items.items.items) c.loop-binder-test.true c.binder-item.is c.in_ok-sequence.ensures c.in_ok-items.ensures
+    (c.in_ok-add_column.ensures context.text.now)
 
 pub all_columns-returns : goal.all_columns-returns
 all_columns-returns t c =
@@ -127,73 +108,42 @@ all_columns-returns t c =
 
 pub rows-returns-in_err-value : goal.rows-returns-in_err-value
 rows-returns-in_err-value t c =
-    let text = c.args.context.now.text.now in
-    let dialect = c.args.context.now.dialect in
-    let columns = map (bound_items_of text) c.args.columns.now in
-    let f = λ (row : Environment). eval dialect (tree_of c.args.body.now) text (calls_in c.args.context.now) (row ++ environment_in text c.args.scope.now) in
-    let i = c.loop-index.index in
-    let level = level_seen text c.args.number c.args.columns.now ∙ c.requires in
-    halt_passes value_of (λ (values : Vec Datum Global). map value_of values.items) c.from_residual.result c.in_err-value.field-0.0
-    (f (names_at i columns)) (go_all f (rows_of c.args.number columns)) c.from_residual.ensures.1 c.in_err-value.ensures
-    (λ kind at e. c.loop-index.invariant ∙ row_faults f c.args.number columns i (map value_of c.loop-index.values.items) kind at level (omega arith) e)
+    let level = level_seen c.args.context.now.text.now c.args.number c.args.columns.now ∙ c.requires in
+    halt_passes value_of (λ (values : Vec Datum Global). map value_of values.items) c.from_residual.result c.in_err-value.field-0.0 _ _ c.from_residual.ensures.1 c.in_err-value.ensures
+    (λ kind at e. c.loop-index.invariant ∙ row_faults _ c.args.number _ c.loop-index.index _ kind at level (omega arith) e)
 
 pub rows-loop-index-preserved : goal.rows-loop-index-preserved
 rows-loop-index-preserved t c =
-    let text = c.args.context.now.text.now in
-    let dialect = c.args.context.now.dialect in
-    let columns = map (bound_items_of text) c.args.columns.now in
-    let f = λ (row : Environment). eval dialect (tree_of c.args.body.now) text (calls_in c.args.context.now) (row ++ environment_in text c.args.scope.now) in
-    let i = c.loop-index.index in
-    let level = level_seen text c.args.number c.args.columns.now ∙ c.requires in
+    let level = level_seen c.args.context.now.text.now c.args.number c.args.columns.now ∙ c.requires in
     c.loop-index.invariant
-    ∙ row_given f c.args.number columns i (map value_of c.loop-index.values.items) _ level (omega arith) c.in_ok-value.ensures
-    ∙ ap (λ done. after done (go_all f (drop (i + 1) (rows_of c.args.number columns)))) (sym c.in_ok-add.ensures)
+    ∙ row_given _ c.args.number _ c.loop-index.index (map value_of c.loop-index.values.items) _ level (omega arith) c.in_ok-value.ensures c.in_ok-add.ensures
 
 pub rows-returns : goal.rows-returns
 rows-returns t c =
     let text = c.args.context.now.text.now in
-    let dialect = c.args.context.now.dialect in
-    let columns = map (bound_items_of text) c.args.columns.now in
-    let f = λ (row : Environment). eval dialect (tree_of c.args.body.now) text (calls_in c.args.context.now) (row ++ environment_in text c.args.scope.now) in
-    let done = map value_of c.loop-index.values.items in
-    let ended : c.loop-index.index ≡ c.args.number = omega arith in
-    c.loop-index.invariant
-    ∙ ap (λ j. after done (go_all f (drop j (rows_of c.args.number columns)))) ended
-    ∙ rows_end f c.args.number columns done
+    let f = λ (row : Environment). eval c.args.context.now.dialect (tree_of c.args.body.now) text (calls_in c.args.context.now) (row ++ environment_in text c.args.scope.now) in
+    let ended : c.args.number ≡ c.loop-index.index = omega arith in
+    c.loop-index.invariant ∙ rows_end f c.args.number c.loop-index.index (map (bound_items_of text) c.args.columns.now) (map value_of c.loop-index.values.items) ended
 
 pub rows_where-returns-in_err-found : goal.rows_where-returns-in_err-found
 rows_where-returns-in_err-found t c =
-    let text = c.args.context.now.text.now in
-    let columns = map (bound_items_of text) c.args.columns.now in
-    let f = λ (row : Environment). kept_at c.args.context.now (row ++ environment_in text c.args.scope.now) c.args.at (tree_of c.args.body.now) (tree_of c.args.condition.now) in
-    let i = c.loop-index.index in
-    let level = level_seen text c.args.number c.args.columns.now ∙ c.requires in
+    let level = level_seen c.args.context.now.text.now c.args.number c.args.columns.now ∙ c.requires in
     halt_passes (λ (found : Option Datum). option_to_list (option_map value_of found)) (λ (values : Vec Datum Global). map value_of values.items)
-    c.from_residual.result c.in_err-found.field-0.0 (f (names_at i columns)) (go_join f (rows_of c.args.number columns)) c.from_residual.ensures.1
-    c.in_err-found.ensures
-    (λ kind at e. c.loop-index.invariant ∙ kept_faults f c.args.number columns i (map value_of c.loop-index.values.items) kind at level (omega arith) e)
+    c.from_residual.result c.in_err-found.field-0.0 _ _ c.from_residual.ensures.1 c.in_err-found.ensures
+    (λ kind at e. c.loop-index.invariant ∙ kept_faults _ c.args.number _ c.loop-index.index _ kind at level (omega arith) e)
 
 pub rows_where-loop-index-preserved : goal.rows_where-loop-index-preserved
 rows_where-loop-index-preserved t c =
-    let text = c.args.context.now.text.now in
-    let columns = map (bound_items_of text) c.args.columns.now in
-    let f = λ (row : Environment). kept_at c.args.context.now (row ++ environment_in text c.args.scope.now) c.args.at (tree_of c.args.body.now) (tree_of c.args.condition.now) in
-    let i = c.loop-index.index in
-    let level = level_seen text c.args.number c.args.columns.now ∙ c.requires in
+    let level = level_seen c.args.context.now.text.now c.args.number c.args.columns.now ∙ c.requires in
     c.loop-index.invariant
-    ∙ kept_given f c.args.number columns i (map value_of c.loop-index.values.items) _ level (omega arith) c.in_ok-found.ensures
-    ∙ ap (λ done. after done (go_join f (drop (i + 1) (rows_of c.args.number columns)))) (sym c.in_ok-add_found.ensures)
+    ∙ kept_given _ c.args.number _ c.loop-index.index (map value_of c.loop-index.values.items) _ level (omega arith) c.in_ok-found.ensures c.in_ok-add_found.ensures
 
 pub rows_where-returns : goal.rows_where-returns
 rows_where-returns t c =
     let text = c.args.context.now.text.now in
-    let columns = map (bound_items_of text) c.args.columns.now in
     let f = λ (row : Environment). kept_at c.args.context.now (row ++ environment_in text c.args.scope.now) c.args.at (tree_of c.args.body.now) (tree_of c.args.condition.now) in
-    let done = map value_of c.loop-index.values.items in
-    let ended : c.loop-index.index ≡ c.args.number = omega arith in
-    c.loop-index.invariant
-    ∙ ap (λ j. after done (go_join f (drop j (rows_of c.args.number columns)))) ended
-    ∙ kept_end f c.args.number columns done
+    let ended : c.args.number ≡ c.loop-index.index = omega arith in
+    c.loop-index.invariant ∙ kept_end f c.args.number c.loop-index.index (map (bound_items_of text) c.args.columns.now) (map value_of c.loop-index.values.items) ended
 
 pub value-returns-in-Binary : goal.value-returns-in-Binary
 value-returns-in-Binary t c =

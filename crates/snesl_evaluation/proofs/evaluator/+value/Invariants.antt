@@ -1,11 +1,11 @@
 use Rattle.std.proofs.Common.{◌≡◌, ◌+◌, ◌*◌, map, drop, max, ◌++◌}
 use Rattle.std.proofs.Common.{ℕ, List}
 use denote.Param.Weighed
-use Rattle.snesl_tree.proofs.expr.Binder.TheLaws
-use Rattle.snesl_tree.specs.declared.expr.Binder.{Binder}
+use Rattle.snesl_grammar.proofs.tree.expr.Binder.TheLaws
+use Rattle.snesl_grammar.specs.declared.tree.expr.Binder.{Binder}
 use Rattle.snesl_data.specs.Values.{value_of}
-use Rattle.snesl_tree.specs.declared.expr.Expr.{size-Expr}
-use Rattle.snesl_tree.specs.View.{tree_of, trees_of, binders_of}
+use Rattle.snesl_grammar.specs.declared.tree.expr.Expr.{size-Expr}
+use Rattle.snesl_grammar.specs.tree.View.{tree_of, trees_of, binders_of}
 use Rattle.snesl_evaluation.specs.Answer.{go, gives}
 use Rattle.snesl_evaluation.specs.Eval.{rows_of}
 use Rattle.snesl_evaluation.specs.Scopes.{weight, weight_of, all_in, binders_in, each_in, where_in, bound_items_of}

@@ -1,5 +1,5 @@
 use Rattle.std.proofs.Common.{◌≡◌, drop}
-use Rattle.snesl_operators.specs.Reductions.{reduction_of, reduction_from}
+use Rattle.snesl_data.specs.operators.Reductions.{reduction_of, reduction_from}
 use Rattle.snesl_evaluation.proofs.sequences.reduce.Given as goal
 
 abbrev pub invariant-loop-x : goal.invariant-loop-x

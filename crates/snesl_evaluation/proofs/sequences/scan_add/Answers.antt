@@ -4,8 +4,8 @@ use mir.Val.{to_z, of_z}
 use mir.Syntax.{w128}
 use Rattle.snesl_data.specs.declared.datum.Datum.{Datum}
 use Rattle.snesl_data.specs.Values.{an_int, value_of}
-use Rattle.snesl_operators.specs.Operators.{ranged}
-use Rattle.snesl_operators.specs.Reductions.{scan_of, scan_from}
+use Rattle.snesl_data.specs.operators.Operators.{ranged}
+use Rattle.snesl_data.specs.operators.Reductions.{scan_of, scan_from}
 use Rattle.snesl_evaluation.specs.Answer.{answer_at, gives, go}
 use Rattle.snesl_evaluation.proofs.Passed.{halt_passes}
 use Rattle.snesl_evaluation.proofs.Scans.{scan_step, scan_fault, scan_last, sums_behind}

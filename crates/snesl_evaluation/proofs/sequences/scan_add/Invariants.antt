@@ -1,6 +1,6 @@
 use Rattle.std.proofs.Common.{◌≡◌, map, drop, ◌++◌}
 use Rattle.snesl_data.specs.Values.{an_int, value_of}
-use Rattle.snesl_operators.specs.Reductions.{scan_of, scan_from}
+use Rattle.snesl_data.specs.operators.Reductions.{scan_of, scan_from}
 use Rattle.snesl_evaluation.specs.Answer.{answer_at, go, gives}
 use Rattle.snesl_evaluation.proofs.sequences.scan_add.Given as goal
 

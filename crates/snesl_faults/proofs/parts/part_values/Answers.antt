@@ -1,8 +1,8 @@
 use Rattle.std.proofs.Common.{◌≡◌, map, IfOk, Vec, Global, sym, ap, ◌∙◌, subst}
 use Rattle.snesl_data.specs.Values.{value_of}
-use Rattle.snesl_tree.proofs.Arguments.{tree_of-Call, binders_row}
-use Rattle.snesl_tree.specs.Tree.{both, none}
-use Rattle.snesl_tree.specs.View.{tree_of, trees_of, binders_of}
+use Rattle.snesl_grammar.proofs.OfTree.Arguments.{tree_of-Call, binders_row}
+use Rattle.snesl_grammar.specs.tree.Tree.{both, none}
+use Rattle.snesl_grammar.specs.tree.View.{tree_of, trees_of, binders_of}
 use Rattle.snesl_evaluation.specs.Answer.{gives}
 use Rattle.snesl_evaluation.specs.Scopes.{all_in}
 use Rattle.snesl_evaluation.specs.Results.{Answers}

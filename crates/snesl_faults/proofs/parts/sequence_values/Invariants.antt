@@ -1,6 +1,6 @@
 use Rattle.std.proofs.Common.{◌≡◌, map, drop}
 use Rattle.snesl_data.specs.Values.{value_of}
-use Rattle.snesl_tree.specs.View.{binders_of}
+use Rattle.snesl_grammar.specs.tree.View.{binders_of}
 use Rattle.snesl_evaluation.specs.Scopes.{all_in}
 use Rattle.snesl_evaluation.proofs.Reading.{behind}
 use Rattle.snesl_faults.specs.Faults.{sources}

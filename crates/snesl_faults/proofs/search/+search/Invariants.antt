@@ -1,5 +1,5 @@
 use Rattle.std.proofs.Common.{ℕ, List, ◌+◌, ◌*◌, max}
-use Rattle.snesl_tree.specs.declared.expr.Expr.{size-Expr}
+use Rattle.snesl_grammar.specs.declared.tree.expr.Expr.{size-Expr}
 use Rattle.snesl_evaluation.specs.Scopes.{weight, weight_of}
 use Rattle.snesl_faults.proofs.search.+search.Given as goal
 

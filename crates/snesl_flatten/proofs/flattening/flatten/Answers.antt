@@ -5,10 +5,10 @@ use Rattle.flow_nodes.specs.StreamNodes.{node_behaviour}
 use Rattle.flow_networks.specs.Graphs.{states_of, edges_of}
 use Rattle.flow_networks.specs.Limits.{most_nodes, most_edges}
 use Rattle.std.specs.List.{slice_get}
-use Rattle.flow_plans.specs.Plans.{Step}
-use Rattle.flow_plans.specs.Layouts.{Placed, layout, places, edges_needed, IsNetworkOfPlan}
-use Rattle.flow_plans.specs.Ports.{AreWired}
-use Rattle.flow_plans.specs.Views.{steps_of}
+use Rattle.flow_nodes.specs.plans.Plans.{Step}
+use Rattle.flow_nodes.specs.plans.Layouts.{Placed, layout, places, edges_needed, IsNetworkOfPlan}
+use Rattle.flow_nodes.specs.plans.Ports.{AreWired}
+use Rattle.flow_nodes.specs.plans.Views.{steps_of}
 use Rattle.flow_assembly.specs.Openings.{AllOpen, IsUsable}
 use Rattle.flow_assembly.proofs.Laying.{AllUsable, steps_usable, layout_fits}
 use Rattle.snesl_translation.specs.Programs.{unset_cells}

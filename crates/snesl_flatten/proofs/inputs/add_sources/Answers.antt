@@ -5,9 +5,9 @@ use Rattle.std.specs.Arc.{arc_value}
 use Rattle.snesl_data.specs.Types.{ty_of}
 use Rattle.snesl_values.specs.Places.{value_at}
 use Rattle.flow_base.specs.Columns.{columns}
-use Rattle.flow_inputs.specs.Items.{items_from}
-use Rattle.flow_inputs.specs.TextSources.{items_in}
-use Rattle.flow_inputs.specs.Ways.{way_to, leaf_at}
+use Rattle.flow_nodes.specs.inputs.Items.{items_from}
+use Rattle.flow_nodes.specs.inputs.TextSources.{items_in}
+use Rattle.flow_nodes.specs.inputs.Ways.{way_to, leaf_at}
 use Rattle.flow_values.specs.Shapes.{kinds_of, kind_at}
 use Rattle.flow_values.specs.Flats.{width, flat}
 use Rattle.snesl_flatten.specs.Sources.{cells_in, source_kind, AreFresh}

@@ -10,11 +10,11 @@ use Rattle.flow_networks.specs.Graphs.{states_of, edges_of}
 use Rattle.flow_networks.specs.Networks.{AreOpened}
 use Rattle.flow_networks.specs.Replacements.{MayReplace}
 use Rattle.flow_networks.specs.declared.edge.Edge.{Edge}
-use Rattle.flow_plans.specs.Layouts.{places}
+use Rattle.flow_nodes.specs.plans.Layouts.{places}
 use Rattle.flow_base.specs.Columns.{Columns}
 use Rattle.snesl_flatten.specs.Networks.{StreamNodeState}
 use Rattle.snesl_flatten.specs.Unset.{unset_steps, AreButSources}
-use Rattle.flow_inputs.specs.TextSources.{items_in}
+use Rattle.flow_nodes.specs.inputs.TextSources.{items_in}
 use Rattle.snesl_flatten.specs.Sources.{all_kinds, cells_in, HasSources}
 use Rattle.snesl_flatten.proofs.SetSources.{kind_next, fresh_next, place_is, next_within, may_set, next_has, others_stay}
 use Rattle.snesl_flatten.proofs.plan.set_sources.Goals as goal

@@ -1,14 +1,14 @@
 use Rattle.std.proofs.Common.{◌∙◌, ap, subst, Ok, Vec}
 use Rattle.std.specs.Global.{Global}
 use Rattle.snesl_values.specs.Inputs.{declared}
-use Rattle.snesl_tree.specs.View.{tree_of}
+use Rattle.snesl_grammar.specs.tree.View.{tree_of}
 use Rattle.snesl_grammar.specs.declared.program.Program.{Program}
 use Rattle.snesl_types.specs.Typed.{program_of, typed_inputs}
 use Rattle.snesl_translation.specs.Programs.{first_offset}
-use Rattle.snesl_steps.specs.declared.wires.Binding.{Binding}
-use Rattle.snesl_steps.specs.Views.{bindings_of, wires_of}
-use Rattle.snesl_steps.specs.Added.{HasMade, Adds}
-use Rattle.snesl_steps.proofs.Adding.{exits}
+use Rattle.snesl_translator.specs.declared.steps.wires.Binding.{Binding}
+use Rattle.snesl_translator.specs.steps.Views.{bindings_of, wires_of}
+use Rattle.snesl_translator.specs.steps.Added.{HasMade, Adds}
+use Rattle.snesl_translator.proofs.OfSteps.Adding.{exits}
 use Rattle.snesl_translator.specs.declared.translator.ProgramContext.{ProgramContext}
 use Rattle.snesl_flatten.specs.Behind.{printed}
 use Rattle.snesl_flatten.proofs.Adding.{control_refused, inputs_refused, program_added}

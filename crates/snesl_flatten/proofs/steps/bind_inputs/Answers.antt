@@ -2,9 +2,9 @@ use Rattle.std.proofs.Common.{◌+◌, take, drop, Vec, sym, subst, subst₂, �
 use Rattle.std.specs.Global.{Global}
 use Rattle.snesl_values.specs.Inputs.{declared, declaration_of}
 use Rattle.snesl_translation.specs.Programs.{inputs_sourced, unset_cells}
-use Rattle.snesl_steps.specs.declared.wires.Binding.{Binding}
-use Rattle.snesl_steps.specs.Views.{bindings_of, next_in, wires_of}
-use Rattle.snesl_steps.specs.Added.{HasMade, Adds}
+use Rattle.snesl_translator.specs.declared.steps.wires.Binding.{Binding}
+use Rattle.snesl_translator.specs.steps.Views.{bindings_of, next_in, wires_of}
+use Rattle.snesl_translator.specs.steps.Added.{HasMade, Adds}
 use Rattle.snesl_flatten.proofs.Binding.{one_more_bound, one_refused, declared_more, declared_split, bindings_more}
 use Rattle.snesl_flatten.proofs.steps.bind_inputs.Goals as goal
 

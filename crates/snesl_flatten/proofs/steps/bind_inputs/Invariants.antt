@@ -1,8 +1,8 @@
 use Rattle.std.proofs.Common.{take}
 use Rattle.snesl_values.specs.Inputs.{declared}
 use Rattle.snesl_translation.specs.Programs.{inputs_sourced, unset_cells}
-use Rattle.snesl_steps.specs.Views.{bindings_of, next_in}
-use Rattle.snesl_steps.specs.Added.{HasMade}
+use Rattle.snesl_translator.specs.steps.Views.{bindings_of, next_in}
+use Rattle.snesl_translator.specs.steps.Added.{HasMade}
 use Rattle.snesl_flatten.proofs.steps.bind_inputs.Given as goal
 
 abbrev pub invariant-loop-declaration : goal.invariant-loop-declaration

@@ -1,5 +1,5 @@
-use Rattle.snesl_tree.specs.View.{tree_of}
-use Rattle.snesl_steps.specs.Views.{bindings_of, wires_of}
+use Rattle.snesl_grammar.specs.tree.View.{tree_of}
+use Rattle.snesl_translator.specs.steps.Views.{bindings_of, wires_of}
 use Rattle.snesl_flatten.proofs.Adding.{value_refused, print_refused, value_printed}
 use Rattle.snesl_flatten.proofs.steps.print_value.Goals as goal
 

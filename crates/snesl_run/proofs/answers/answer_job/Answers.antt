@@ -1,5 +1,5 @@
 use Rattle.std.proofs.Common.{refl, subst}
-use Rattle.snesl_console.specs.Streams.{read_effect, write_effect}
+use Rattle.snesl_run.specs.console.Streams.{read_effect, write_effect}
 use Rattle.snesl_run.proofs.CutParts.{printed_jobs}
 use Rattle.snesl_run.proofs.Printing.{job_refused_so}
 use Rattle.snesl_run.proofs.answers.answer_job.Goals as goal

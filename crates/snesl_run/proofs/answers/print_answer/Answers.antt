@@ -1,8 +1,8 @@
 use Rattle.std.proofs.Common.{refl, sym, ◌∙◌}
 use Rattle.snesl_run.specs.Runs.{refusal_of}
-use Rattle.snesl_console.specs.Streams.{write_effect}
+use Rattle.snesl_run.specs.console.Streams.{write_effect}
 use Rattle.snesl_run.proofs.Printing.{printed_fault, printed_stall, printed_value, printed_refusal, printed_system_error}
-use Rattle.snesl_console.proofs.OwnLines.{stalled_line_is}
+use Rattle.snesl_run.proofs.OfConsole.OwnLines.{stalled_line_is}
 use Rattle.snesl_run.proofs.answers.print_answer.Goals as goal
 
 pub returns-in-Value : goal.returns-in-Value

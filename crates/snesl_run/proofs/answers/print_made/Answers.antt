@@ -1,6 +1,6 @@
 use Rattle.std.proofs.Common.{refl}
 use Rattle.snesl_data.specs.declared.refusal.Refusal.TheVariants.{NoMemory}
-use Rattle.snesl_console.proofs.Printing.{system_refused}
+use Rattle.snesl_run.proofs.OfConsole.Printing.{system_refused}
 use Rattle.snesl_run.proofs.answers.print_made.Goals as goal
 
 pub returns-in-Err : goal.returns-in-Err

@@ -1,5 +1,5 @@
 use Rattle.std.proofs.Common.{refl, sym, ◌∙◌}
-use Rattle.snesl_console.proofs.Printing.{system_refused, words_refused_line}
+use Rattle.snesl_run.proofs.OfConsole.Printing.{system_refused, words_refused_line}
 use Rattle.snesl_run.proofs.answers.refuse_words.Goals as goal
 
 pub returns-then-is_of_the_system : goal.returns-then-is_of_the_system

@@ -2,7 +2,7 @@ use Rattle.std.proofs.Common.{◌≡◌, refl, sym, subst}
 use Rattle.kahn.specs.declared.outcome.Outcome.{Outcome}
 use Rattle.kahn.specs.declared.outcome.Outcome.TheVariants.{Value as Ended, Fault as Failed, Stalled}
 use Rattle.flow_nodes.specs.StreamNodes.{text_in}
-use Rattle.snesl_console.specs.Streams.{write_effect, HasSent}
+use Rattle.snesl_run.specs.console.Streams.{write_effect, HasSent}
 use Rattle.snesl_run.specs.Runs.{outcome_of, IsReported, WroteFor}
 use Rattle.snesl_run.specs.declared.report.Report.{Report}
 use Rattle.snesl_run.proofs.Reports.{run_refused, line_cut_off, line_written, nothing_written, given_for, start_kept, start_refused}

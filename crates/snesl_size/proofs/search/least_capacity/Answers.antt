@@ -1,7 +1,7 @@
 use Rattle.std.proofs.Common.{◌≡◌, ◌+◌, MatchOption, arith, refl, subst}
 use Rattle.flow_messages.specs.Limits.{greatest_capacity}
-use Rattle.snesl_network.specs.Driven.{HaveEnded}
-use Rattle.snesl_network.specs.NodesAtRest.{final_view}
+use Rattle.snesl_flatten.specs.network.Driven.{HaveEnded}
+use Rattle.snesl_flatten.specs.network.NodesAtRest.{final_view}
 use Rattle.snesl_run.specs.Runs.{CameOut}
 use Rattle.snesl_size.specs.Sizes.{EndsAtNoneBelow, IsLeft}
 use Rattle.snesl_size.proofs.Searching.{faults_so, is_least, none_below_one, none_up_to}

@@ -1,7 +1,7 @@
 use Rattle.std.proofs.Common.{refl}
 use Rattle.flow_drives.specs.declared.config.Config.{Config}
 use Rattle.flow_drives.specs.declared.config.Drive.TheVariants.{Serial}
-use Rattle.snesl_network.specs.NodesAtRest.{final_view}
+use Rattle.snesl_flatten.specs.network.NodesAtRest.{final_view}
 use Rattle.snesl_size.proofs.Searching.{left_so, refused_at_all}
 use Rattle.snesl_size.proofs.search.left_at.Goals as goal
 

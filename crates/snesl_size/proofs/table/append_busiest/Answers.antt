@@ -1,6 +1,6 @@
 use Rattle.std.proofs.Common.{Result, Ok, Err}
 use Rattle.std.specs.Result.{OnOk}
-use Rattle.snesl_network.specs.NodesAtRest.{final_view}
+use Rattle.snesl_flatten.specs.network.NodesAtRest.{final_view}
 use Rattle.snesl_size.proofs.Tables.{with_busiest, without_busiest}
 use Rattle.snesl_size.proofs.table.append_busiest.Goals as goal
 

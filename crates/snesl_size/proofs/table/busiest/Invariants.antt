@@ -1,5 +1,5 @@
 use Rattle.std.proofs.Common.{◌≡◌, MatchOption}
-use Rattle.snesl_network.specs.NodesAtRest.{final_view}
+use Rattle.snesl_flatten.specs.network.NodesAtRest.{final_view}
 use Rattle.snesl_size.specs.Tables.{IsBusiestOf, count_over}
 use Rattle.snesl_size.proofs.table.busiest.Given as goal
 

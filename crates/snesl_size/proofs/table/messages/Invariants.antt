@@ -1,7 +1,7 @@
 use Rattle.std.proofs.Common.{◌≡◌}
 use Rattle.std.specs.Io.Iter.{u64_saturate}
 use Rattle.kahn.specs.Basics.{total}
-use Rattle.snesl_network.specs.NodesAtRest.{final_view}
+use Rattle.snesl_flatten.specs.network.NodesAtRest.{final_view}
 use Rattle.snesl_size.specs.Tables.{count_over}
 use Rattle.snesl_size.proofs.table.messages.Given as goal
 

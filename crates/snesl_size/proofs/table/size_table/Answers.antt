@@ -1,4 +1,4 @@
-use Rattle.snesl_network.specs.NodesAtRest.{final_view}
+use Rattle.snesl_flatten.specs.network.NodesAtRest.{final_view}
 use Rattle.snesl_size.proofs.Tables.{whole_table}
 use Rattle.snesl_size.proofs.table.size_table.Goals as goal
 

@@ -1,6 +1,6 @@
 use Rattle.snesl_grammar.specs.Limits.{greatest_depth}
-use Rattle.snesl_expressions.specs.Readers.{within}
-use Rattle.snesl_expressions.specs.Machine.{expressions}
+use Rattle.snesl_syntax.specs.expressions.Readers.{within}
+use Rattle.snesl_syntax.specs.expressions.Machine.{expressions}
 use Rattle.snesl_syntax.specs.Programs.{lifted, programs}
 use Rattle.snesl_syntax.specs.ProgramMachine.{program_state}
 use Rattle.snesl_syntax.specs.Dialects.{in_rest}

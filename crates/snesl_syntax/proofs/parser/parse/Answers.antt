@@ -1,5 +1,5 @@
 use Rattle.std.proofs.Common.{arith, subst, sym, Ok}
-use Rattle.snesl_lexer.specs.Lexical.{dialect_of, Tokens}
+use Rattle.snesl_grammar.specs.lexer.Lexical.{dialect_of, Tokens}
 use Rattle.snesl_syntax.specs.DialectMachine.{whole_program}
 use Rattle.snesl_syntax.specs.Parse.{Parses, too_long, read, IsRight}
 use Rattle.snesl_syntax.proofs.Verdicts.{one_parse, bad_right, tokens_right, passed_on, right_of_text, right_returns, copy_spells}

@@ -1,7 +1,7 @@
 use Rattle.std.proofs.Common.{map, subst, sym}
-use Rattle.snesl_tree.specs.View.{declaration_of}
-use Rattle.snesl_expressions.specs.Readers.{within}
-use Rattle.snesl_expressions.specs.Parsing.{state_of}
+use Rattle.snesl_grammar.specs.tree.View.{declaration_of}
+use Rattle.snesl_syntax.specs.expressions.Readers.{within}
+use Rattle.snesl_syntax.specs.expressions.Parsing.{state_of}
 use Rattle.snesl_grammar.specs.Limits.{greatest_depth}
 use Rattle.snesl_syntax.specs.TypeMachine.{IsStep}
 use Rattle.snesl_syntax.specs.ProgramMachine.{header_of, program_state}

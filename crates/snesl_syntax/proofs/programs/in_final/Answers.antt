@@ -1,8 +1,8 @@
 use Rattle.std.proofs.Common.{map, subst, sym}
-use Rattle.snesl_tree.specs.View.{declaration_of}
+use Rattle.snesl_grammar.specs.tree.View.{declaration_of}
 use Rattle.snesl_grammar.specs.Limits.{greatest_depth}
-use Rattle.snesl_expressions.specs.Machine.{expressions}
-use Rattle.snesl_expressions.specs.Parsing.{state_of}
+use Rattle.snesl_syntax.specs.expressions.Machine.{expressions}
+use Rattle.snesl_syntax.specs.expressions.Parsing.{state_of}
 use Rattle.snesl_syntax.specs.Programs.{in_final}
 use Rattle.snesl_syntax.specs.TypeMachine.{IsStep}
 use Rattle.snesl_syntax.specs.ProgramMachine.{program_state}

@@ -1,7 +1,7 @@
 use Rattle.std.proofs.Common.{map, subst, sym}
-use Rattle.snesl_tree.specs.View.{declaration_of}
-use Rattle.snesl_expressions.specs.Readers.{within}
-use Rattle.snesl_expressions.specs.Machine.{expressions}
+use Rattle.snesl_grammar.specs.tree.View.{declaration_of}
+use Rattle.snesl_syntax.specs.expressions.Readers.{within}
+use Rattle.snesl_syntax.specs.expressions.Machine.{expressions}
 use Rattle.snesl_grammar.specs.Limits.{greatest_depth}
 use Rattle.snesl_syntax.specs.Types.{types}
 use Rattle.snesl_syntax.specs.Programs.{in_type, programs}

@@ -1,7 +1,7 @@
 use Rattle.std.proofs.Common.{subst, sym}
-use Rattle.snesl_tree.specs.View.{type_tree}
+use Rattle.snesl_grammar.specs.tree.View.{type_tree}
 use Rattle.snesl_syntax.specs.declared.types.TypeForm.TheVariants.{First, Second, Vector, Sequence}
-use Rattle.snesl_expressions.specs.Readers.{step}
+use Rattle.snesl_syntax.specs.expressions.Readers.{step}
 use Rattle.snesl_grammar.specs.Limits.{greatest_depth}
 use Rattle.snesl_syntax.specs.Types.{types, type_ended}
 use Rattle.snesl_syntax.specs.TypeMachine.{type_state, IsStep}

@@ -1,7 +1,7 @@
 use Rattle.std.proofs.Common.{arith, suc, length, refl, subst, sym}
 use Rattle.snesl_grammar.specs.Limits.{greatest_depth}
 use Rattle.snesl_syntax.specs.TypeMachine.{frame_of, type_state, IsStep}
-use Rattle.snesl_expressions.proofs.Piles.{at_least}
+use Rattle.snesl_syntax.proofs.OfExpressions.Piles.{at_least}
 use Rattle.snesl_syntax.proofs.Piles.{has_room, has_no_room}
 use Rattle.snesl_syntax.proofs.types.enter.Goals as goal
 

@@ -1,8 +1,8 @@
 use Rattle.std.proofs.Common.{ℕ, sym, subst}
 use Rattle.snesl_translation.specs.Wires.{stream_of}
-use Rattle.snesl_steps.specs.Added.{HasMade}
-use Rattle.snesl_steps.specs.Views.{next_in, wires_of}
-use Rattle.snesl_steps.proofs.Adding.{exits_first, then_done}
+use Rattle.snesl_translator.specs.steps.Added.{HasMade}
+use Rattle.snesl_translator.specs.steps.Views.{next_in, wires_of}
+use Rattle.snesl_translator.proofs.OfSteps.Adding.{exits_first, then_done}
 use Rattle.snesl_translator.specs.Translated.{always_true}
 use Rattle.snesl_translator.proofs.forms.always_true.Goals as goal
 

@@ -1,13 +1,13 @@
 use Rattle.std.proofs.Common.{List, ◌++◌, ◌∷◌, [], map, ap, subst, ◌∙◌}
-use Rattle.flow_plans.specs.Plans.{the_check}
-use Rattle.snesl_tree.specs.declared.operator.Builtin.TheVariants.{The}
+use Rattle.flow_nodes.specs.plans.Plans.{the_check}
+use Rattle.snesl_grammar.specs.declared.tree.operator.Builtin.TheVariants.{The}
 use Rattle.snesl_translation.specs.Makings.{tested}
 use Rattle.snesl_translation.specs.Wires.{item_wires, stream_of}
 use Rattle.snesl_translation.specs.Translation.{call_streams}
-use Rattle.snesl_steps.specs.Views.{dialect_of_steps, next_in, wires_of}
-use Rattle.snesl_steps.specs.Added.{Adds}
-use Rattle.snesl_steps.specs.declared.wires.Wires.{Wires}
-use Rattle.snesl_steps.proofs.Adding.{exits_first}
+use Rattle.snesl_translator.specs.steps.Views.{dialect_of_steps, next_in, wires_of}
+use Rattle.snesl_translator.specs.steps.Added.{Adds}
+use Rattle.snesl_translator.specs.declared.steps.wires.Wires.{Wires}
+use Rattle.snesl_translator.proofs.OfSteps.Adding.{exits_first}
 use Rattle.snesl_translator.proofs.Adding.{then_adds}
 use Rattle.snesl_translator.proofs.forms.one_of.Goals as goal
 

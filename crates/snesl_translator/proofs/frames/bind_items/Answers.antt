@@ -1,7 +1,7 @@
 use Rattle.std.proofs.Common.{map, ap, ◌∙◌, take_all}
 use Rattle.snesl_translation.specs.Wires.{item_wires}
-use Rattle.snesl_steps.specs.Views.{wires_of}
-use Rattle.snesl_steps.specs.declared.wires.Binding.{Binding}
+use Rattle.snesl_translator.specs.steps.Views.{wires_of}
+use Rattle.snesl_translator.specs.declared.steps.wires.Binding.{Binding}
 use Rattle.snesl_translator.proofs.Bindings.{items_mapped}
 use Rattle.snesl_translator.proofs.frames.bind_items.Goals as goal
 

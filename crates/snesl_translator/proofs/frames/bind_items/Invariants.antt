@@ -1,6 +1,6 @@
 use Rattle.std.proofs.Common.{◌≡◌, map, take}
 use Rattle.snesl_translation.specs.Wires.{item_wires}
-use Rattle.snesl_steps.specs.Views.{bindings_of, wires_of}
+use Rattle.snesl_translator.specs.steps.Views.{bindings_of, wires_of}
 use Rattle.snesl_translator.proofs.frames.bind_items.Given as goal
 
 abbrev pub invariant-loop-source : goal.invariant-loop-source

@@ -1,10 +1,10 @@
 use Rattle.std.proofs.Common.{◌++◌, ◌+◌, map, drop, sym, ap, ◌∙◌, arith, append-nil}
-use Rattle.snesl_tree.specs.declared.declaration.Typing.{Typing}
-use Rattle.snesl_tree.specs.declared.span.Span.{Span}
-use Rattle.snesl_tree.specs.Spelling.{spelling}
-use Rattle.snesl_tree.specs.View.{typed_of}
+use Rattle.snesl_grammar.specs.declared.tree.declaration.Typing.{Typing}
+use Rattle.snesl_grammar.specs.declared.tree.span.Span.{Span}
+use Rattle.snesl_grammar.specs.tree.Spelling.{spelling}
+use Rattle.snesl_grammar.specs.tree.View.{typed_of}
 use Rattle.snesl_translation.specs.Functions.{parameters_bound}
-use Rattle.snesl_steps.specs.Views.{bindings_of, wires_of}
+use Rattle.snesl_translator.specs.steps.Views.{bindings_of, wires_of}
 use Rattle.snesl_translator.proofs.Bindings.{bound_more, parameter_bound, parameters_end}
 use Rattle.snesl_translator.proofs.frames.bind_parameters.Goals as goal
 

@@ -1,7 +1,7 @@
 use Rattle.std.proofs.Common.{◌≡◌, ◌++◌, map, drop}
-use Rattle.snesl_tree.specs.View.{typed_of}
+use Rattle.snesl_grammar.specs.tree.View.{typed_of}
 use Rattle.snesl_translation.specs.Functions.{parameters_bound}
-use Rattle.snesl_steps.specs.Views.{bindings_of, wires_of}
+use Rattle.snesl_translator.specs.steps.Views.{bindings_of, wires_of}
 use Rattle.snesl_translator.proofs.frames.bind_parameters.Given as goal
 
 abbrev pub invariant-loop-index : goal.invariant-loop-index

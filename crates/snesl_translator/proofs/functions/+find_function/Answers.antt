@@ -1,7 +1,7 @@
 use Rattle.std.proofs.Common.{◌≡◌, ◌+◌, ◌∷◌, ◌++◌, [], true, false, sym, ap, ◌∙◌, subst, arith}
 use Rattle.std.specs.Str.{bytes_eq}
-use Rattle.snesl_tree.specs.declared.declaration.Function.{Function}
-use Rattle.snesl_tree.specs.Spelling.{spelling}
+use Rattle.snesl_grammar.specs.declared.tree.declaration.Function.{Function}
+use Rattle.snesl_grammar.specs.tree.Spelling.{spelling}
 use Rattle.snesl_evaluation.specs.Scopes.{weight}
 use Rattle.snesl_translator.specs.Called.{IsLast, IsNoHeavier, IsUnknown}
 use Rattle.snesl_evaluation.proofs.Declared.{IsOther, found_before, none_before, weight-less, weight-function}

@@ -2,11 +2,11 @@ use Rattle.std.proofs.Common.{Ok, Vec, Global, ℕ, subst, ◌++◌, [], ap, ◌
 use Rattle.snesl_translation.specs.Wires.{Bound, stream_of}
 use Rattle.snesl_translation.specs.Makings.{done}
 use Rattle.snesl_translation.specs.Translation.{items_bound}
-use Rattle.snesl_steps.specs.Added.{Adds, HasMade}
-use Rattle.snesl_steps.specs.Views.{bindings_of, next_in, wires_of}
-use Rattle.snesl_scopes.specs.Scopes.{bound_of, names_in}
-use Rattle.snesl_steps.proofs.Adding.{exits_first}
-use Rattle.snesl_steps.specs.declared.wires.Binding.{Binding}
+use Rattle.snesl_translator.specs.steps.Added.{Adds, HasMade}
+use Rattle.snesl_translator.specs.steps.Views.{bindings_of, next_in, wires_of}
+use Rattle.snesl_translator.specs.scopes.Scopes.{bound_of, names_in}
+use Rattle.snesl_translator.proofs.OfSteps.Adding.{exits_first}
+use Rattle.snesl_translator.specs.declared.steps.wires.Binding.{Binding}
 use Rattle.snesl_translator.specs.declared.rows.Rows.{Rows}
 use Rattle.snesl_translator.specs.Rows.{rows_of}
 use Rattle.snesl_translator.proofs.Adding.{done_as, then_adds}

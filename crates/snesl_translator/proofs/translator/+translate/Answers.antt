@@ -1,26 +1,26 @@
 use Rattle.std.proofs.Common.{ℕ, true, List, [], ◌∷◌, ◌++◌, map, Ok, Err, Vec, Global, arith, sym, ap, subst, ◌∙◌}
 use denote.Param.Weighed.{at_most, most}
-use Rattle.flow_plans.specs.Plans.{const}
+use Rattle.flow_nodes.specs.plans.Plans.{const}
 use Rattle.snesl_data.specs.declared.dialect.Dialect.{Dialect}
 use Rattle.snesl_data.specs.Types.{bool}
-use Rattle.snesl_operators.specs.declared.scalar.Scalar.TheVariants.{Bool as Truth}
-use Rattle.snesl_tree.specs.Spelling.{spelling}
-use Rattle.snesl_tree.specs.Tree.{Tree, Binders, apply, always, binding, call, choice, each, filter, literal, only_where}
-use Rattle.snesl_tree.specs.View.{tree_of, trees_of, binders_of}
-use Rattle.snesl_tree.specs.declared.expr.Expr.{Expr, Each, size-Expr}
-use Rattle.snesl_tree.specs.declared.expr.Binder.{Binder}
-use Rattle.snesl_tree.specs.declared.operator.Prefix.TheVariants.{Not}
-use Rattle.snesl_tree.proofs.Arguments.{tree_of-Call, tree_of-Apply, tree_of-Literal, binders_row}
+use Rattle.snesl_data.specs.declared.operators.scalar.Scalar.TheVariants.{Bool as Truth}
+use Rattle.snesl_grammar.specs.tree.Spelling.{spelling}
+use Rattle.snesl_grammar.specs.tree.Tree.{Tree, Binders, apply, always, binding, call, choice, each, filter, literal, only_where}
+use Rattle.snesl_grammar.specs.tree.View.{tree_of, trees_of, binders_of}
+use Rattle.snesl_grammar.specs.declared.tree.expr.Expr.{Expr, Each, size-Expr}
+use Rattle.snesl_grammar.specs.declared.tree.expr.Binder.{Binder}
+use Rattle.snesl_grammar.specs.declared.tree.operator.Prefix.TheVariants.{Not}
+use Rattle.snesl_grammar.proofs.OfTree.Arguments.{tree_of-Call, tree_of-Apply, tree_of-Literal, binders_row}
 use Rattle.snesl_translation.specs.FreeNames.{Names, free, without_binders}
 use Rattle.snesl_translation.specs.Makings.{Making, done, and_then, stepped}
 use Rattle.snesl_translation.specs.Wires.{Bound, Wires as WiresOf, segments, stream_of, two}
 use Rattle.snesl_translation.specs.Translation.{appended, binary_streams, call_streams, concatenated, filtered, prefix_streams, single, tr}
-use Rattle.snesl_steps.specs.Added.{Adds, HasMade}
-use Rattle.snesl_steps.specs.Views.{binding_of, bindings_of, dialect_of_steps, next_in, wires_of}
-use Rattle.snesl_steps.specs.declared.wires.Binding.{Binding}
-use Rattle.snesl_steps.specs.declared.wires.Wires.{Wires}
-use Rattle.snesl_steps.proofs.Adding.{done_made, exits, exits_first, refused_first, then_done}
-use Rattle.snesl_scopes.specs.Scopes.{bound_of}
+use Rattle.snesl_translator.specs.steps.Added.{Adds, HasMade}
+use Rattle.snesl_translator.specs.steps.Views.{binding_of, bindings_of, dialect_of_steps, next_in, wires_of}
+use Rattle.snesl_translator.specs.declared.steps.wires.Binding.{Binding}
+use Rattle.snesl_translator.specs.declared.steps.wires.Wires.{Wires}
+use Rattle.snesl_translator.proofs.OfSteps.Adding.{done_made, exits, exits_first, refused_first, then_done}
+use Rattle.snesl_translator.specs.scopes.Scopes.{bound_of}
 use Rattle.snesl_translator.specs.Rows.{each_opened, rows_of, where_opened}
 use Rattle.snesl_translator.specs.Translated.{always_true, bodies_in, body_in, each_behind, filtered_in, further_in, joined, single_in, translated, where_after, where_in}
 use Rattle.snesl_translator.proofs.Expressions.{tr_in}

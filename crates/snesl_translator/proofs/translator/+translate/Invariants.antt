@@ -1,13 +1,13 @@
 use Rattle.std.proofs.Common.{◌+◌, ◌*◌, map, take, max}
 use Rattle.std.proofs.Common.{ℕ, List}
 use denote.Param.Weighed
-use Rattle.snesl_tree.proofs.expr.Binder.TheLaws
-use Rattle.snesl_tree.specs.declared.expr.Binder.{Binder}
-use Rattle.snesl_tree.specs.declared.expr.Expr.{size-Expr}
-use Rattle.snesl_tree.specs.View.{trees_of}
+use Rattle.snesl_grammar.proofs.tree.expr.Binder.TheLaws
+use Rattle.snesl_grammar.specs.declared.tree.expr.Binder.{Binder}
+use Rattle.snesl_grammar.specs.declared.tree.expr.Expr.{size-Expr}
+use Rattle.snesl_grammar.specs.tree.View.{trees_of}
 use Rattle.snesl_evaluation.specs.Scopes.{weight, weight_of}
-use Rattle.snesl_steps.specs.Added.{HasMade}
-use Rattle.snesl_steps.specs.Views.{bindings_of, dialect_of_steps, next_in, wires_of}
+use Rattle.snesl_translator.specs.steps.Added.{HasMade}
+use Rattle.snesl_translator.specs.steps.Views.{bindings_of, dialect_of_steps, next_in, wires_of}
 use Rattle.snesl_translator.specs.Translated.{further_in}
 use Rattle.snesl_translator.proofs.Listed.{argument_in, made_all, source_in}
 use Rattle.snesl_translator.proofs.translator.+translate.Given as goal

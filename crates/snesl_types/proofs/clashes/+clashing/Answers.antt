@@ -1,16 +1,16 @@
-use Rattle.std.proofs.Common.{◌≡◌, ◌++◌, ◌∷◌, [], Ok, sym, ap, subst, ◌∙◌}
+use Rattle.std.proofs.Common.{◌≡◌, ◌++◌, ◌∷◌, [], Ok, refl, sym, ap, subst, ◌∙◌}
 use Rattle.snesl_data.specs.Types.{ty_of}
 use Rattle.snesl_values.specs.Inputs.{declared}
-use Rattle.snesl_tree.specs.Spelling.{spelling}
-use Rattle.snesl_tree.specs.Tree.{call, apply, literal, each, both, none, binding}
-use Rattle.snesl_tree.specs.View.{tree_of, trees_of, binders_of}
-use Rattle.snesl_tree.proofs.Arguments.{tree_of-Call, tree_of-Apply, tree_of-Literal}
+use Rattle.snesl_grammar.specs.tree.Spelling.{spelling}
+use Rattle.snesl_grammar.specs.tree.Tree.{call, apply, literal, each, both, none, binding}
+use Rattle.snesl_grammar.specs.tree.View.{tree_of, trees_of, binders_of}
+use Rattle.snesl_grammar.proofs.OfTree.Arguments.{tree_of-Call, tree_of-Apply, tree_of-Literal}
 use Rattle.snesl_types.specs.Clashes.{IsFound, seen_parts, sources}
 use Rattle.snesl_types.specs.Contexts.{names_context, inside, bound}
 use Rattle.snesl_types.specs.Misfitting.{ClashesIn, AnyClashesIn}
 use Rattle.snesl_types.specs.Names.{context_of, condition_in, binders_typed_in}
 use Rattle.snesl_types.proofs.Misfitting.{two_first, later, any_found, source_found, part_found, let_found, in_each_condition, in_each_body, in_let, in_one}
-use Rattle.snesl_types.proofs.Scopes.{Within, tree_of-Each}
+use Rattle.snesl_types.proofs.Scopes.{within_names, bound_items, tree_of-Each}
 use Rattle.snesl_types.proofs.clashes.+clashing.Goals as goal
 
 pub part_clash-returns-in-Prefix : goal.part_clash-returns-in-Prefix
@@ -82,13 +82,10 @@ pub bound_clash-returns-in-Ok : goal.bound_clash-returns-in-Ok
 bound_clash-returns-in-Ok t c =
     let scope = c.args.scope.now in
     let inner = c.with_names-inner.result in
-    let within : Within inner scope (bound (spelling scope.text.now c.args.name) (ty_of c.in-Ok.ty) ∷ context_of scope.text.now scope.names.now) = record {
-      dialect = c.with_names-inner.ensures.dialect;
-      text = c.with_names-inner.ensures.text;
-      functions = c.with_names-inner.ensures.functions;
-      names = ap (context_of inner.text.now) c.with_names-inner.ensures.names
-          ∙ ap (λ text. bound (spelling text c.args.name) (ty_of c.in-Ok.ty) ∷ context_of text scope.names.now) c.with_names-inner.ensures.text;
-    } in
+    let made = c.with_names-inner.ensures in
+    let within =
+    within_names inner scope (λ text. bound (spelling text c.args.name) (ty_of c.in-Ok.ty) ∷ context_of text scope.names.now) made.dialect made.text made.functions
+    (ap (context_of inner.text.now) made.names) in
     in_let inner scope c.args.at c.clash_in.result c.args.name (tree_of c.args.value.now) (tree_of c.args.body.now) (ty_of c.in-Ok.ty) within c.in-Ok.ensures c.clash_in.ensures
 
 pub inner_clash-returns-in-Let : goal.inner_clash-returns-in-Let
@@ -104,15 +101,11 @@ inner_clash-returns-then-is_nothing t c =
     let scope = c.args.scope.now in
     let inner = c.with_names-inner.result in
     let items = declared c.deref-in-Ok.result.now in
-    let bound_by : binders_typed_in scope [] (binders_of c.deref-in-Each.result.now) ≡ Ok items =
-    c.in-Ok.ensures ∙ ap (λ l. Ok (declared l)) (sym c.deref-in-Ok.ensures.value) in
-    let within : Within inner scope (names_context items ++ inside (context_of scope.text.now scope.names.now)) = record {
-      dialect = c.with_names-inner.ensures.dialect;
-      text = c.with_names-inner.ensures.text;
-      functions = c.with_names-inner.ensures.functions;
-      names = ap (context_of inner.text.now) c.with_names-inner.ensures.names
-          ∙ ap (λ text. names_context items ++ inside (context_of text scope.names.now)) c.with_names-inner.ensures.text;
-    } in
+    let bound_by = bound_items scope {binders = c.deref-in-Each.result.now} refl c.in-Ok.ensures c.deref-in-Ok.ensures.value in
+    let made = c.with_names-inner.ensures in
+    let within =
+    within_names inner scope (λ text. names_context items ++ inside (context_of text scope.names.now)) made.dialect made.text made.functions
+    (ap (context_of inner.text.now) made.names) in
     let tree = ap tree_of c.in-Each.is ∙ tree_of-Each c.in-Each.at c.in-Each.body c.in-Each.binders c.in-Each.condition
     ∙ ap (λ l. each c.in-Each.at (tree_of c.in-Each.body.value) (binders_of l) (condition_in c.in-Each.condition)) (sym c.deref-in-Each.ensures.value) in
     let whole = tree ∙ ap (λ x. each c.in-Each.at (tree_of x) (binders_of c.deref-in-Each.result.now) (condition_in c.in-Each.condition)) (sym c.deref-then-is_nothing.ensures) in
@@ -125,15 +118,11 @@ inner_clash-returns-else-is_nothing t c =
     let scope = c.args.scope.now in
     let inner = c.with_names-inner.result in
     let items = declared c.deref-in-Ok.result.now in
-    let bound_by : binders_typed_in scope [] (binders_of c.deref-in-Each.result.now) ≡ Ok items =
-    c.in-Ok.ensures ∙ ap (λ l. Ok (declared l)) (sym c.deref-in-Ok.ensures.value) in
-    let within : Within inner scope (names_context items ++ inside (context_of scope.text.now scope.names.now)) = record {
-      dialect = c.with_names-inner.ensures.dialect;
-      text = c.with_names-inner.ensures.text;
-      functions = c.with_names-inner.ensures.functions;
-      names = ap (context_of inner.text.now) c.with_names-inner.ensures.names
-          ∙ ap (λ text. names_context items ++ inside (context_of text scope.names.now)) c.with_names-inner.ensures.text;
-    } in
+    let bound_by = bound_items scope {binders = c.deref-in-Each.result.now} refl c.in-Ok.ensures c.deref-in-Ok.ensures.value in
+    let made = c.with_names-inner.ensures in
+    let within =
+    within_names inner scope (λ text. names_context items ++ inside (context_of text scope.names.now)) made.dialect made.text made.functions
+    (ap (context_of inner.text.now) made.names) in
     let tree = ap tree_of c.in-Each.is ∙ tree_of-Each c.in-Each.at c.in-Each.body c.in-Each.binders c.in-Each.condition
     ∙ ap (λ l. each c.in-Each.at (tree_of c.in-Each.body.value) (binders_of l) (condition_in c.in-Each.condition)) (sym c.deref-in-Each.ensures.value) in
     subst (λ x. IsFound (ClashesIn scope c.args.at x) c.condition_clash-found.result) (sym tree)

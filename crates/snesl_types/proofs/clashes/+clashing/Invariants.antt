@@ -1,5 +1,5 @@
 use Rattle.std.proofs.Common.{ℕ, ◌+◌, ◌*◌, max}
-use Rattle.snesl_tree.specs.declared.expr.Expr.{size-Expr}
+use Rattle.snesl_grammar.specs.declared.tree.expr.Expr.{size-Expr}
 use Rattle.snesl_types.proofs.clashes.+clashing.Given as goal
 
 -- the deeper of an expression and its helpers comes first

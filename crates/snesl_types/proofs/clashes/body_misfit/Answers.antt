@@ -1,5 +1,5 @@
 use Rattle.snesl_data.specs.Types.{ty_of}
-use Rattle.snesl_tree.specs.View.{tree_of, type_tree}
+use Rattle.snesl_grammar.specs.tree.View.{tree_of, type_tree}
 use Rattle.snesl_types.proofs.Misfitting.{another_type}
 use Rattle.snesl_types.proofs.clashes.body_misfit.Goals as goal
 

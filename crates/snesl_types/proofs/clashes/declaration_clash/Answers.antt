@@ -1,5 +1,5 @@
 use Rattle.std.proofs.Common.{◌++◌, ◌∷◌, suc, map, take, drop, ap, subst, ◌∙◌}
-use Rattle.snesl_tree.specs.View.{tree_of, type_tree, typed_of, declaration_of}
+use Rattle.snesl_grammar.specs.tree.View.{tree_of, type_tree, typed_of, declaration_of}
 use Rattle.snesl_types.specs.Clashes.{IsFound, FunctionClashes}
 use Rattle.snesl_types.specs.Names.{signatures_in}
 use Rattle.snesl_types.specs.Views.{declared_in}

@@ -1,6 +1,6 @@
 use Rattle.std.proofs.Common.{◌≡◌, [], map, Ok, sym, ap, ◌∙◌}
 use Rattle.snesl_values.specs.Inputs.{declared}
-use Rattle.snesl_tree.specs.View.{tree_of, type_tree, typed_of}
+use Rattle.snesl_grammar.specs.tree.View.{tree_of, type_tree, typed_of}
 use Rattle.snesl_types.specs.Names.{signatures_in}
 use Rattle.snesl_types.specs.Verdicts.{names_verdict}
 use Rattle.snesl_types.proofs.Misfitting.{function_found, body_found}

@@ -1,6 +1,6 @@
 use Rattle.std.proofs.Common.{◌≡◌, sym, ap, subst, ◌∙◌}
-use Rattle.snesl_tree.specs.Tree.{each, offset}
-use Rattle.snesl_tree.specs.View.{tree_of, binders_of}
+use Rattle.snesl_grammar.specs.tree.Tree.{each, offset}
+use Rattle.snesl_grammar.specs.tree.View.{tree_of, binders_of}
 use Rattle.snesl_types.specs.Clashes.{IsFound}
 use Rattle.snesl_types.specs.Misfitting.{ClashesIn}
 use Rattle.snesl_types.specs.Names.{condition_in}

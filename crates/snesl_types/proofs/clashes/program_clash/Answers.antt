@@ -1,5 +1,5 @@
 use Rattle.std.proofs.Common.{map}
-use Rattle.snesl_tree.specs.View.{tree_of, declaration_of}
+use Rattle.snesl_grammar.specs.tree.View.{tree_of, declaration_of}
 use Rattle.snesl_types.specs.Views.{declared_in}
 use Rattle.snesl_types.proofs.Misfitting.{declaration_found, final_in}
 use Rattle.snesl_types.proofs.clashes.program_clash.Goals as goal

@@ -1,6 +1,6 @@
 use Rattle.std.proofs.Common.{◌++◌, ◌∷◌, [], map, Ok, sym, ap, ◌∙◌}
 use Rattle.snesl_values.specs.Inputs.{declared}
-use Rattle.snesl_tree.specs.View.{tree_of, type_tree, typed_of, declaration_of}
+use Rattle.snesl_grammar.specs.tree.View.{tree_of, type_tree, typed_of, declaration_of}
 use Rattle.snesl_types.specs.Names.{signatures_in, sizes_in}
 use Rattle.snesl_types.specs.Programs.{Declared, and_then, nothing_declared, with_inputs}
 use Rattle.snesl_types.specs.Verdicts.{name_verdict, function_verdict, declaration_verdict, declarations_verdict, with_capped_function}

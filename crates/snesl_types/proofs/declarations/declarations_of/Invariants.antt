@@ -1,6 +1,6 @@
 use Rattle.std.proofs.Common.{◌≡◌, drop, map}
 use Rattle.snesl_values.specs.Inputs.{declared}
-use Rattle.snesl_tree.specs.View.{declaration_of}
+use Rattle.snesl_grammar.specs.tree.View.{declaration_of}
 use Rattle.snesl_types.specs.Programs.{nothing_declared}
 use Rattle.snesl_types.specs.Names.{signatures_in, sizes_in}
 use Rattle.snesl_types.specs.Verdicts.{declarations_verdict}

@@ -1,5 +1,5 @@
 use Rattle.std.proofs.Common.{◌≡◌, ◌+◌, drop, map}
-use Rattle.snesl_tree.specs.View.{declaration_of}
+use Rattle.snesl_grammar.specs.tree.View.{declaration_of}
 use Rattle.snesl_types.specs.Programs.{input_count, function_count}
 use Rattle.snesl_types.proofs.declarations.few.Given as goal
 

@@ -1,7 +1,7 @@
 use Rattle.std.proofs.Common.{ℕ, ◌+◌, [], map, drop, Vec, Global, sym, ap, ◌∙◌}
 use Rattle.snesl_data.specs.declared.ty.Ty.{Ty as TyTree}
 use Rattle.snesl_values.specs.Inputs.{declared, declaration_of}
-use Rattle.snesl_tree.specs.View.{typed_of}
+use Rattle.snesl_grammar.specs.tree.View.{typed_of}
 use Rattle.snesl_types.specs.Verdicts.{name_verdict, names_verdict}
 use Rattle.snesl_types.proofs.Declaring.{names_given, names_refused}
 use Rattle.snesl_types.proofs.InOrder.{refusal_passes, map_push}

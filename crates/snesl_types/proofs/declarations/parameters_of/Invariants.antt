@@ -1,6 +1,6 @@
 use Rattle.std.proofs.Common.{◌≡◌, [], drop, map}
 use Rattle.snesl_values.specs.Inputs.{declared}
-use Rattle.snesl_tree.specs.View.{typed_of}
+use Rattle.snesl_grammar.specs.tree.View.{typed_of}
 use Rattle.snesl_types.specs.Verdicts.{names_verdict}
 use Rattle.snesl_types.proofs.declarations.parameters_of.Given as goal
 

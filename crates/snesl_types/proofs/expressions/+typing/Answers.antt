@@ -1,15 +1,15 @@
 use Rattle.std.proofs.Common.{◌≡◌, ◌⊎◌, ℕ, ◌+◌, [], ◌++◌, map, drop, Vec, Global, Ok, Err, sym, ap, ◌∙◌, subst, arith}
 use Rattle.snesl_data.specs.declared.ty.Ty.{Ty as TyTree}
 use Rattle.snesl_data.specs.Types.{ty_of}
-use Rattle.snesl_tree.specs.Tree.{call, apply, literal}
-use Rattle.snesl_tree.specs.View.{tree_of, trees_of, binders_of}
-use Rattle.snesl_tree.proofs.Arguments.{tree_of-Call, tree_of-Apply, tree_of-Literal}
+use Rattle.snesl_grammar.specs.tree.Tree.{call, apply, literal}
+use Rattle.snesl_grammar.specs.tree.View.{tree_of, trees_of, binders_of}
+use Rattle.snesl_grammar.proofs.OfTree.Arguments.{tree_of-Call, tree_of-Apply, tree_of-Literal}
 use Rattle.snesl_types.specs.Names.{context_of, ruled_in, typed_in, all_typed_in, binders_typed_in, condition_in}
 use Rattle.snesl_types.specs.Contexts.{names_context, inside}
 use Rattle.snesl_values.specs.Inputs.{declared}
 use Rattle.snesl_types.specs.Verdicts.{IsVerdict, of_each}
 use Rattle.snesl_data.specs.declared.refusal.Refusal.TheVariants.{NoMemory}
-use Rattle.snesl_types.proofs.Scopes.{tree_of-Each, Within, each_condition_refused, each_body_refused, each_answered}
+use Rattle.snesl_types.proofs.Scopes.{tree_of-Each, within_names, bound_items, each_condition_refused, each_body_refused, each_answered}
 use Rattle.snesl_types.proofs.InOrder.{refusal_passes, map_push, types_given, types_refused, types_all, binders_refused, binders_all}
 use Rattle.snesl_types.proofs.Passing.{refused_by, refused_first, answered_second}
 use Rattle.snesl_types.proofs.expressions.+typing.Goals as goal
@@ -80,16 +80,11 @@ type_by_rule-returns-in_err-condition-in-Each t c =
     let inner = c.with_names-inner.result in
     let items = declared c.deref-in-Each-2.result.now in
     let each_tree = ap tree_of c.in-Each.is ∙ tree_of-Each c.in-Each.at c.in-Each.body c.in-Each.binders c.in-Each.condition in
-    let bound_by : binders_typed_in scope [] (binders_of c.in-Each.binders.items) ≡ Ok items =
-    ap (λ l. binders_typed_in scope [] (binders_of l)) (sym c.deref-in-Each.ensures.value)
-    ∙ c.in_ok-items-in-Each.ensures ∙ ap (λ l. Ok (declared l)) (sym c.deref-in-Each-2.ensures.value) in
-    let within : Within inner scope (names_context items ++ inside (context_of scope.text.now scope.names.now)) = record {
-      dialect = c.with_names-inner.ensures.dialect;
-      text = c.with_names-inner.ensures.text;
-      functions = c.with_names-inner.ensures.functions;
-      names = ap (context_of inner.text.now) c.with_names-inner.ensures.names
-          ∙ ap (λ text. names_context items ++ inside (context_of text scope.names.now)) c.with_names-inner.ensures.text;
-    } in
+    let bound_by = bound_items scope c.deref-in-Each.ensures.value c.in_ok-items-in-Each.ensures c.deref-in-Each-2.ensures.value in
+    let made = c.with_names-inner.ensures in
+    let within =
+    within_names inner scope (λ text. names_context items ++ inside (context_of text scope.names.now)) made.dialect made.text made.functions
+    (ap (context_of inner.text.now) made.names) in
     each_condition_refused inner scope items within (tree_of c.args.expr.now) (tree_of c.in-Each.body.value) (binders_of c.in-Each.binders.items) (condition_in c.in-Each.condition) each_tree bound_by
     c.in_err-condition-in-Each.field-0.0 c.from_residual-in_err-condition-in-Each.result c.from_residual-in_err-condition-in-Each.ensures c.in_err-condition-in-Each.ensures
 
@@ -99,16 +94,11 @@ type_by_rule-returns-in_err-body-in-Each t c =
     let inner = c.with_names-inner.result in
     let items = declared c.deref-in-Each-2.result.now in
     let each_tree = ap tree_of c.in-Each.is ∙ tree_of-Each c.in-Each.at c.in-Each.body c.in-Each.binders c.in-Each.condition in
-    let bound_by : binders_typed_in scope [] (binders_of c.in-Each.binders.items) ≡ Ok items =
-    ap (λ l. binders_typed_in scope [] (binders_of l)) (sym c.deref-in-Each.ensures.value)
-    ∙ c.in_ok-items-in-Each.ensures ∙ ap (λ l. Ok (declared l)) (sym c.deref-in-Each-2.ensures.value) in
-    let within : Within inner scope (names_context items ++ inside (context_of scope.text.now scope.names.now)) = record {
-      dialect = c.with_names-inner.ensures.dialect;
-      text = c.with_names-inner.ensures.text;
-      functions = c.with_names-inner.ensures.functions;
-      names = ap (context_of inner.text.now) c.with_names-inner.ensures.names
-          ∙ ap (λ text. names_context items ++ inside (context_of text scope.names.now)) c.with_names-inner.ensures.text;
-    } in
+    let bound_by = bound_items scope c.deref-in-Each.ensures.value c.in_ok-items-in-Each.ensures c.deref-in-Each-2.ensures.value in
+    let made = c.with_names-inner.ensures in
+    let within =
+    within_names inner scope (λ text. names_context items ++ inside (context_of text scope.names.now)) made.dialect made.text made.functions
+    (ap (context_of inner.text.now) made.names) in
     each_body_refused inner scope items within (tree_of c.args.expr.now) (tree_of c.in-Each.body.value) (binders_of c.in-Each.binders.items) (condition_in c.in-Each.condition) each_tree bound_by
     (ty_of c.in_ok-condition-in-Each.condition) c.in_err-body-in-Each.field-0.0 c.from_residual-in_err-body-in-Each.result c.from_residual-in_err-body-in-Each.ensures
     c.in_ok-condition-in-Each.ensures
@@ -120,16 +110,11 @@ type_by_rule-returns-in_ok-body-in-Each t c =
     let inner = c.with_names-inner.result in
     let items = declared c.deref-in-Each-2.result.now in
     let each_tree = ap tree_of c.in-Each.is ∙ tree_of-Each c.in-Each.at c.in-Each.body c.in-Each.binders c.in-Each.condition in
-    let bound_by : binders_typed_in scope [] (binders_of c.in-Each.binders.items) ≡ Ok items =
-    ap (λ l. binders_typed_in scope [] (binders_of l)) (sym c.deref-in-Each.ensures.value)
-    ∙ c.in_ok-items-in-Each.ensures ∙ ap (λ l. Ok (declared l)) (sym c.deref-in-Each-2.ensures.value) in
-    let within : Within inner scope (names_context items ++ inside (context_of scope.text.now scope.names.now)) = record {
-      dialect = c.with_names-inner.ensures.dialect;
-      text = c.with_names-inner.ensures.text;
-      functions = c.with_names-inner.ensures.functions;
-      names = ap (context_of inner.text.now) c.with_names-inner.ensures.names
-          ∙ ap (λ text. names_context items ++ inside (context_of text scope.names.now)) c.with_names-inner.ensures.text;
-    } in
+    let bound_by = bound_items scope c.deref-in-Each.ensures.value c.in_ok-items-in-Each.ensures c.deref-in-Each-2.ensures.value in
+    let made = c.with_names-inner.ensures in
+    let within =
+    within_names inner scope (λ text. names_context items ++ inside (context_of text scope.names.now)) made.dialect made.text made.functions
+    (ap (context_of inner.text.now) made.names) in
     each_answered inner scope items within (tree_of c.args.expr.now) (tree_of c.in-Each.body.value) (binders_of c.in-Each.binders.items) (condition_in c.in-Each.condition) each_tree bound_by
     (ty_of c.in_ok-condition-in-Each.condition) (ty_of c.in_ok-body-in-Each.body) c.each_type.result
     c.in_ok-condition-in-Each.ensures (ap (λ x. typed_in inner (tree_of x)) (sym c.deref-in-Each-3.ensures) ∙ c.in_ok-body-in-Each.ensures)

@@ -1,8 +1,8 @@
 use Rattle.std.proofs.Common.{◌≡◌, ℕ, ◌+◌, ◌*◌, max, drop, [], map}
 use Rattle.snesl_data.specs.Types.{ty_of}
 use Rattle.snesl_values.specs.Inputs.{declared}
-use Rattle.snesl_tree.specs.declared.expr.Expr.{size-Expr}
-use Rattle.snesl_tree.specs.View.{trees_of, binders_of}
+use Rattle.snesl_grammar.specs.declared.tree.expr.Expr.{size-Expr}
+use Rattle.snesl_grammar.specs.tree.View.{trees_of, binders_of}
 use Rattle.snesl_types.specs.Names.{all_typed_in, binders_typed_in}
 use Rattle.snesl_types.proofs.expressions.+typing.Given as goal
 

@@ -2,8 +2,8 @@ use Rattle.std.proofs.Common.{◌≤◌, ℕ, List, [], ◌∷◌, length, Resul
 use Rattle.snesl_data.specs.declared.refusal.Refusal.{Refusal}
 use Rattle.snesl_data.specs.declared.ty.Ty.{Ty as TyTree}
 use Rattle.snesl_data.specs.Types.{Ty, ty_of}
-use Rattle.snesl_tree.specs.declared.expr.Binder.{Binder}
-use Rattle.snesl_tree.specs.View.{binders_of}
+use Rattle.snesl_grammar.specs.declared.tree.expr.Binder.{Binder}
+use Rattle.snesl_grammar.specs.tree.View.{binders_of}
 use Rattle.snesl_types.specs.Verdicts.{IsVerdict, of_filter, of_each}
 use Rattle.snesl_types.proofs.forms.each_type.Goals as goal
 

@@ -1,6 +1,6 @@
 use Rattle.std.proofs.Common.{map, ap}
 use Rattle.snesl_data.specs.Types.{ty_of}
-use Rattle.snesl_tree.specs.View.{trees_of}
+use Rattle.snesl_grammar.specs.tree.View.{trees_of}
 use Rattle.snesl_types.proofs.Misfitting.{arguments_in}
 use Rattle.snesl_types.proofs.misfits.arguments_misfit.Goals as goal
 

@@ -1,5 +1,5 @@
 use Rattle.snesl_data.specs.Types.{ty_of}
-use Rattle.snesl_tree.specs.View.{tree_of}
+use Rattle.snesl_grammar.specs.tree.View.{tree_of}
 use Rattle.snesl_types.proofs.Misfitting.{operand_in}
 use Rattle.snesl_types.proofs.misfits.operand_misfit.Goals as goal
 

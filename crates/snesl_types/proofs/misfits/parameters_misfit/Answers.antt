@@ -1,7 +1,7 @@
 use Rattle.std.proofs.Common.{◌≡◌, map, ap, refl, ◌∙◌}
 use Rattle.snesl_data.specs.Types.{ty_of}
 use Rattle.snesl_values.specs.Inputs.{declared}
-use Rattle.snesl_tree.specs.View.{trees_of}
+use Rattle.snesl_grammar.specs.tree.View.{trees_of}
 use Rattle.snesl_types.specs.Names.{signature_in}
 use Rattle.snesl_types.specs.Verdicts.{are_same}
 use Rattle.snesl_types.proofs.Misfitting.{parameters_in}

@@ -1,4 +1,4 @@
-use Rattle.snesl_tree.specs.View.{tree_of, binders_of}
+use Rattle.snesl_grammar.specs.tree.View.{tree_of, binders_of}
 use Rattle.snesl_types.specs.Misfitting.{IsNoSequence, SourceMisfitsIn}
 use Rattle.snesl_types.proofs.Misfitting.{found_as, source_at}
 use Rattle.snesl_types.proofs.misfits.source_misfit.Goals as goal

@@ -1,5 +1,5 @@
 use Rattle.snesl_data.specs.Types.{ty_of}
-use Rattle.snesl_tree.specs.View.{tree_of}
+use Rattle.snesl_grammar.specs.tree.View.{tree_of}
 use Rattle.snesl_types.proofs.Misfitting.{no_sequence}
 use Rattle.snesl_types.proofs.misfits.type_of_no_sequence.Goals as goal
 

@@ -1,7 +1,7 @@
 use Rattle.std.proofs.Common.{sym, ap, ◌∙◌}
 use Rattle.snesl_data.specs.Types.{ty_of}
 use Rattle.snesl_values.specs.Inputs.{declared}
-use Rattle.snesl_tree.specs.Spelling.{spelling}
+use Rattle.snesl_grammar.specs.tree.Spelling.{spelling}
 use Rattle.snesl_types.specs.Contexts.{found, inside, type_in}
 use Rattle.snesl_types.specs.Names.{context_of, seen}
 use Rattle.snesl_types.proofs.Seen.{seen-inside, found-opened, unfound-opened, found-before, found-behind}

@@ -1,5 +1,5 @@
 use Rattle.std.proofs.Common.{◌≡◌, drop}
-use Rattle.snesl_tree.specs.Spelling.{spelling}
+use Rattle.snesl_grammar.specs.tree.Spelling.{spelling}
 use Rattle.snesl_types.specs.Contexts.{function_named}
 use Rattle.snesl_types.specs.Names.{signatures_in}
 use Rattle.snesl_types.proofs.names.function_named.Given as goal

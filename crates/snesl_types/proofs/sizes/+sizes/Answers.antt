@@ -1,7 +1,7 @@
 use Rattle.std.proofs.Common.{◌+◌, sym, ap, ◌∙◌}
-use Rattle.snesl_tree.specs.Spelling.{spelling}
-use Rattle.snesl_tree.specs.View.{tree_of, trees_of, binders_of}
-use Rattle.snesl_tree.proofs.Arguments.{tree_of-Call, tree_of-Apply, tree_of-Literal}
+use Rattle.snesl_grammar.specs.tree.Spelling.{spelling}
+use Rattle.snesl_grammar.specs.tree.View.{tree_of, trees_of, binders_of}
+use Rattle.snesl_grammar.proofs.OfTree.Arguments.{tree_of-Call, tree_of-Apply, tree_of-Literal}
 use Rattle.snesl_types.specs.Sizes.{size, size_of_all, size_of_binders, size_of_condition, body_size}
 use Rattle.snesl_types.specs.Names.{condition_in, sizes_in}
 use Rattle.snesl_types.specs.Verdicts.{capped}

@@ -1,5 +1,5 @@
 use Rattle.std.proofs.Common.{◌≡◌, ◌+◌, ◌≤◌, drop}
-use Rattle.snesl_tree.specs.View.{trees_of, binders_of}
+use Rattle.snesl_grammar.specs.tree.View.{trees_of, binders_of}
 use Rattle.snesl_types.specs.Sizes.{size_of_all, size_of_binders}
 use Rattle.snesl_types.specs.Names.{sizes_in}
 use Rattle.snesl_types.specs.Verdicts.{capped}

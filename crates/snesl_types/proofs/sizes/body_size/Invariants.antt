@@ -1,5 +1,5 @@
 use Rattle.std.proofs.Common.{◌≡◌, drop}
-use Rattle.snesl_tree.specs.Spelling.{spelling}
+use Rattle.snesl_grammar.specs.tree.Spelling.{spelling}
 use Rattle.snesl_types.specs.Sizes.{body_size}
 use Rattle.snesl_types.specs.Names.{sizes_in}
 use Rattle.snesl_types.proofs.sizes.body_size.Given as goal

@@ -1,130 +1,59 @@
-use Rattle.std.proofs.Common.{◌≡◌, ◌∷◌, ◌++◌, [], arith, refl, sym, ap, ◌∙◌, subst}
-use Rattle.snesl_data.specs.Types.{ty_of, pair, vec, seq, int}
+use Rattle.std.proofs.Common.{◌≡◌, ◌∷◌, ◌++◌, [], arith, sym, ap, ◌∙◌, subst, refl}
+use Rattle.snesl_data.specs.Types.{ty_of, vec, seq, int}
 use Rattle.snesl_data.specs.Values.{values_of, an_int, a_pair, a_vec, a_seq, no_values}
 use Rattle.snesl_values.specs.InputTokens.{none}
-use Rattle.snesl_values.specs.Inputs.{left_paren, comma, right_paren, left_bracket, left_brace, StopsAt}
-use Rattle.snesl_values.specs.Wants.{one, a_value, items, further_items, Fills, IsStop, IsValueRead}
-use Rattle.snesl_values.proofs.InputWants.{passed_on, stop_of, pair_stops, vec_stops, seq_stops, after_one, after_value, first_item, later_item, no_integer}
+use Rattle.snesl_values.specs.Inputs.{StopsAt}
+use Rattle.snesl_values.specs.Wants.{a_value, Fills, IsValueRead}
+use Rattle.snesl_values.proofs.InputWants.{leaves_all, leaves_pair, leaves_vec, leaves_seq, past_one, past_value, at_first_item, at_later_item, stop_passed, no_integer}
 use Rattle.snesl_values.proofs.InputItems.{have_type-push, items_read, item_read, vec_read, seq_read, pair_read}
 use Rattle.snesl_values.proofs.checker.+values.Goals as goal
 
 pub check_pair-returns-in_err-at_first-clause-stops : goal.check_pair-returns-in_err-at_first-clause-stops
 check_pair-returns-in_err-at_first-clause-stops t c =
-    let text = c.args.text.now in
-    let a = ty_of c.args.first.now in
-    let b = ty_of c.args.second.now in
-    passed_on (IsStop c.args.dialect (a_value (pair a b) ∷ []) text c.args.at) c.from_residual.result c.in_err-at_first.field-0.0 c.from_residual.ensures.1
-    (stop_of c.args.dialect text (one left_paren ∷ []) (a_value (pair a b) ∷ []) c.args.at c.args.at c.in_err-at_first.field-0.0
-    (λ n h further. pair_stops c.args.dialect text a b further c.args.at n (h (a_value a ∷ one comma ∷ a_value b ∷ one right_paren ∷ further)))
-    c.in_err-at_first.ensures.stops)
+    stop_passed leaves_pair c.from_residual.result c.in_err-at_first.field-0.0 c.from_residual.ensures.1 c.in_err-at_first.ensures.stops
 
 pub check_pair-returns-in_err-after_first-clause-stops : goal.check_pair-returns-in_err-after_first-clause-stops
 check_pair-returns-in_err-after_first-clause-stops t c =
-    let text = c.args.text.now in
-    let a = ty_of c.args.first.now in
-    let b = ty_of c.args.second.now in
-    passed_on (IsStop c.args.dialect (a_value (pair a b) ∷ []) text c.args.at) c.from_residual-in_err-after_first.result c.in_err-after_first.field-0.0 c.from_residual-in_err-after_first.ensures.1
-    (stop_of c.args.dialect text (a_value a ∷ []) (a_value (pair a b) ∷ []) c.in_ok-at_first.at_first c.args.at c.in_err-after_first.field-0.0
-    (λ n h further. pair_stops c.args.dialect text a b further c.args.at n
-    (after_one c.args.dialect text left_paren (a_value a ∷ one comma ∷ a_value b ∷ one right_paren ∷ further) c.args.at c.in_ok-at_first.at_first n c.in_ok-at_first.ensures.taken.reads
-    (h (one comma ∷ a_value b ∷ one right_paren ∷ further))))
-    c.in_err-after_first.ensures.stops)
+    stop_passed (past_one leaves_pair c.in_ok-at_first.ensures.taken)
+    c.from_residual-in_err-after_first.result c.in_err-after_first.field-0.0 c.from_residual-in_err-after_first.ensures.1 c.in_err-after_first.ensures.stops
 
 pub check_pair-returns-in_err-at_second-clause-stops : goal.check_pair-returns-in_err-at_second-clause-stops
 check_pair-returns-in_err-at_second-clause-stops t c =
-    let text = c.args.text.now in
-    let a = ty_of c.args.first.now in
-    let b = ty_of c.args.second.now in
-    passed_on (IsStop c.args.dialect (a_value (pair a b) ∷ []) text c.args.at) c.from_residual-in_err-at_second.result c.in_err-at_second.field-0.0 c.from_residual-in_err-at_second.ensures.1
-    (stop_of c.args.dialect text (one comma ∷ []) (a_value (pair a b) ∷ []) c.in_ok-after_first.after_first c.args.at c.in_err-at_second.field-0.0
-    (λ n h further. pair_stops c.args.dialect text a b further c.args.at n
-    (after_one c.args.dialect text left_paren (a_value a ∷ one comma ∷ a_value b ∷ one right_paren ∷ further) c.args.at c.in_ok-at_first.at_first n c.in_ok-at_first.ensures.taken.reads
-    (after_value c.args.dialect text a c.in_ok-after_first.ensures.read.0 (one comma ∷ a_value b ∷ one right_paren ∷ further) c.in_ok-at_first.at_first c.in_ok-after_first.after_first n
-    c.in_ok-after_first.ensures.read.1.has_type c.in_ok-after_first.ensures.read.1.reads
-    (h (a_value b ∷ one right_paren ∷ further)))))
-    c.in_err-at_second.ensures.stops)
+    stop_passed (past_value (past_one leaves_pair c.in_ok-at_first.ensures.taken) c.in_ok-after_first.ensures.read.1)
+    c.from_residual-in_err-at_second.result c.in_err-at_second.field-0.0 c.from_residual-in_err-at_second.ensures.1 c.in_err-at_second.ensures.stops
 
 pub check_pair-returns-in_err-after_second-clause-stops : goal.check_pair-returns-in_err-after_second-clause-stops
 check_pair-returns-in_err-after_second-clause-stops t c =
-    let text = c.args.text.now in
-    let a = ty_of c.args.first.now in
-    let b = ty_of c.args.second.now in
-    passed_on (IsStop c.args.dialect (a_value (pair a b) ∷ []) text c.args.at) c.from_residual-in_err-after_second.result c.in_err-after_second.field-0.0 c.from_residual-in_err-after_second.ensures.1
-    (stop_of c.args.dialect text (a_value b ∷ []) (a_value (pair a b) ∷ []) c.in_ok-at_second.at_second c.args.at c.in_err-after_second.field-0.0
-    (λ n h further. pair_stops c.args.dialect text a b further c.args.at n
-    (after_one c.args.dialect text left_paren (a_value a ∷ one comma ∷ a_value b ∷ one right_paren ∷ further) c.args.at c.in_ok-at_first.at_first n c.in_ok-at_first.ensures.taken.reads
-    (after_value c.args.dialect text a c.in_ok-after_first.ensures.read.0 (one comma ∷ a_value b ∷ one right_paren ∷ further) c.in_ok-at_first.at_first c.in_ok-after_first.after_first n
-    c.in_ok-after_first.ensures.read.1.has_type c.in_ok-after_first.ensures.read.1.reads
-    (after_one c.args.dialect text comma (a_value b ∷ one right_paren ∷ further) c.in_ok-after_first.after_first c.in_ok-at_second.at_second n c.in_ok-at_second.ensures.taken.reads
-    (h (one right_paren ∷ further))))))
-    c.in_err-after_second.ensures.stops)
+    stop_passed (past_one (past_value (past_one leaves_pair c.in_ok-at_first.ensures.taken) c.in_ok-after_first.ensures.read.1) c.in_ok-at_second.ensures.taken)
+    c.from_residual-in_err-after_second.result c.in_err-after_second.field-0.0 c.from_residual-in_err-after_second.ensures.1 c.in_err-after_second.ensures.stops
 
 pub check_pair-returns-in_err-end-clause-stops : goal.check_pair-returns-in_err-end-clause-stops
 check_pair-returns-in_err-end-clause-stops t c =
-    let text = c.args.text.now in
-    let a = ty_of c.args.first.now in
-    let b = ty_of c.args.second.now in
-    passed_on (IsStop c.args.dialect (a_value (pair a b) ∷ []) text c.args.at) c.from_residual-in_err-end.result c.in_err-end.field-0.0 c.from_residual-in_err-end.ensures.1
-    (stop_of c.args.dialect text (one right_paren ∷ []) (a_value (pair a b) ∷ []) c.in_ok-after_second.after_second c.args.at c.in_err-end.field-0.0
-    (λ n h further. pair_stops c.args.dialect text a b further c.args.at n
-    (after_one c.args.dialect text left_paren (a_value a ∷ one comma ∷ a_value b ∷ one right_paren ∷ further) c.args.at c.in_ok-at_first.at_first n c.in_ok-at_first.ensures.taken.reads
-    (after_value c.args.dialect text a c.in_ok-after_first.ensures.read.0 (one comma ∷ a_value b ∷ one right_paren ∷ further) c.in_ok-at_first.at_first c.in_ok-after_first.after_first n
-    c.in_ok-after_first.ensures.read.1.has_type c.in_ok-after_first.ensures.read.1.reads
-    (after_one c.args.dialect text comma (a_value b ∷ one right_paren ∷ further) c.in_ok-after_first.after_first c.in_ok-at_second.at_second n c.in_ok-at_second.ensures.taken.reads
-    (after_value c.args.dialect text b c.in_ok-after_second.ensures.read.0 (one right_paren ∷ further) c.in_ok-at_second.at_second c.in_ok-after_second.after_second n
-    c.in_ok-after_second.ensures.read.1.has_type c.in_ok-after_second.ensures.read.1.reads
-    (h further))))))
-    c.in_err-end.ensures.stops)
+    stop_passed (past_value (past_one (past_value (past_one leaves_pair c.in_ok-at_first.ensures.taken) c.in_ok-after_first.ensures.read.1) c.in_ok-at_second.ensures.taken)
+    c.in_ok-after_second.ensures.read.1)
+    c.from_residual-in_err-end.result c.in_err-end.field-0.0 c.from_residual-in_err-end.ensures.1 c.in_err-end.ensures.stops
 
 pub check_value-returns-in_err-start-in-Vec-clause-stops : goal.check_value-returns-in_err-start-in-Vec-clause-stops
 check_value-returns-in_err-start-in-Vec-clause-stops t c =
-    let text = c.args.text.now in
-    let a = ty_of c.in-Vec.item.value in
-    let e = c.in_err-start-in-Vec.field-0.0 in
-    passed_on (IsStop c.args.dialect (a_value (ty_of c.args.ty.now) ∷ []) text c.args.at) c.from_residual.result e c.from_residual.ensures.1
-    (subst (λ x. IsStop c.args.dialect (a_value (ty_of x) ∷ []) text c.args.at e) (sym c.in-Vec.is)
-    (stop_of c.args.dialect text (one left_bracket ∷ []) (a_value (vec a) ∷ []) c.args.at c.args.at e
-    (λ n h further. vec_stops c.args.dialect text a further c.args.at n (h (items a 93 ∷ further)))
-    c.in_err-start-in-Vec.ensures.stops))
+    stop_passed (leaves_vec {a = ty_of c.in-Vec.item.value} (sym (ap ty_of c.in-Vec.is)))
+    c.from_residual.result c.in_err-start-in-Vec.field-0.0 c.from_residual.ensures.1 c.in_err-start-in-Vec.ensures.stops
 
 pub check_value-returns-in_err-items-in-Vec-clause-stops : goal.check_value-returns-in_err-items-in-Vec-clause-stops
 check_value-returns-in_err-items-in-Vec-clause-stops t c =
-    let text = c.args.text.now in
-    let a = ty_of c.deref-in-Vec.result.now in
-    let e = c.in_err-items-in-Vec.field-0.0 in
-    let start = c.in_ok-start-in-Vec.start in
-    let same : vec a ≡ ty_of c.args.ty.now = ap (λ x. vec (ty_of x)) c.deref-in-Vec.ensures ∙ sym (ap ty_of c.in-Vec.is) in
-    passed_on (IsStop c.args.dialect (a_value (ty_of c.args.ty.now) ∷ []) text c.args.at) c.from_residual-in_err-items-in-Vec.result e c.from_residual-in_err-items-in-Vec.ensures.1
-    (subst (λ u. IsStop c.args.dialect (a_value u ∷ []) text c.args.at e) same
-    (stop_of c.args.dialect text (items a 93 ∷ []) (a_value (vec a) ∷ []) start c.args.at e
-    (λ n h further. vec_stops c.args.dialect text a further c.args.at n
-    (after_one c.args.dialect text left_bracket (items a 93 ∷ further) c.args.at start n c.in_ok-start-in-Vec.ensures.taken.reads (h further)))
-    c.in_err-items-in-Vec.ensures.stops))
+    let same : vec (ty_of c.deref-in-Vec.result.now) ≡ ty_of c.args.ty.now = ap (λ x. vec (ty_of x)) c.deref-in-Vec.ensures ∙ sym (ap ty_of c.in-Vec.is) in
+    stop_passed (past_one (leaves_vec same) c.in_ok-start-in-Vec.ensures.taken)
+    c.from_residual-in_err-items-in-Vec.result c.in_err-items-in-Vec.field-0.0 c.from_residual-in_err-items-in-Vec.ensures.1 c.in_err-items-in-Vec.ensures.stops
 
 pub check_value-returns-in_err-start-in-Seq-clause-stops : goal.check_value-returns-in_err-start-in-Seq-clause-stops
 check_value-returns-in_err-start-in-Seq-clause-stops t c =
-    let text = c.args.text.now in
-    let a = ty_of c.in-Seq.item.value in
-    let e = c.in_err-start-in-Seq.field-0.0 in
-    passed_on (IsStop c.args.dialect (a_value (ty_of c.args.ty.now) ∷ []) text c.args.at) c.from_residual-in_err-start-in-Seq.result e c.from_residual-in_err-start-in-Seq.ensures.1
-    (subst (λ x. IsStop c.args.dialect (a_value (ty_of x) ∷ []) text c.args.at e) (sym c.in-Seq.is)
-    (stop_of c.args.dialect text (one left_brace ∷ []) (a_value (seq a) ∷ []) c.args.at c.args.at e
-    (λ n h further. seq_stops c.args.dialect text a further c.args.at n (h (items a 125 ∷ further)))
-    c.in_err-start-in-Seq.ensures.stops))
+    stop_passed (leaves_seq {a = ty_of c.in-Seq.item.value} (sym (ap ty_of c.in-Seq.is)))
+    c.from_residual-in_err-start-in-Seq.result c.in_err-start-in-Seq.field-0.0 c.from_residual-in_err-start-in-Seq.ensures.1 c.in_err-start-in-Seq.ensures.stops
 
 pub check_value-returns-in_err-items-in-Seq-clause-stops : goal.check_value-returns-in_err-items-in-Seq-clause-stops
 check_value-returns-in_err-items-in-Seq-clause-stops t c =
-    let text = c.args.text.now in
-    let a = ty_of c.deref-in-Seq.result.now in
-    let e = c.in_err-items-in-Seq.field-0.0 in
-    let start = c.in_ok-start-in-Seq.start in
-    let same : seq a ≡ ty_of c.args.ty.now = ap (λ x. seq (ty_of x)) c.deref-in-Seq.ensures ∙ sym (ap ty_of c.in-Seq.is) in
-    passed_on (IsStop c.args.dialect (a_value (ty_of c.args.ty.now) ∷ []) text c.args.at) c.from_residual-in_err-items-in-Seq.result e c.from_residual-in_err-items-in-Seq.ensures.1
-    (subst (λ u. IsStop c.args.dialect (a_value u ∷ []) text c.args.at e) same
-    (stop_of c.args.dialect text (items a 125 ∷ []) (a_value (seq a) ∷ []) start c.args.at e
-    (λ n h further. seq_stops c.args.dialect text a further c.args.at n
-    (after_one c.args.dialect text left_brace (items a 125 ∷ further) c.args.at start n c.in_ok-start-in-Seq.ensures.taken.reads (h further)))
-    c.in_err-items-in-Seq.ensures.stops))
+    let same : seq (ty_of c.deref-in-Seq.result.now) ≡ ty_of c.args.ty.now = ap (λ x. seq (ty_of x)) c.deref-in-Seq.ensures ∙ sym (ap ty_of c.in-Seq.is) in
+    stop_passed (past_one (leaves_seq same) c.in_ok-start-in-Seq.ensures.taken)
+    c.from_residual-in_err-items-in-Seq.result c.in_err-items-in-Seq.field-0.0 c.from_residual-in_err-items-in-Seq.ensures.1 c.in_err-items-in-Seq.ensures.stops
 
 pub check_value-returns-in-None-clause-stops : goal.check_value-returns-in-None-clause-stops
 check_value-returns-in-None-clause-stops t c = λ further.
@@ -175,27 +104,18 @@ check_items-returns-in-Some-clause-read t c =
     (no_values, record { have_type = tt; reads = taken.reads; moves = taken.moves; within = taken.within })
 
 pub check_items-each-init : goal.check_items-each-init
-check_items-each-init t c =
-    let text = c.args.text.now in
-    let a = ty_of c.args.item.now in
-    record {
-      within = c.requires.within;
-      begun = omega arith;
-      before = [];
-      have_type = tt;
-      reads = none;
-      stops = λ wants n. first_item c.args.dialect text a c.args.close wants c.args.at n c.in_default.ensures.another;
-    }
+check_items-each-init t c = record {
+  within = c.requires.within;
+  begun = omega arith;
+  before = [];
+  have_type = tt;
+  reads = none;
+  leaves = at_first_item leaves_all c.in_default.ensures.another;
+}
 
 pub check_items-returns-in_err-behind-clause-stops : goal.check_items-returns-in_err-behind-clause-stops
 check_items-returns-in_err-behind-clause-stops t c =
-    let text = c.args.text.now in
-    let a = ty_of c.args.item.now in
-    let e = c.in_err-behind.field-0.0 in
-    passed_on (IsStop c.args.dialect (items a c.args.close ∷ []) text c.args.at) c.from_residual.result e c.from_residual.ensures.1
-    (stop_of c.args.dialect text (a_value a ∷ []) (items a c.args.close ∷ []) c.each.from c.args.at e
-    (λ n h further. c.each.invariant.stops further n (h (further_items a c.args.close ∷ further)))
-    c.in_err-behind.ensures.stops)
+    stop_passed c.each.invariant.leaves c.from_residual.result c.in_err-behind.field-0.0 c.from_residual.ensures.1 c.in_err-behind.ensures.stops
 
 pub check_items-returns-in-Some-after_sign-clause-read : goal.check_items-returns-in-Some-after_sign-clause-read
 check_items-returns-in-Some-after_sign-clause-read t c =
@@ -210,17 +130,8 @@ check_items-returns-in-Some-after_sign-clause-read t c =
 
 pub check_items-returns-in_err-from-clause-stops : goal.check_items-returns-in_err-from-clause-stops
 check_items-returns-in_err-from-clause-stops t c =
-    let text = c.args.text.now in
-    let a = ty_of c.args.item.now in
-    let e = c.in_err-from.field-0.0 in
-    let read = c.in_ok-behind.ensures.read.1 in
-    passed_on (IsStop c.args.dialect (items a c.args.close ∷ []) text c.args.at) c.from_residual-in_err-from.result e c.from_residual-in_err-from.ensures.1
-    (stop_of c.args.dialect text (one comma ∷ []) (items a c.args.close ∷ []) c.in_ok-behind.behind c.args.at e
-    (λ n h further. c.each.invariant.stops further n
-    (after_value c.args.dialect text a c.in_ok-behind.ensures.read.0 (further_items a c.args.close ∷ further) c.each.from c.in_ok-behind.behind n read.has_type read.reads
-    (later_item c.args.dialect text a c.args.close further c.in_ok-behind.behind n c.in_default-after_sign.ensures.another
-    (h (a_value a ∷ further_items a c.args.close ∷ further)))))
-    c.in_err-from.ensures.stops)
+    stop_passed (at_later_item (past_value c.each.invariant.leaves c.in_ok-behind.ensures.read.1) c.in_default-after_sign.ensures.another)
+    c.from_residual-in_err-from.result c.in_err-from.field-0.0 c.from_residual-in_err-from.ensures.1 c.in_err-from.ensures.stops
 
 pub check_items-each-preserved : goal.check_items-each-preserved
 check_items-each-preserved t c =
@@ -237,10 +148,7 @@ check_items-each-preserved t c =
       have_type = have_type-push c.args.dialect before v a c.each.invariant.have_type read.has_type;
       reads = item_read c.args.dialect text c.args.at c.each.from c.in_ok-behind.behind c.in_ok-from.from a before (before ++ v ∷ []) v refl
           c.each.invariant.reads read comma_read;
-      stops = λ wants n s. c.each.invariant.stops wants n
-          (after_value c.args.dialect text a v (further_items a c.args.close ∷ wants) c.each.from c.in_ok-behind.behind n read.has_type read.reads
-          (later_item c.args.dialect text a c.args.close wants c.in_ok-behind.behind n c.in_default-after_sign.ensures.another
-          (after_one c.args.dialect text comma (a_value a ∷ further_items a c.args.close ∷ wants) c.in_ok-behind.behind c.in_ok-from.from n comma_read.reads s)));
+      leaves = past_one (at_later_item (past_value c.each.invariant.leaves read) c.in_default-after_sign.ensures.another) comma_read;
     }
 
 pub check_value-returns-in-Some-clause-read : goal.check_value-returns-in-Some-clause-read

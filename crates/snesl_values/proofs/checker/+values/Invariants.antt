@@ -1,9 +1,9 @@
-use Rattle.std.proofs.Common.{ℕ, ◌+◌, ◌*◌, ◌-◌, ◌≤◌, List, ◌∷◌, length}
+use Rattle.std.proofs.Common.{◌+◌, ◌*◌, ◌-◌, ◌≤◌, List, [], ◌∷◌, length}
 use Rattle.snesl_data.specs.Types.{ty_of}
 use Rattle.snesl_data.specs.Values.{Value, values_of, AllHaveType}
 use Rattle.snesl_values.specs.InputTokens.{HasTokens}
-use Rattle.snesl_values.specs.Inputs.{StopsAt}
-use Rattle.snesl_values.specs.Wants.{ToCome, a_value, items, further_items, Fills}
+use Rattle.snesl_values.specs.Wants.{a_value, items, further_items}
+use Rattle.snesl_values.proofs.InputWants.{Leaves}
 use Rattle.snesl_values.proofs.InputItems.{size, leading_tokens}
 use Rattle.snesl_values.proofs.checker.+values.Given as goal
 
@@ -23,8 +23,7 @@ invariant-check_items-each l = record {
   before : List Value;
   have_type : AllHaveType l.dialect (values_of before) (ty_of l.item);
   reads : HasTokens l.text l.at (leading_tokens before) l.from;
-  stops : (wants : List ToCome) (n : ℕ) → StopsAt (Fills l.dialect (a_value (ty_of l.item) ∷ further_items (ty_of l.item) l.close ∷ wants)) l.text l.from n
-      → StopsAt (Fills l.dialect (items (ty_of l.item) l.close ∷ wants)) l.text l.at n;
+  leaves : Leaves l.dialect l.text (items (ty_of l.item) l.close ∷ []) l.at (a_value (ty_of l.item) ∷ further_items (ty_of l.item) l.close ∷ []) l.from;
 }
 
 abbrev pub decreases-check_items-each : goal.decreases-check_items-each

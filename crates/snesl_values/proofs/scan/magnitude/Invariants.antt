@@ -1,4 +1,4 @@
-use Rattle.std.proofs.Common.{◌≡◌, ◌<◌, ◌≤◌, ◌^◌, drop, length, IsTrue}
+use Rattle.std.proofs.Common.{◌≡◌, ◌≤◌, drop, length, IsTrue}
 use Rattle.std.specs.List.{AllByRecursion}
 use Rattle.std.specs.Char.{is_ascii_digit}
 use Rattle.snesl_data.specs.Characters.{value_from}

@@ -4,7 +4,7 @@ use Rattle.snesl_types.specs.Typed.{typed_inputs, typed_text, typed_tree}
 use Rattle.flow_base.specs.Columns.{Columns}
 use Rattle.flow_nodes.specs.StreamNodes.{node_behaviour}
 use Rattle.flow_networks.specs.Graphs.{states_of, edges_of}
-use Rattle.flow_plans.specs.Layouts.{layout, IsNetworkOfPlan}
+use Rattle.flow_nodes.specs.plans.Layouts.{layout, IsNetworkOfPlan}
 use Rattle.flow_assembly.specs.Openings.{AllOpen}
 use Rattle.snesl_translation.specs.Programs.{columns_of}
 use Rattle.snesl_flatten.specs.Networks.{program_steps}

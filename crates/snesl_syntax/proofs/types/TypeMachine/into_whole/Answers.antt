@@ -1,6 +1,6 @@
 use Rattle.std.proofs.Common.{◌≡◌, arith, ap, sym, ◌∙◌, vec_len}
 use Rattle.std.proofs.lemmas.Bool.{eqb-false}
-use Rattle.snesl_tree.specs.View.{type_tree}
+use Rattle.snesl_grammar.specs.tree.View.{type_tree}
 use Rattle.snesl_syntax.specs.Types.{finished_type}
 use Rattle.snesl_syntax.specs.TypeMachine.{frames_of, state_at}
 use Rattle.snesl_syntax.proofs.Piles.{not_whole}

@@ -1,6 +1,6 @@
 use denote.Param.Send.{sendable}
 use Rattle.std.proofs.Crossing.{crosses}
-use Rattle.flow_rounds.proofs.Sends.{boxes_send}
+use Rattle.flow_drives.proofs.OfLoops.Sends.{boxes_send}
 use Rattle.tool_runs.proofs.figures.rounds.idle_rounds.Goals as goal
 
 pub run_all-requires-send-E : goal.run_all-requires-send-E

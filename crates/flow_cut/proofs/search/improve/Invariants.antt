@@ -1,6 +1,0 @@
-use Rattle.std.proofs.Common.{length}
-use Rattle.flow_cut.specs.Loads.{IsDealing}
-use Rattle.flow_cut.proofs.search.improve.Given as goal
-
-abbrev pub invariant-loop : goal.invariant-loop
-invariant-loop l = IsDealing (length l.work) (length l.loads) l.share

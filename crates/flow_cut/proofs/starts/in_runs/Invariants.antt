@@ -1,5 +1,0 @@
-use Rattle.flow_cut.specs.Loads.{IsDealing}
-use Rattle.flow_cut.proofs.starts.in_runs.Given as goal
-
-abbrev pub invariant-loop-own-2 : goal.invariant-loop-own-2
-invariant-loop-own-2 l = IsDealing l.own-index l.fn.threads l.share.items

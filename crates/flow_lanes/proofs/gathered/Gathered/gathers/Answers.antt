@@ -1,6 +1,0 @@
-use Rattle.flow_words.specs.Edge.{sent}
-use Rattle.flow_lanes.proofs.Beside.{still_open}
-use Rattle.flow_lanes.proofs.gathered.Gathered.gathers.Goals as goal
-
-pub returns-clause-open : goal.returns-clause-open
-returns-clause-open c = still_open (sent c.makes_places.new.edge) (sent c.put_on.new.edge) c.add.new.self.items c.makes_places.ensures.open c.put_on.ensures.put

@@ -1,5 +1,0 @@
-use Rattle.flow_lanes.proofs.Meetings.{joins-kept, joins-seen, ends-kept, capacity-kept, met-begins, met-stopped}
-use Rattle.flow_lanes.proofs.theorems.rings_stay_joined.Goals as goal
-
-pub returns : goal.returns
-returns c = record { joined = joins-kept; there = joins-seen; ends = ends-kept; capacity = capacity-kept; begins = met-begins; stopped = met-stopped }

@@ -1,9 +1,0 @@
-pub mod Credits
-pub mod Taken
-pub mod Many
-pub mod Counted
-pub mod Followed
-pub mod Lane
-pub mod SameLanes
-pub mod Rings
-pub mod SameEnds

@@ -1,6 +1,0 @@
-use Rattle.flow_meetings.proofs.Looked.{AreStuckSoFar}
-use Rattle.flow_meetings.proofs.standing.are_stuck.Given as goal
-
--- the shares so far
-abbrev pub invariant-loop-k : goal.invariant-loop-k
-invariant-loop-k g l = AreStuckSoFar l.k l.initial.shares l.shares

@@ -1,5 +1,0 @@
-use Rattle.flow_meetings.proofs.Calm.{a_calm_round_leads_to_rest}
-use Rattle.flow_meetings.proofs.theorems.a_calm_round_leads_to_rest.Goals as goal
-
-pub returns : goal.returns
-returns g c = a_calm_round_leads_to_rest g.T.Transducer

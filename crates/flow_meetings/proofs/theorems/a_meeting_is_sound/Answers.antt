@@ -1,5 +1,0 @@
-use Rattle.flow_meetings.proofs.Meetings.{a_meeting_is_sound}
-use Rattle.flow_meetings.proofs.theorems.a_meeting_is_sound.Goals as goal
-
-pub returns : goal.returns
-returns g c = a_meeting_is_sound g.T.Transducer

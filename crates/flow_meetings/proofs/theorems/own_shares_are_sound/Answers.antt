@@ -1,5 +1,0 @@
-use Rattle.flow_meetings.proofs.Meetings.{own_shares_are_sound}
-use Rattle.flow_meetings.proofs.theorems.own_shares_are_sound.Goals as goal
-
-pub returns : goal.returns
-returns g c = own_shares_are_sound g.T.Transducer

@@ -1,8 +1,0 @@
-//! Plans: which transducers a network is made of, the streams that each of them reads, and what holds of such a network.
-#![tactic(auto)]
-
-mod laws;
-mod operation;
-
-pub use laws::{plan_is_its_flow, source_is_set};
-pub use operation::{Operation, Step};

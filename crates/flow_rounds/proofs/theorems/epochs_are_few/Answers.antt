@@ -1,5 +1,0 @@
-use Rattle.flow_rounds.proofs.Few.{epochs_are_few}
-use Rattle.flow_rounds.proofs.theorems.epochs_are_few.Goals as goal
-
-pub returns : goal.returns
-returns g c = epochs_are_few g.T.Transducer _

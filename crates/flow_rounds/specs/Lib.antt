@@ -1,6 +1,0 @@
-pub mod Standing
-pub mod Epochs
-pub mod Few
-pub mod Rounds
-pub mod Owners
-pub mod Lent

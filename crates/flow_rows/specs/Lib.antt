@@ -1,4 +1,0 @@
-pub mod Decoded
-pub mod Lists
-pub mod Made
-pub mod RowsAreFunctions

@@ -1,6 +1,0 @@
-//! The rows of the transducers as partial functions on the lists that come in.
-#![tactic(auto)]
-
-mod laws;
-
-pub use laws::rows_are_functions;

@@ -1,2 +1,0 @@
-mod LastTexts
-mod Printing

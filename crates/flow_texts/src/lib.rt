@@ -1,6 +1,0 @@
-//! What the Print of a network gathers.
-#![tactic(auto)]
-
-mod laws;
-
-pub use laws::print_tells;

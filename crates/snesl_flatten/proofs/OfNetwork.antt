@@ -1,0 +1,4 @@
+pub mod Refusing
+pub mod Planning
+pub mod Resting
+pub mod OneNetwork

@@ -1,0 +1,2 @@
+pub mod LastTexts
+pub mod Printing

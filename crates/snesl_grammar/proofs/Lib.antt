@@ -1,0 +1,2 @@
+pub mod OfLexer
+pub mod OfTree

@@ -1,5 +1,0 @@
-use Rattle.snesl_lexer.proofs.Dialects.{names_its_dialect}
-use Rattle.snesl_lexer.proofs.lexer.tokens_name_their_dialect.Goals as goal
-
-pub returns : goal.returns
-returns c = names_its_dialect

@@ -1,4 +1,0 @@
-mod Refusing
-mod Planning
-mod Resting
-mod OneNetwork

@@ -1,5 +1,0 @@
-use Rattle.snesl_network.proofs.OneNetwork.{one_network}
-use Rattle.snesl_network.proofs.laws.one_network.Goals as goal
-
-pub returns : goal.returns
-returns c = one_network c.one_answer.ensures.one c.one_input_meaning.ensures.one c.plan_has_one_network.ensures

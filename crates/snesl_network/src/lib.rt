@@ -1,8 +1,0 @@
-//! Programs driven as networks.
-#![tactic(auto)]
-
-mod driving;
-mod laws;
-
-pub use driving::{drive_program, drive_program_with};
-pub use laws::one_network;

@@ -1,8 +1,0 @@
-use Rattle.std.proofs.Common.{◌≡◌, ◌++◌, drop}
-use Rattle.snesl_tree.specs.View.{binders_of}
-use Rattle.snesl_reach.specs.Candidates.{bound_by}
-use Rattle.snesl_reach.proofs.names.append_binders.Given as goal
-
--- the names of the other binders are still to come
-abbrev pub invariant-loop-binder : goal.invariant-loop-binder
-invariant-loop-binder l = l.names.items ++ bound_by (binders_of (drop l.binder-index l.binders)) ≡ l.initial.names.items ++ bound_by (binders_of l.binders)

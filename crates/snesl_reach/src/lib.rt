@@ -1,9 +1,0 @@
-//! Which names may stand where a name stands in a program: of values those that are bound around it, of functions those that are
-//! declared before it.
-#![tactic(auto)]
-
-pub mod names;
-pub mod search;
-
-pub use names::Candidates;
-pub use search::candidates_at;

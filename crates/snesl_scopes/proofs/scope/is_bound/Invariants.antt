@@ -1,7 +1,0 @@
-use Rattle.std.proofs.Common.{◌≡◌, drop}
-use Rattle.snesl_translation.specs.Translation.{is_bound}
-use Rattle.snesl_steps.specs.Views.{bindings_of}
-use Rattle.snesl_scopes.proofs.scope.is_bound.Given as goal
-
-abbrev pub invariant-loop-binding : goal.invariant-loop-binding
-invariant-loop-binding l = is_bound l.name (bindings_of l.bindings) ≡ is_bound l.name (bindings_of (drop l.binding-index l.bindings))

@@ -1,7 +1,0 @@
-use Rattle.std.proofs.Common.{◌≡◌}
-use Rattle.std.specs.List.{range_with_len}
-use Rattle.snesl_settings.proofs.values.threads_in_turn.Given as goal
-
--- the numbers so far
-abbrev pub invariant-loop-thread : goal.invariant-loop-thread
-invariant-loop-thread l = l.share.items ≡ range_with_len 0 l.thread

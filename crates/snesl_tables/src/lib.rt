@@ -1,8 +1,0 @@
-//! Tables of jobs: their rows, and the bytes that a row spells.
-#![tactic(auto)]
-
-mod spelling;
-mod table;
-
-pub use spelling::{SpellingError, spelled_bytes};
-pub use table::{Row, TableError, rows_of};

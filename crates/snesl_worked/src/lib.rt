@@ -1,6 +1,0 @@
-//! What the worked rows of the language mean by its definitions, as laws.
-#![tactic(auto)]
-
-pub mod rows;
-
-pub use rows::worked_rows;

@@ -1,5 +1,0 @@
-use Rattle.flow_nodes.proofs.Sending.{nodes_cross}
-use Rattle.strangers.proofs.drive.shares_after_epochs.Goals as goal
-
-pub after_epochs-requires-send-T : goal.after_epochs-requires-send-T
-after_epochs-requires-send-T g c κs within = search nodes_cross
