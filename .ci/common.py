@@ -25,11 +25,12 @@ Ran = collections.namedtuple("Ran", "printed said status")
 
 
 def asked(text, rest=None, most="*", **options):
-    """What the words of the command line say, by the text that helps: options, each beside its default, flags where that is False
-    and else numbers; and the words besides, which are called `rest` there, so many at most as argparse says."""
+    """What the words of the command line say, by the text that helps: options, each beside its default, flags where that is False, texts
+    where it is one, and else numbers; and the words besides, which are called `rest` there, so many at most as argparse says."""
     parser = argparse.ArgumentParser(description=inspect.cleandoc(text), formatter_class=argparse.RawDescriptionHelpFormatter)
     for name, default in options.items():
-        how = {"action": "store_true"} if default is False else {"type": int, "default": default, "metavar": "N"}
+        how = {"type": str if default == "" else int, "default": default, "metavar": "TEXT" if default == "" else "N"}
+        how = {"action": "store_true"} if default is False else how
         parser.add_argument(f"--{name}", **how)
     if rest:
         parser.add_argument("rest", nargs=most, metavar=rest)
@@ -66,7 +67,6 @@ class Tests(Tally):
 
 
 def run(command, job=b"", seconds=60, **how):
-    """What comes of a command with this job on standard input."""
     how = {"stdout": subprocess.PIPE, "stderr": subprocess.PIPE, **how}
     try:
         child = subprocess.run([str(it) for it in command], input=job, timeout=seconds, check=False, **how)

@@ -1,29 +1,25 @@
 """A job, answered by the definitions.
 
-    answer_of(job)                     by evaluation: `value` as `snesl` prints it, `refused N at K` or `fault N at K`
-    network_answer_of(job, capacity)   by the network, stepped: the same, or `stalled`
-
-Both take and give bytes. `on_large_stack` runs a function with room for deep recursion, as both need it.
+`answer_of(job)` takes and gives bytes: `value` as `snesl` prints it, `refused N at K` or `fault N at K`, by evaluation. `on_large_stack`
+runs a function with room for deep recursion, as it is needed.
 """
 
-import os
+import functools
 import sys
 import threading
 
-from .inputs import InputReader
+from common import CRATES
+
+from .modules import read_modules
 from .networks import Network
 from .program import Program
-from .programs import Refused, Source, parts_of_job, refusal
-from .relations import Deriver
+from .programs import InputReader, Refused, Source, parts_of_job, refusal
 from .values import key_of, plain
 
-CRATES = os.path.join(os.path.dirname(os.path.abspath(__file__)), "..", "..", "crates")
 MOST_STEPS = 100_000
-_programs = {}
 
 
 def on_large_stack(function, *given):
-    """What the function gives, run in a thread with a stack for deep recursion."""
     found = []
     sys.setrecursionlimit(10 ** 8)
     threading.stack_size(1 << 30)
@@ -34,18 +30,10 @@ def on_large_stack(function, *given):
     return found[0]
 
 
-def definitions(root=CRATES):
-    """The definitions of the crates at root, read once."""
-    if root not in _programs:
-        _programs[root] = Program.of_crates(root)
-    return _programs[root]
-
-
-def deriver(program):
-    """What decides the relations of a program."""
-    if not hasattr(program, "deriver"):
-        program.deriver = Deriver(program)
-    return program.deriver
+@functools.cache
+def definitions():
+    """The definitions of the crates, read once."""
+    return Program(read_modules(CRATES))
 
 
 class OtherType(Exception):
@@ -59,9 +47,9 @@ class Job:
         self.definitions = program
         text, input_text = parts_of_job(job)
         self.source = source or Source(program, text)
-        self.tree = self.source.tree()
-        self.declared, self.type = self.source.typing()
-        self.input = InputReader(program, deriver(program).decide, self.tree["dialect"], input_text)
+        self.tree = self.source.tree
+        self.declared, self.type = self.source.typing
+        self.input = InputReader(program, program.deriver.decide, self.tree["dialect"], input_text)
         self.environment = self.input.environment(self.declared["inputs"])
         self.layout = self.laid_out()
 
@@ -73,9 +61,9 @@ class Job:
         self.plan = call("snesl_translation.specs.Programs", "program_plan", self.source.text, self.tree, inputs, cells)
         if key_of(call("snesl_translation.specs.Wires", "type_of_wires", self.plan["given"])) != key_of(self.type):
             raise OtherType(self.plan["given"])
-        layout = call("flow_plans.specs.Layouts", "layout", self.plan["steps"])
+        layout = call("flow_nodes.specs.plans.Layouts", "layout", self.plan["steps"])
         limits = "flow_networks.specs.Limits"
-        edges = call("flow_plans.specs.Layouts", "edges_needed", layout)
+        edges = call("flow_nodes.specs.plans.Layouts", "edges_needed", layout)
         if len(layout) > call(limits, "most_nodes") or edges > call(limits, "most_edges"):
             raise refusal("TooBig")
         return layout
@@ -85,21 +73,21 @@ class Job:
         answer = self.source.value(self.tree, self.environment)
         if answer.name == "gives":
             is_of_type = self.definitions.call("snesl_data.specs.Values", "HasType", self.tree["dialect"], answer.given[0], self.type)
-            if not deriver(self.definitions).decide(is_of_type):
+            if not self.definitions.deriver.decide(is_of_type):
                 raise OtherType(answer.given[0])
             return bytes(plain(self.definitions.call("snesl_data.specs.Text", "text", answer.given[0])))
         return self.line("fault_line", *answer.given)
 
     def line(self, name, *given):
-        """A line of snesl_console, without its line feed."""
-        return bytes(plain(self.definitions.call("snesl_console.specs.Lines", name, *given)))[:-1]
+        """A line of snesl_run, without its line feed."""
+        return bytes(plain(self.definitions.call("snesl_run.specs.console.Lines", name, *given)))[:-1]
 
     def run(self, capacity):
         """What the network answers, as a line; None where that takes too many steps."""
         network = Network(self.definitions, self.layout, capacity)
         if not network.run(MOST_STEPS):
             return None
-        kind, what, at = network.outcome(deriver(self.definitions))
+        kind, what, at = network.outcome()
         if kind == "value":
             return what
         return self.line("fault_line", what, at) if kind == "fault" else self.line("stalled_line")
@@ -107,23 +95,11 @@ class Job:
 
 def refusal_line(program, refusal):
     """The line of a refusal, without its line feed."""
-    return bytes(plain(program.call("snesl_console.specs.Lines", "refusal_line", refusal)))[:-1]
-
-
-def answered(job, answer, program=None):
-    """What `answer` gives of a job that is not refused, and else the line of its refusal."""
-    program = program or definitions()
-    try:
-        return answer(Job(program, job))
-    except Refused as refused:
-        return refusal_line(program, refused.args[0])
+    return bytes(plain(program.call("snesl_run.specs.console.Lines", "refusal_line", refusal)))[:-1]
 
 
 def answer_of(job):
-    """The answer of a job by evaluation."""
-    return answered(bytes(job), Job.evaluated)
-
-
-def network_answer_of(job, capacity=256):
-    """The answer of a job by its network, stepped at a capacity."""
-    return answered(bytes(job), lambda made: made.run(capacity))
+    try:
+        return Job(definitions(), job).evaluated()
+    except Refused as refused:
+        return refusal_line(definitions(), refused.args[0])

@@ -1,9 +1,8 @@
 """The types of what constructors and definitions take: where they differ, an exchange is refused before it is run."""
 
 from .compiling import binder_variables, binds
-from .modules import Definition
-from .scope import NameMissing, Scope
-from .terms import Parser, parsed
+from .modules import Definition, NameMissing, Scope
+from .terms import Parser, arguments_of, parsed
 from .tokens import FormError
 
 # Words of the kit that take two things of different types first: a function and a list, or a list and a number.
@@ -79,9 +78,7 @@ def plain_type(scope, term):
 
 def begins_with(term):
     """What a type that may have names in it that are not known begins with: an operator, or a type that is given others."""
-    while term[0] == "apply":
-        term = term[1]
-    return term[:2]
+    return arguments_of(term)[0][:2]
 
 
 def may_be_same(scope, first, second):

@@ -11,15 +11,14 @@ import resource
 import time
 import typing
 
-from .answers import CRATES, definitions, deriver, on_large_stack
-from .edits import changes_of
-from .gate import rows_to_try, unknown_forms
+from common import HERE
+
+from .answers import definitions, on_large_stack
+from .edits import changes_of, sides_of, taken_fields
+from .gate import collect_seldom, in_processes, rows_to_try, unknown_forms
 from .headline import whole_headline
-from .pool import collect_seldom, in_processes
-from .taken import sides_of, taken_fields
 from .trials import Trial
 
-REASONS = os.path.join(os.path.dirname(os.path.abspath(__file__)), "..", "definitions_alike")
 # A row does not end where it takes so many times what it took before, and so many processor seconds more.
 TIMES, SECONDS_MORE = 8, 4
 # Rows of so many processor seconds are tried of a change that has a reason.
@@ -55,13 +54,11 @@ def answered(program, trial, row):
 
 
 def with_change(program, change):
-    """The program with a change."""
-    decider = deriver(program)
-    decider.found.clear()
+    program.deriver.found.clear()
     if change.definition.kind in ("data", "record"):
         name, tokens = change.equation
         change.definition.parts[name] = tokens
-        decider.relations.pop(change.definition.key, None)
+        program.deriver.relations.pop(change.definition.key, None)
         return
     equations = list(program.equations(change.definition))
     equations[change.at] = change.equation
@@ -100,15 +97,9 @@ def verdict_apart(program, change, rows):
 def changes_reached(program, places):
     """The changes of equations of the headline at these places, but for those of fields that are not taken."""
     fields = taken_fields(sides_of(program, places))
-    closure = whole_headline(program.modules, os.path.abspath(CRATES))
+    closure = whole_headline(program.modules)
     return [change for one in closure.found.values()
             for change in changes_of(program, one) if (one.key, change.at) in places and change.fields <= fields]
-
-
-def reasons():
-    """The changes of which a reason is known why no row can tell them."""
-    with open(REASONS, encoding="utf-8") as file:
-        return {line.partition(" -- ")[0] for line in file.read().split("\n") if line and not line.startswith("#")}
 
 
 class Rows:
@@ -132,7 +123,6 @@ class Rows:
         return [one for one in self.reached if one.reaches(place)]
 
     def for_change(self, change, has_reason):
-        """The rows to try of a change."""
         near, seconds = self.near(change), 0
         for count, one in enumerate(near):
             seconds += one.seconds
@@ -141,29 +131,18 @@ class Rows:
         return near
 
 
-class Part(typing.NamedTuple):
-    """Which changes of an order are tried: from the `first`-th on, so many at most, and of these such as have one of the texts in their names."""
-
-    first: int
-    most: int | None
-    texts: list
-
-    def of(self, changes):
-        """Those changes, in order."""
-        some = changes[self.first - 1:][:self.most]
-        return [change for change in some if any(text in change.name for text in self.texts)]
-
-
-def run(seed, part, seconds, processes):
-    """Tries a part of the changes, for so many seconds, and prints those that live without a reason; 1 where there are such."""
+def run(seed, first, most, texts, seconds, processes):
+    """Tries the changes of an order from the first-th on, so many at most, and of these such as have one of the texts in their names, for so
+    many seconds, and prints those that live without a reason; 1 where there are such."""
     program = definitions()
-    unknown_forms(program, whole_headline(program.modules, os.path.abspath(CRATES)))
+    unknown_forms(program, whole_headline(program.modules))
     rows = Rows(program)
     changes = changes_reached(program, rows.places())
-    known, started = reasons(), time.time()
+    lines, started = (HERE / "definitions_alike").read_text(encoding="utf-8").splitlines(), time.time()
+    known = {line.partition(" -- ")[0] for line in lines if not line.startswith("#")}
     idle = known - {change.name for change in changes}
     random.Random(seed).shuffle(changes)
-    some = part.of(changes)
+    some = [change for change in changes[first - 1:][:most] if any(text in change.name for text in texts)]
     print(f"seed {seed}: {len(some)} of {len(changes)} changes that {len(rows.reached)} rows reach", flush=True)
 
     def tried(item):
@@ -178,7 +157,7 @@ def run(seed, part, seconds, processes):
             print(f"{number} begun, {time.time() - started:.0f} s", flush=True)
         return status
 
-    found, _ = in_processes(tried, list(enumerate(some, 1)), processes)
+    found = in_processes(tried, list(enumerate(some, 1)), processes)
     return summed(some, found, known, idle)
 
 

@@ -7,8 +7,8 @@ An equation is a test of its patterns, and what it gives. Constants are computed
 from .library import CONSTANTS, FUNCTIONS, WORDS
 from .looping import Function
 from .matching import Match
-from .modules import Definition
-from .scope import Scope
+from .modules import Definition, Scope
+from .terms import arguments_of
 from .tokens import FormError
 
 NEVER = ("name", "⊥")
@@ -17,9 +17,7 @@ CLAIMS = ("→", "↔", "⊎", "×", "≡", "≢", "<", "≤")
 
 def binds(term):
     """Whether a term is the binder of a claim of all or of some values."""
-    while term[0] == "apply":
-        term = term[1]
-    return term[0] == "binder"
+    return arguments_of(term)[0][0] == "binder"
 
 
 def implication_of(term):
@@ -30,14 +28,9 @@ def implication_of(term):
 
 
 def binder_variables(term):
-    """The names that a binder binds."""
-    while term[0] == "apply":
-        term = term[1]
-    names, term = set(), term[1]
-    while term[0] == "apply":
-        names.add(str(term[2][1]))
-        term = term[1]
-    return names | {str(term[1])}
+    """The names that the binder of a claim binds."""
+    name, others = arguments_of(arguments_of(term)[0][1])
+    return {str(it[1]) for it in (name, *others)}
 
 
 def listed(given):
@@ -45,22 +38,12 @@ def listed(given):
     return f"({''.join(one + ', ' for one in given)})"
 
 
-def type_tag(what):
-    """The tag of a type, or of a relation with its arguments."""
-    return ("type", *what.key) if isinstance(what, Definition) else ("type", *what)
-
-
 class Writer:
     """Writes the terms of one definition as expressions of Python."""
 
     def __init__(self, program, definition):
-        self.program = program
-        self.definition = definition
-        self.scope = Scope(program.modules, definition.module)
-        self.names = 0
-        self.repeated = set()
-        self.shared = {}
-        self.wholes = {}
+        self.program, self.definition, self.scope = program, definition, Scope(program.modules, definition.module)
+        self.names, self.repeated, self.shared, self.wholes = 0, set(), {}, {}
 
     def fresh(self):
         self.names += 1
@@ -68,13 +51,12 @@ class Writer:
 
     def write(self, term, bound):
         """A term as an expression, where names are bound to expressions."""
-        return getattr(self, "write_" + term[0])(term, bound)
+        return self.write(term[1], bound) if term[0] == "binder" else getattr(self, "write_" + term[0])(term, bound)
 
     def write_number(self, term, bound):
-        return str(term[1])
-
-    def write_text(self, term, bound):
         return repr(term[1])
+
+    write_text = write_number
 
     def write_name(self, term, bound):
         return self.write_call(term, [], bound)
@@ -86,10 +68,7 @@ class Writer:
             self.shared[term] = (self.fresh(), self.write_apply(term, bound))
         if term in self.shared:
             return f"{self.shared[term][0]}()"
-        given = []
-        while term[0] == "apply":
-            given.insert(0, term[2])
-            term = term[1]
+        term, given = arguments_of(term)
         if term[0] == "name":
             return self.write_call(term, given, bound)
         return self.applied(self.write(term, bound), [self.write(one, bound) for one in given])
@@ -124,8 +103,10 @@ class Writer:
         """What was found, with these arguments."""
         if found.kind == "proof":
             return "TYPE"
-        if found.kind == "type" and not self.is_claim(found.what):
-            return f"Built({type_tag(found.what)!r}, {listed(given)})"
+        # (a function that gives a type is a claim, which may be decided: relations.py)
+        if found.kind == "type" and getattr(found.what, "kind", None) not in ("abbrev", "unfoldable"):
+            tag = ("type", *(found.what.key if isinstance(found.what, Definition) else found.what))
+            return f"Built({tag!r}, {listed(given)})"
         if found.kind == "constant":
             return self.applied(repr(CONSTANTS[found.what]), given)
         if found.kind == "constructor":
@@ -134,10 +115,6 @@ class Writer:
             return self.called(WORDS[found.what], FUNCTIONS[found.what][0], given)
         passed = self.passed(found.what, bound)
         return self.called(*self.program.target(found.what), passed + given)
-
-    def is_claim(self, what):
-        """Whether this is a function that gives a type: a claim, which may be decided (relations.py)."""
-        return isinstance(what, Definition) and what.kind in ("abbrev", "unfoldable")
 
     def write_claim(self, term, bound):
         """A claim of two parts; one of all or of some values is not decided."""
@@ -223,17 +200,11 @@ class Writer:
         return written
 
     def write_field(self, term, bound):
-        """A field of a record, or a part of a pair."""
         return self.write(term[1], bound) + self.field(term[2])
 
     def write_record(self, term, bound):
-        """A record, or one with some fields changed."""
         base = f"**{self.write(term[1], bound)}, " if term[1] else ""
         return "{" + base + ", ".join(f"{name!r}: {self.write(value, bound)}" for name, value in term[2]) + "}"
-
-    def write_binder(self, term, bound):
-        """A term with its type."""
-        return self.write(term[1], bound)
 
     def write_cases(self, term, bound):
         name = self.fresh()
@@ -246,5 +217,4 @@ class Writer:
         return f"(lambda {name}: {written})({self.write(term[1], bound)})"
 
     def function(self, name, count):
-        """The definition as the text of a function."""
         return "\n".join(Function(self, count).lines(name)) + "\n"

@@ -1,13 +1,12 @@
 """Changes of one definition: of a number, a truth value, a text, an operator, a constructor, an argument's place, or a whole answer."""
 
+import dataclasses
 from collections import Counter
 
 from .argument_types import constructor_takes, differ_in_type, head_of
 from .matching import Match
-from .modules import explicit_parameters
+from .modules import NameMissing, Scope, explicit_parameters
 from .relations import header_of
-from .scope import NameMissing, Scope
-from .taken import fields_of
 from .terms import tokens_used
 from .tokens import Token, binder_names
 
@@ -19,33 +18,30 @@ OTHERS = {
 # What gives the same whichever of its two arguments comes first.
 SYMMETRIC = {"are_same", "bytes_eq", "eqb", "is_same", "max", "min", "nat_eq", "same_integer", "same_truth"}
 
+# The fields of records that this program takes of what the definitions give (networks.py, answers.py). What stands in a field that is not
+# taken, as the row of a machine, is not run where the record is made.
+DRIVEN = {
+    "process", "want", "read", "written", "wrote", "start", "operation", "at", "kind", "text",
+    "writer", "writer_port", "reader", "reader_port", "dialect", "inputs", "steps",
+    "outputs", "kind_in", "kind_out", "reads", "writes", "opening",
+}
 
+
+@dataclasses.dataclass
 class Change:
     """An equation of a definition, and what stands in its place; the fields of records in which it is changed."""
 
-    def __init__(self, definition, at, what, equation, fields=frozenset()):
-        self.definition = definition
-        self.at = at
-        self.what = what
-        self.equation = equation
-        self.fields = fields
-        self.text = text_in(what)
+    definition: object
+    at: int
+    what: str
+    equation: object
+    fields: set = frozenset()
 
     @property
     def name(self):
         """The definition, its case from 1, and what is changed."""
         module = self.definition.module.name.removeprefix("Rattle.").replace(".specs.", "/")
         return f"{module} {self.definition.name} {self.at + 1}: {self.what}"
-
-
-def text_in(what):
-    """The bytes of the text that is changed, or None."""
-    return what.split('"')[1].encode() if what.startswith('`"') else None
-
-
-def with_token(tokens, at, word):
-    """The tokens with another word at a place."""
-    return tokens[:at] + [Token(word, tokens[at].line)] + tokens[at + 1:]
 
 
 def changed_word(token):
@@ -90,17 +86,6 @@ def same_type_imports(scope, name):
     return [other for other in scope.module.imports if owner(other) is owner(name)]
 
 
-def are_bound_for_once(tokens, names):
-    """Whether a rule binds these names and has each in one place: then it is the same rule where they are exchanged."""
-    return all(list(tokens).count(name) == 2 for name in names) and binder_names(tokens, ("{",)).issuperset(names)
-
-
-def are_even(tokens, at):
-    """Whether an argument and the next one are those of what gives the same where they are exchanged."""
-    head = head_of(tokens, at)
-    return head is not None and head[0] in SYMMETRIC
-
-
 def exchanged(scope, tokens, at, parameters):
     """The tokens with two names that follow each other exchanged, where both are arguments, and of one type as far as is known; else None.
 
@@ -113,9 +98,13 @@ def exchanged(scope, tokens, at, parameters):
     words = (before, first, second)
     if any(not (word[0].isalpha() or word[0].isdigit()) or word in ("if", "then", "else", "let", "in", "record", "λ") for word in words):
         return None
-    if first in parameters or second in parameters or are_bound_for_once(tokens, (first, second)):
+    # (a rule that binds both, and has each in one place, is the same rule then)
+    are_bound_for_once = tokens.count(first) == tokens.count(second) == 2 and {first, second} <= binder_names(tokens, ("{",))
+    if first in parameters or second in parameters or are_bound_for_once:
         return None
-    if first == second or any(word.endswith(".") for word in words) or differ_in_type(scope, tokens, at) or are_even(tokens, at):
+    if first == second or any(word.endswith(".") for word in words) or differ_in_type(scope, tokens, at):
+        return None
+    if (head_of(tokens, at) or [None])[0] in SYMMETRIC:
         return None
     return tokens[:at] + [second, first] + tokens[at + 2:]
 
@@ -127,7 +116,6 @@ def may_answer(scope, equation, following):
 
 
 def names_bound(scope, equation):
-    """The names that the patterns of an equation bind."""
     match = Match(scope)
     for pattern in equation.patterns:
         match.take(pattern, "value")
@@ -157,13 +145,49 @@ def changed_sides(scope, right, parameters=()):
     names = Counter()
     for at, token in enumerate(right):
         word, other = changed_word(token) or siblings(scope, token), exchanged(scope, right, at, parameters)
-        sides = [] if word in (None, token) or is_level(right, at) else [(f"`{token}` is `{word}`", with_token(right, at, word))]
+        # (a number alone in braces is the level of a type)
+        is_level = at > 0 and right[at - 1] == "{" and right[at + 1:at + 2] == ["}"]
+        sides = []
+        if word not in (None, token) and not is_level:
+            sides.append((f"`{token}` is `{word}`", [*right[:at], Token(word, token.line), *right[at + 1:]]))
         sides += [] if other is None else [(f"`{token}` and `{right[at + 1]}` exchanged", other)]
         for name, changed in sides:
             names[name] += 1
             yield name + (f" ({names[name]})" if names[name] > 1 else ""), changed, at
 
 
-def is_level(tokens, at):
-    """Whether a number alone in braces stands there: the level of a type."""
-    return 0 < at < len(tokens) - 1 and tokens[at - 1] == "{" and tokens[at + 1] == "}"
+def fields_of(tokens):
+    """For each token the fields of the records in which it stands, where the tokens are a record."""
+    found, opened = [], []
+    for at, token in enumerate(tokens):
+        if token in ("{", "("):
+            opened.append(None)
+        elif token in ("}", ")"):
+            opened.pop()
+        elif opened and tokens[0] == "record" and tokens[at + 1] == "=":
+            opened[-1] = str(token)
+        found.append({field for field in opened if field})
+    return found
+
+
+def taken_fields(sides):
+    """The fields that these right sides take, where what stands in a field that is not taken is not run."""
+    sides = [list(zip(fields_of(tokens), tokens)) for tokens in sides]
+    taken, known = set(DRIVEN), None
+    while taken != known:
+        known = set(taken)
+        for side in sides:
+            for fields, token in side:
+                if fields <= known:
+                    taken.update(str(token).split(".")[1:])
+    return taken
+
+
+def sides_of(program, places):
+    """The right sides of the equations and rules at these places."""
+    for key, at in places:
+        definition = program.modules[key[0]].definitions[key[1]]
+        if definition.kind in ("data", "record"):
+            yield from definition.parts.values()
+        else:
+            yield program.equations(definition)[at].right

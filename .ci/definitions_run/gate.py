@@ -1,24 +1,48 @@
 """What `.ci/dev definitions` tries: the rows, the forms, the list of what is not run, and the page."""
 
+import collections
+import gc
+import multiprocessing
 import os
+import textwrap
 import time
+from concurrent.futures import ProcessPoolExecutor
+
+from common import DATA, HERE
 
 from . import planted
-from .answers import CRATES, definitions
-from .headline import one_name, whole_headline
-from .page import Pages, texts, write_page
-from .pool import in_processes
+from .answers import definitions, on_large_stack
+from .headline import Pages, one_name, whole_headline
 from .tables import all_rows
 from .tokens import FormError
 from .trials import Trial
 
-HERE = os.path.join(os.path.dirname(os.path.abspath(__file__)), "..")
-UNREAD = os.path.join(HERE, "definitions_unread")
-TABLES = (os.path.join(CRATES, "tool_runs", "data"), os.path.join(HERE, "definitions_rows"))
-LONGEST = 20_000
+UNREAD, TABLES = HERE / "definitions_unread", (DATA, HERE / "definitions_rows")
+LONGEST, WIDEST = 20_000, 139
 DEAR = 4
 # What is answered of a text that is too long as a whole, which is not read.
 TOO_LONG = (b"refused 1", b"refused 8 at 16777216")
+# What a process does, as a function, and of which items.
+WORK = []
+
+
+def collect_seldom(*work):
+    """Has Python look seldom for values that hold each other: few do. The work is what this process has to do."""
+    WORK[:] = work
+    gc.freeze()
+    gc.set_threshold(200_000, 20, 100)
+
+
+def worked(number):
+    function, items = WORK
+    return on_large_stack(function, items[number])
+
+
+def in_processes(function, items, count):
+    """What the function gives of each item, in order, by so many processes, with stacks for deep recursion. It is an error where one
+    ends badly."""
+    with ProcessPoolExecutor(count, multiprocessing.get_context("fork"), collect_seldom, (function, items)) as pool:
+        return [*pool.map(worked, range(len(items)))]
 
 
 def rows_to_try():
@@ -31,12 +55,12 @@ def rows_to_try():
 
 
 def tried(program, rows, processes):
-    """What is said of each row, and the places of the equations that any reached."""
-    trial = Trial(program)
+    """What is said of each row, how many were answered by evaluation alone, and the places of the equations that any reached."""
+    trial, known = Trial(program), set()
 
     def said(row):
-        """What is said of a row, and of its cost where that is great."""
-        started = time.process_time()
+        """What is said of a row, and of its cost where that is great; and the equations that this process reached by it first."""
+        started, alone = time.process_time(), trial.by_evaluation_alone
         try:
             answer = trial.differs(row)
         except Exception as error:  # a definition that takes no value is said, like any other difference
@@ -44,15 +68,12 @@ def tried(program, rows, processes):
         seconds = time.process_time() - started
         if seconds > DEAR:
             print(f"{row.place} took {seconds:.1f} processor seconds", flush=True)
-        return answer
+        reached = {place for place, number in program.places.items() if program.reached[number]} - known
+        known.update(reached)
+        return answer, trial.by_evaluation_alone - alone, reached
 
-    def reached():
-        """The equations that this process reached, and its costs."""
-        places = {place for place, number in program.places.items() if program.reached[number]}
-        return places, trial.by_evaluation_alone, sum(os.times()[:2])
-
-    answers, ends = in_processes(said, rows, processes, reached)
-    return answers, set().union(*(end[0] for end in ends)), sum(end[1] for end in ends), sum(end[2] for end in ends)
+    answers, alone, reached = zip(*in_processes(said, rows, processes))
+    return answers, sum(alone), set().union(*reached)
 
 
 def unknown_forms(program, closure):
@@ -67,12 +88,6 @@ def unknown_forms(program, closure):
     return failures
 
 
-def unread(closure, reached, root):
-    """What the headline rests on and no row runs, one name a line, with its file."""
-    run = {key for key, _ in reached}
-    return sorted(one_name(one, root) for one in closure.found.values() if one.key not in run)
-
-
 def other_names(names, listed):
     """What is said of names that a list lacks, and of those that it should not have."""
     return [f"no row runs it, and .ci/definitions_unread lacks it: {name}" for name in sorted(set(names) - set(listed))] + [
@@ -80,48 +95,48 @@ def other_names(names, listed):
 
 
 def listed():
-    """The names of .ci/definitions_unread."""
-    with open(UNREAD, encoding="utf-8") as file:
-        return [line for line in file.read().split("\n") if line and not line.startswith("#")]
+    lines = [line.split() for line in UNREAD.read_text(encoding="utf-8").splitlines() if not line.startswith("#")]
+    return [f"{path} {name}" for path, *names in lines for name in names]
 
 
-def list_differs(names, write):
-    """What is said where the list of what is not run is another."""
-    if write:
-        with open(UNREAD, "w", encoding="utf-8") as file:
-            file.write("# What the headline rests on and no row runs.\n" + "".join(name + "\n" for name in names))
-    return other_names(names, listed())
+def write_list(names):
+    """Writes .ci/definitions_unread anew: lines that have a file, and names of it."""
+    files = collections.defaultdict(list)
+    for path, name in map(str.split, names):
+        files[path].append(name)
+    lines = [f"{path} {some}" for path, its in files.items() for some in textwrap.wrap(" ".join(its), WIDEST - len(path))]
+    UNREAD.write_text("\n".join(["# What the headline rests on and no row runs.", *lines, ""]), encoding="utf-8")
 
 
 def page():
     """Whether the page has the numbers of the definitions as they stand; 1 where it has not."""
-    pages = Pages(definitions().modules, os.path.abspath(CRATES), set(listed()))
-    said = pages.differ(*texts()) + planted.page_failures(pages)
+    pages = Pages(definitions().modules, set(listed()))
+    said = pages.differ_now() + planted.page_failures(pages)
     print(*said, f"{int(not said)} passed, {len(said)} failed", sep="\n")
     return 1 if said else 0
 
 
 def run(write, processes):
     """Tries all, and prints what failed; 1 where something did."""
-    started = time.process_time()
     program = definitions()
-    root = os.path.abspath(CRATES)
-    closure = whole_headline(program.modules, root)
+    closure = whole_headline(program.modules)
     forms = unknown_forms(program, closure)
     rows, passed_over = rows_to_try()
-    answers, reached, alone, seconds = tried(program, rows, processes)
+    answers, alone, reached = tried(program, rows, processes)
     failures = [f"{row.place}: {said}" for row, said in zip(rows, answers) if said]
-    names = unread(closure, reached, root)
-    lists = list_differs(names, write)
-    pages = Pages(program.modules, root, set(names))
+    run_keys = {key for key, _ in reached}
+    names = sorted(one_name(one) for one in closure.found.values() if one.key not in run_keys)
+    pages = Pages(program.modules, set(names))
     if write:
-        write_page(pages)
-    mistakes = planted.failures(other_names) + planted.page_failures(pages) + pages.differ(*texts())
+        write_list(names)
+        pages.write()
+    lists = other_names(names, listed())
+    mistakes = planted.failures(other_names) + planted.page_failures(pages) + pages.differ_now()
     for line in failures + forms + lists + mistakes:
         print(line)
     print(f"{len(rows)} rows, {alone} of them by evaluation alone, {len(passed_over)} passed over:", *[row.place for row in passed_over])
     print(f"{len(closure.found)} definitions of the headline, {len(closure.found) - len(names)} run, {len(names)} listed")
-    print(f"{seconds + time.process_time() - started:.0f} processor seconds")
+    print(f"{sum(os.times()[:4]):.0f} processor seconds")
     failed = len(failures) + len(forms) + len(lists) + len(mistakes)
     print(f"{len(rows) - len(failures) + len(closure.found) - len(names)} passed, {failed} failed")
     return 1 if failed else 0

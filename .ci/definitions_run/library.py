@@ -19,11 +19,6 @@ def prefix_length(test, items):
     return count
 
 
-def replaced(items, at, value):
-    """The list with another item at a place."""
-    return taken(items, at) + (value,) + plain(dropped(items, at + 1)) if at < len(items) else items
-
-
 def truncated(left, right):
     """The quotient of integers, towards zero."""
     quotient = abs(left) // abs(right)
@@ -37,25 +32,9 @@ def folded(step, start, items):
     return start
 
 
-def filtered(function, items):
-    """What the function gives of the items, without those where it gives nothing."""
-    found = (function(item) for item in items)
-    return tuple(one.given[0] for one in found if one.tag == "Some")
-
-
 def digits(number):
     """The decimal digits of a number, or of an integer with its minus."""
     return tuple(str(number).encode())
-
-
-def remainder(left, right):
-    """What is left of an integer after its quotient."""
-    return left - right * truncated(left, right)
-
-
-def joined(function, items):
-    """The lists that the function gives of the items, joined."""
-    return tuple(one for item in items for one in function(item))
 
 
 def at_or(items, at, default):
@@ -91,11 +70,14 @@ FUNCTIONS = {
     "nat_eq": (2, lambda a, b: a == b), "ltb": (2, lambda a, b: a < b), "eqb": (2, lambda a, b: a == b),
     "cond": (3, lambda c, a, b: a if c else b), "map": (2, lambda f, xs: tuple([f(x) for x in xs])),
     "take": (2, lambda n, xs: taken(xs, n)), "drop": (2, lambda n, xs: dropped(xs, n)), "replicate": (2, lambda n, x: (x,) * n),
-    "reverse": (1, lambda xs: plain(xs)[::-1]), "fold": (3, folded), "flat_map": (2, joined),
+    "reverse": (1, lambda xs: plain(xs)[::-1]), "fold": (3, folded),
+    "flat_map": (2, lambda f, xs: tuple([one for x in xs for one in f(x)])),
     "slice_get": (2, lambda xs, i: some(xs[i]) if i < len(xs) else NONE), "slice_index_or": (3, at_or),
-    "slice_index": (2, lambda xs, i: at_or(xs, i, 0)), "slice_set": (3, replaced),
+    "slice_index": (2, lambda xs, i: at_or(xs, i, 0)),
+    "slice_set": (3, lambda xs, i, x: taken(xs, i) + (x,) + plain(dropped(xs, i + 1)) if i < len(xs) else xs),
     "list_all": (2, lambda p, xs: all(p(x) for x in xs)), "list_any": (2, lambda p, xs: any(p(x) for x in xs)),
-    "filter": (2, lambda p, xs: tuple([x for x in xs if p(x)])), "filter_map": (2, filtered),
+    "filter": (2, lambda p, xs: tuple([x for x in xs if p(x)])),
+    "filter_map": (2, lambda f, xs: tuple([o.given[0] for o in map(f, xs) if o.tag == "Some"])),
     "take_while": (2, lambda p, xs: taken(xs, prefix_length(p, xs))), "prefix_len": (2, prefix_length),
     "position_or_len": (2, lambda p, xs: prefix_length(lambda x: not p(x), xs)),
     "count_by": (2, lambda p, xs: sum(1 for x in xs if p(x))),
@@ -108,7 +90,7 @@ FUNCTIONS = {
     "neg_ℤ": (1, lambda i: integer(-integer_of(i))), "int_lt": (2, lambda a, b: integer_of(a) < integer_of(b)),
     "int_le": (2, lambda a, b: integer_of(a) <= integer_of(b)),
     "int_div": (2, lambda a, b: integer(truncated(integer_of(a), integer_of(b)))),
-    "int_rem": (2, lambda a, b: integer(remainder(integer_of(a), integer_of(b)))),
+    "int_rem": (2, lambda a, b: integer(integer_of(a) - integer_of(b) * truncated(integer_of(a), integer_of(b)))),
     "option_map": (2, lambda f, o: some(f(o.given[0])) if o.tag == "Some" else NONE),
     "option_and_then": (2, lambda f, o: f(o.given[0]) if o.tag == "Some" else NONE),
     "option_to_list": (1, lambda o: o.given), "unwrap_or": (2, lambda o, d: o.given[0] if o.tag == "Some" else d),

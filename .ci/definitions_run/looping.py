@@ -5,8 +5,8 @@ taken apart on the way is not copied: where it begins is counted. An equation wi
 what the next round sets.
 """
 
-from .matching import Match, View, list_pattern
-from .terms import bound_inside, names_in, parsed, repeated_calls, tokens_used
+from .matching import Match, Path, list_pattern
+from .terms import arguments_of, bound_inside, names_in, parsed, repeated_calls, tokens_used
 
 LISTS, NUMBERS = "list", "number"
 
@@ -28,8 +28,6 @@ def added_to(term):
 
 
 class Function:
-    """Writes the function of a definition."""
-
     def __init__(self, writer, count):
         self.writer = writer
         self.names = [f"a{at}" for at in range(count)]
@@ -62,10 +60,7 @@ class Function:
 
     def call(self, term):
         """The arguments of a call of the definition with all of them, or None."""
-        given = []
-        while term[0] == "apply":
-            given.insert(0, term[2])
-            term = term[1]
+        term, given = arguments_of(term)
         if term[0] != "name" or len(given) != len(self.own) or not given:
             return None
         found = self.writer.scope.own(str(term[1]))
@@ -89,7 +84,6 @@ class Function:
         return used
 
     def lines(self, name):
-        """The lines of the function."""
         lines = [f"def {name}({', '.join(self.names)}):"]
         if self.gathers:
             lines.append("    gathered = []" if self.gathers == LISTS else "    gathered = 0")
@@ -108,7 +102,7 @@ class Function:
         writer, equation, term = self.writer, self.equations[number], self.terms[number]
         match = Match(writer.scope)
         for place, (pattern, path) in enumerate(zip(equation.patterns, self.own)):
-            match.take(pattern, View(path, f"i{place}") if place in self.walked else path)
+            match.take(pattern, Path(path, f"i{place}" * (place in self.walked)))
         lines = [f"{indent}if {' and '.join(match.tests) or 'True'}:"]
         indent += "    "
         inside = bound_inside(term)

@@ -1,19 +1,21 @@
 """Equations, and their patterns as tests of Python."""
 
-from .terms import equation_parts, patterns
+import dataclasses
+
+from .terms import arguments_of, equation_parts, patterns
 from .tokens import FormError
 
 
+@dataclasses.dataclass
 class Equation:
     """The patterns of one equation, its right side as tokens, and what it calls arguments in braces: `{A = B}`."""
 
-    def __init__(self, patterns_given, right, implicit=()):
-        self.patterns = patterns_given
-        self.right = right
-        self.implicit = dict(implicit)
+    patterns: list
+    right: list
+    implicit: dict
 
     def with_right(self, right):
-        return Equation(self.patterns, right, self.implicit)
+        return dataclasses.replace(self, right=right)
 
 
 def operator_patterns(left, definition):
@@ -41,38 +43,27 @@ def equations_of(definition):
 
 
 class Path(str):
-    """Where a list is, as an expression of Python."""
+    """Where a list is, as an expression of Python: items, or those from a place on."""
 
-    def tests(self, count, is_whole):
-        """The tests that the list has so many items, or at least so many."""
-        return [f"len({self}) {'==' if is_whole else '>='} {count}"]
+    def __new__(cls, items, start=""):
+        path = super().__new__(cls, f"dropped({items}, {start})" if start else items)
+        path.items, path.start = items, start
+        return path
+
+    def place(self, at):
+        """The place of an item among all items."""
+        return f"{self.start} + {at}" if self.start and at else self.start or str(at)
+
+    def test(self, count, is_whole):
+        """The test that the list has so many items, or at least so many."""
+        return f"len({self.items}) == {self.place(count)}" if is_whole else f"len({self.items}) > {self.place(count - 1)}"
 
     def item(self, at):
-        return f"{self}[{at}]"
+        return f"{self.items}[{self.place(at)}]"
 
     def rest(self, count):
         """The expression of the list without its first items."""
-        return f"dropped({self}, {count})"
-
-
-class View(Path):
-    """The list of the items from a place on."""
-
-    def __new__(cls, items, start):
-        view = super().__new__(cls, f"dropped({items}, {start})")
-        view.items, view.start = items, start
-        return view
-
-    def tests(self, count, is_whole):
-        if is_whole:
-            return [f"len({self.items}) == {self.start}{f' + {count}' if count else ''}"]
-        return [f"len({self.items}) > {self.start}{f' + {count - 1}' if count > 1 else ''}"]
-
-    def item(self, at):
-        return f"{self.items}[{self.start}{f' + {at}' if at else ''}]"
-
-    def rest(self, count):
-        return f"dropped({self.items}, {self.start} + {count})"
+        return f"dropped({self.items}, {self.place(count)})"
 
 
 def list_pattern(pattern):
@@ -88,10 +79,7 @@ class Match:
     """The tests of patterns, and the expressions of the names that they bind."""
 
     def __init__(self, scope):
-        self.scope = scope
-        self.tests = []
-        self.bound = {}
-        self.wholes = {}
+        self.scope, self.tests, self.bound, self.wholes = scope, [], {}, {}
 
     def constructor(self, name):
         """The constructor or constant that a name in a pattern stands for, or None where it is a new name."""
@@ -132,7 +120,7 @@ class Match:
         heads, rest = list_pattern(pattern)
         is_whole = rest == ("name", "[]")
         path = path if isinstance(path, Path) else Path(path)
-        self.tests += path.tests(len(heads), is_whole)
+        self.tests.append(path.test(len(heads), is_whole))
         for at, head in enumerate(heads):
             self.take(head, path.item(at))
         if not is_whole:
@@ -148,7 +136,7 @@ class Match:
         elif found.kind == "constructor":
             self.tests.append(f"{path}.tag == {found.what!r}")
         elif name == "[]":
-            self.tests += (path if isinstance(path, Path) else Path(path)).tests(0, True)
+            self.tests.append((path if isinstance(path, Path) else Path(path)).test(0, True))
         elif name == "zero":
             self.tests.append(f"{path} == 0")
         elif name in ("true", "false"):
@@ -156,10 +144,7 @@ class Match:
 
     def take_constructor(self, pattern, path):
         """A constructor with patterns for its arguments."""
-        given = []
-        while pattern[0] == "apply":
-            given.insert(0, pattern[2])
-            pattern = pattern[1]
+        pattern, given = arguments_of(pattern)
         if pattern == ("name", "suc"):
             self.tests.append(f"{path} > 0")
             self.take(given[0], f"({path} - 1)")

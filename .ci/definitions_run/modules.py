@@ -1,32 +1,44 @@
-"""Modules of specifications: what each imports and declares."""
+"""Modules of specifications: what each imports and declares, and what a name stands for where it is used."""
 
-import glob
+import collections
+import dataclasses
 import os
+import pathlib
 
+from .library import CONSTANTS, CONSTRUCTORS, FUNCTIONS, TYPES
 from .tokens import FormError, lines_of
 
 PROOF = "proof"
 KEYWORDS = ("abbrev", "unfoldable", "pub")
+# What opens a block of definitions that are abbreviations.
+ABBREVIATIONS = ["abbrev", "mutual"]
+# How the constructors of the rows of a type of Rattle begin.
+ROWS = ("end_of-", "more_of-")
+# What a name stands for: `kind` is definition, constructor, word, constant, type or proof.
+Found = collections.namedtuple("Found", "kind what")
 
 
+class NameMissing(Exception):
+    """A name that stands for nothing that is known."""
+
+
+@dataclasses.dataclass(eq=False)
 class Definition:
     """A declared name: a function by equations (`abbrev`, `unfoldable`), a `data`, a `record`, or a proof."""
 
-    def __init__(self, module, name, kind, line, parameters, headers):
-        self.module = module
-        self.name = name
-        self.kind = kind
-        self.line = line
-        self.parameters = parameters
-        self.headers = headers
-        self.signature = []
-        self.equations = []
-        self.tokens = []
-        self.parts = {}
+    module: object
+    name: str
+    kind: str
+    line: int
+    parameters: list
+    headers: list
+    signature: list
+    tokens: list
+    equations: list = dataclasses.field(default_factory=list)
+    parts: dict = dataclasses.field(default_factory=dict)
 
     @property
     def key(self):
-        """The module's name and its own."""
         return self.module.name, self.name
 
     @property
@@ -55,13 +67,19 @@ class Module:
     """One file: its imports, aliases, names that it passes on, definitions and constructors."""
 
     def __init__(self, name, path):
-        self.name = name
-        self.path = path
-        self.imports = {}
-        self.aliases = {}
-        self.passed_on = {}
-        self.definitions = {}
-        self.constructors = {}
+        self.name, self.path = name, path
+        self.imports, self.aliases, self.passed_on, self.definitions, self.constructors = {}, {}, {}, {}, {}
+
+    def use(self, tokens):
+        """Takes what stands behind a `use`. The names that it imports, each with its module and its name there."""
+        path = str(tokens[0]).rstrip(".")
+        if "{" not in tokens:
+            self.aliases[str(tokens[-1]).split(".")[-1]] = path
+            return {}
+        names = " ".join(tokens[tokens.index("{") + 1:tokens.index("}")]).split(",")
+        found = {words[-1]: (path, words[0]) for words in map(str.split, names) if words}
+        self.imports |= found
+        return found
 
 
 def explicit_parameters(tokens):
@@ -94,64 +112,29 @@ def implicit_names(tokens):
     return names
 
 
-def split_names(tokens):
-    """The pairs of names in the braces of a `use`: that of the definition, and that by which it is called here."""
-    pairs, current = [], []
-    for token in tokens + [","]:
-        if token != ",":
-            current.append(str(token))
-        elif current:
-            pairs.append((current[0], current[-1]))
-            current = []
-    return pairs
-
-
 class Reader:
-    """Reads one file into a module."""
-
-    def __init__(self, name, path, blocks):
-        self.module = Module(name, path)
-        self.blocks = blocks
-        self.headers = []
-        self.last = None
+    def __init__(self, name, path):
+        self.module, self.headers, self.last = Module(name, path), [], None
 
     def fail(self, line, why):
         raise FormError(f"{self.module.path}:{line.number}: {why}: {' '.join(line.tokens[:8])}")
 
     def read(self, text):
-        """The module of a text."""
         for line in lines_of(text):
             self.read_line(line)
         return self.module
 
     def read_line(self, line):
-        """Takes one joined line."""
         while self.headers and line.indent <= self.headers[-1].indent:
             self.headers.pop()
         first = line.tokens[0]
-        if first == "module":
+        if first == "module" or line.tokens == ABBREVIATIONS:
             self.headers.append(line)
-        elif "use" in line.tokens[:2] and line.tokens[0] in ("use", "pub"):
-            self.read_use(line)
-        elif first in ("infixl", "infixr", "infix", "mutual") or "mod" in line.tokens[:2]:
-            return
-        elif [str(token) for token in line.tokens] == ["abbrev", "mutual"]:
-            return
-        else:
+        elif "use" in line.tokens[:2] and first in ("use", "pub"):
+            names = self.module.use(line.tokens[line.tokens.index("use") + 1:])
+            self.module.passed_on |= names if first == "pub" else {}
+        elif first not in ("infixl", "infixr", "infix", "mutual") and "mod" not in line.tokens[:2]:
             self.read_declaration(line)
-
-    def read_use(self, line):
-        """Takes a `use`: names of a module, or the module under its own name or another."""
-        tokens = line.tokens[line.tokens.index("use") + 1:]
-        path = str(tokens[0])
-        if "{" in tokens:
-            path = path.rstrip(".")
-            for name, here in split_names(tokens[tokens.index("{") + 1:tokens.index("}")]):
-                self.module.imports[here] = (path, name)
-                if line.tokens[0] == "pub":
-                    self.module.passed_on[here] = (path, name)
-        else:
-            self.module.aliases[str(tokens[-1]).split(".")[-1]] = path
 
     def read_declaration(self, line):
         """Takes a `data`, a `record`, a signature, or an equation of what has one."""
@@ -163,24 +146,18 @@ class Reader:
             self.declare(line, tokens[1], str(tokens[0]), tokens)
             self.read_parts(line, tokens[0] == "data")
         elif len(tokens) > 1 and tokens[1] == ":":
-            kind = next((word for word in words if word != "pub"), None)
-            kind = kind or ("abbrev" if self.in_abbrev(line) else PROOF)
+            is_in_block = any(header.tokens == ABBREVIATIONS for header in self.headers)
+            kind = next((word for word in words if word != "pub"), "abbrev" if is_in_block else PROOF)
             self.declare(line, tokens[0], kind, tokens[2:])
         else:
             self.read_equation(line)
 
-    def in_abbrev(self, line):
-        """Whether the line stands in a block `abbrev mutual`."""
-        return line.number in self.blocks
-
     def declare(self, line, name, kind, signature):
         """Takes a new name."""
-        parameters = [name for header in self.headers for name in explicit_parameters(header.tokens)]
-        made = Definition(self.module, str(name), kind, line.number, parameters, [token for header in self.headers for token in header.tokens])
-        made.signature = signature
-        made.tokens = list(line.tokens)
-        self.module.definitions[str(name)] = made
-        self.last = made
+        headers = [header.tokens for header in self.headers if header.tokens != ABBREVIATIONS]
+        parameters = [name for header in headers for name in explicit_parameters(header)]
+        self.last = Definition(self.module, str(name), kind, line.number, parameters, sum(headers, []), signature, list(line.tokens))
+        self.module.definitions[str(name)] = self.last
 
     def read_parts(self, line, is_data):
         """Takes the constructors of a `data`, or the fields of a `record`: lines of its body that begin with a name and a colon."""
@@ -213,38 +190,74 @@ class Reader:
         return self.last if self.last is not None and self.last.kind == PROOF else None
 
 
-def blocks_in(text):
-    """The numbers of the lines that stand in a block `abbrev mutual`."""
-    blocks, opened = set(), None
-    for number, written in enumerate(text.split("\n"), 1):
-        if not written.strip():
-            continue
-        indent = len(written) - len(written.lstrip())
-        if opened is not None and indent <= opened:
-            opened = None
-        if written.strip() == "abbrev mutual":
-            opened = indent
-        elif opened is not None:
-            blocks.add(number)
-    return blocks
-
-
-def read_module(path, name):
-    with open(path, encoding="utf-8") as file:
-        text = file.read()
-    return Reader(name, path, blocks_in(text)).read(text)
-
-
-def name_of(path, root):
-    """The name of the module in a file, by its path from the folder of the crates."""
-    return "Rattle." + os.path.relpath(path, root)[:-len(".antt")].replace(os.sep, ".")
-
-
-def read_modules(root, folders=("specs",)):
-    """All modules in these folders of the crates at root, by name."""
+def read_modules(root):
+    """All modules in specs/ of the crates at root, by name."""
     modules = {}
-    for folder in folders:
-        for path in sorted(glob.glob(os.path.join(root, "*", folder, "**", "*.antt"), recursive=True)):
-            name = name_of(path, root)
-            modules[name] = read_module(path, name)
+    for path in sorted(pathlib.Path(root).glob("*/specs/**/*.antt")):
+        name = "Rattle." + str(path.relative_to(root).with_suffix("")).replace(os.sep, ".")
+        modules[name] = Reader(name, str(path)).read(path.read_text(encoding="utf-8"))
     return modules
+
+
+def of_definition(definition):
+    if definition.is_type:
+        return Found("type", definition)
+    return Found("proof" if definition.kind == PROOF else "definition", definition)
+
+
+def library_word(name):
+    """What a name of the library stands for, or None."""
+    if name in CONSTRUCTORS:
+        return Found("constructor", name)
+    if name in CONSTANTS:
+        return Found("constant", name)
+    if name in FUNCTIONS:
+        return Found("word", name)
+    return Found("type", ("kit", name)) if name in TYPES else None
+
+
+class Scope:
+    """The names of one module, among all modules."""
+
+    def __init__(self, modules, module):
+        self.modules, self.module = modules, module
+
+    def exported(self, path, name):
+        """What a module at this path means by a name."""
+        module = self.modules.get(path)
+        if module is None:
+            if ".declared." in path:
+                is_constructor = path.endswith(".TheVariants") or name.startswith(ROWS)
+                return Found("constructor", f"{path}.{name}") if is_constructor else Found("type", (path, name))
+            return library_word(name) or Found("type", (path, name))
+        if name in module.definitions:
+            return of_definition(module.definitions[name])
+        if name in module.constructors:
+            return Found("constructor", f"{path}.{name}")
+        if name in module.passed_on:
+            return self.exported(*module.passed_on[name])
+        raise NameMissing(f"{self.module.path}: {path} has no `{name}`")
+
+    def own(self, name):
+        """What this module means by a name without fields, or None."""
+        if name in self.module.definitions:
+            return of_definition(self.module.definitions[name])
+        if name in self.module.constructors:
+            return Found("constructor", f"{self.module.name}.{name}")
+        if name in self.module.imports:
+            return self.exported(*self.module.imports[name])
+        return None
+
+    def find(self, name):
+        """What this module means by a name, and the fields that are taken of it; `None` where it is not known."""
+        found = self.own(name)
+        if found is not None:
+            return found, []
+        first, *fields = name.split(".")
+        if fields and first in self.module.aliases:
+            return self.exported(self.module.aliases[first], fields[0]), fields[1:]
+        if fields:
+            found = self.own(first)
+            if found is not None:
+                return found, fields
+        return library_word(name), []

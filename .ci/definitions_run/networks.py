@@ -5,17 +5,9 @@ from collections import deque
 from .values import Built, key_of
 
 WANT = "Rattle.kahn.specs.declared.want.Want.TheVariants."
-OPERATION = "Rattle.flow_plans.specs.Plans."
+OPERATION = "Rattle.flow_nodes.specs.plans.Plans."
 UNIT = Built("tt")
 
-# The operations whose nodes are machines, by the crates that have these.
-CRATES = {
-    "flow_scalar": "const unary binary iota units_of sink",
-    "flow_folds": "scan_add reduce length_of",
-    "flow_segment": "dist pack pack_groups flag_of_bool same_flags concat_flags part_flags the_check append_flags interleave interleave_groups",
-    "flow_values": "tab seq_of index",
-}
-MACHINES = {name: crate for crate, names in CRATES.items() for name in names.split()}
 # Those whose machines have another name.
 NAMES = {"length_of": "length", "seq_of": "seq"}
 
@@ -25,14 +17,8 @@ class NotAsSaid(Exception):
 
 
 class Node:
-    """A node: its behaviour, and the state that it is in."""
-
     def __init__(self, behaviour, state):
-        self.behaviour = behaviour
-        self.process = behaviour["process"]
-        self.state = state
-        self.kinds = None
-        self.wanted = None
+        self.behaviour, self.process, self.state, self.kinds, self.wanted = behaviour, behaviour["process"], state, None, None
 
     def want(self):
         """What it wants: to read or write at a port, or nothing, since it has ended or faulted."""
@@ -51,7 +37,6 @@ class Node:
             yield tuple(kind_at(port) for port in range(self.behaviour[count](self.state)))
 
     def write(self):
-        """Gives the message that it writes."""
         message = self.process["written"](self.state)
         self.state, self.wanted = self.process["wrote"](self.state), None
         return message
@@ -61,22 +46,22 @@ class Network:
     """The nodes of a layout, and the queues of its edges."""
 
     def __init__(self, definitions, layout, capacity):
-        self.definitions = definitions
-        self.capacity = capacity
-        self.kinds = {}
+        self.definitions, self.capacity, self.kinds, self.steps = definitions, capacity, {}, 0
         self.nodes = [self.performing(placed) for placed in layout]
-        self.edges = definitions.call("flow_plans.specs.Layouts", "edges_between", layout)
+        self.edges = definitions.call("flow_nodes.specs.plans.Layouts", "edges_between", layout)
         self.queues = [deque() for _ in self.edges]
-        self.steps = 0
         self.read_from = {(edge["reader"], edge["reader_port"]): at for at, edge in enumerate(self.edges)}
         self.written_to = {(edge["writer"], edge["writer_port"]): at for at, edge in enumerate(self.edges)}
-        self.check_edges()
+        for edge in self.edges:
+            written = self.nodes[edge["writer"]].kinds[1][edge["writer_port"]]
+            if written != self.nodes[edge["reader"]].kinds[0][edge["reader_port"]]:
+                raise NotAsSaid(edge)
 
     def performing(self, placed):
-        """The node of an operation, which is told to have the ports of it, and to be in its opening state (`Performs` of flow_plans)."""
+        """The node of an operation, which is told to have the ports of it, and to be in its opening state (`Performs` of flow_nodes)."""
         node, operation = self.opened(placed), placed["operation"]
         if operation not in self.kinds:
-            of_ports = lambda name: tuple(self.definitions.call("flow_plans.specs.Ports", name, operation))
+            of_ports = lambda name: tuple(self.definitions.call("flow_nodes.specs.plans.Ports", name, operation))
             self.kinds[operation] = [of_ports("kinds_read"), of_ports("kinds_written")]
             if self.kinds[operation] != list(node.ports()):
                 raise NotAsSaid(operation)
@@ -84,13 +69,6 @@ class Network:
         if len(placed["reads"]) != len(node.kinds[0]) or key_of(node.behaviour["opening"](node.state)) != key_of(node.state):
             raise NotAsSaid(operation)
         return node
-
-    def check_edges(self):
-        """Tells that each edge is of one kind at both of its ends."""
-        for edge in self.edges:
-            written = self.nodes[edge["writer"]].kinds[1][edge["writer_port"]]
-            if written != self.nodes[edge["reader"]].kinds[0][edge["reader_port"]]:
-                raise NotAsSaid(edge)
 
     def opened(self, placed):
         """The node of an operation, in the state in which it opens."""
@@ -108,13 +86,13 @@ class Network:
             module = "flow_scalar.specs.ForkMachine"
             return self.of_machine(call(module, "fork_machine"), call(module, "fork_ports", *given), placed)
         own = NAMES.get(name, name)
-        module = f"{MACHINES[name]}.specs.{own.title().replace('_', '')}Machine"
+        file = f".specs.{own.title().replace('_', '')}Machine"
+        module = next(it.removeprefix("Rattle.") for it in self.definitions.modules if it.endswith(file))
         # A machine has as its parameter what the operation is given: nothing, one thing, or a pair.
         parameters = given if len(given) > 1 else given[0] if given else UNIT
         return self.of_machine(call(module, f"{own}_machine"), parameters, placed)
 
     def of_machine(self, machine, parameters, placed):
-        """The node of a machine with its parameters."""
         call = self.definitions.call
         state = call("flow_base.specs.Nodes", "opened", (parameters, machine["start"]), placed["at"])
         return Node(call("flow_base.specs.Nodes", "behaviour_of", machine), state)
@@ -153,31 +131,28 @@ class Network:
                 other = self.step(at, node)
         return self.steps <= most
 
-    def outcome(self, deriver):
+    def outcome(self):
         """How it came out, by `HasOutcome` of kahn: `value` and the printed text, `fault` with its kind and offset, or `stalled`."""
         wants = [node.want() for node in self.nodes]
         faults = [given[0] for want, given in wants if want == "Faulted"]
-        if self.holds(deriver, "Value"):
+        if self.holds("Value"):
             # each node has read its streams to their ends (`IsLawfulFlow` of flow_networks)
             if any(self.queues):
                 raise NotAsSaid("what was not read")
             return "value", bytes(self.nodes[-1].state["text"]), None
         if faults:
-            named = [one for one in faults if all(self.is_before(deriver, one, other) for other in faults)]
-            return "fault", named[0]["kind"], named[0]["at"]
-        stalled = [edge for edge in range(len(self.edges)) if self.may_block(wants, edge) and self.holds(deriver, "Stalled", edge)]
-        return "stalled", stalled[0], None
-
-    def is_before(self, deriver, fault, other):
-        """Whether a fault is named where another stands too."""
-        return deriver.decide(self.definitions.call("kahn.specs.Faults", "IsNamedBefore", fault, other))
+            is_before = lambda *two: self.definitions.deriver.decide(self.definitions.call("kahn.specs.Faults", "IsNamedBefore", *two))
+            named = next(one for one in faults if all(is_before(one, other) for other in faults))
+            return "fault", named["kind"], named["at"]
+        blocked = (it for it in range(len(self.edges)) if self.may_block(wants, it) and self.holds("Stalled", it))
+        return "stalled", next(blocked), None
 
     def may_block(self, wants, edge):
         """Whether the writer of an edge waits to write to it: others are not asked for."""
         want, given = wants[self.edges[edge]["writer"]]
         return want == "Write" and given[0] == self.edges[edge]["writer_port"]
 
-    def holds(self, deriver, outcome, *given):
+    def holds(self, outcome, *given):
         """Whether the configuration of the network has this outcome."""
         nodes, edges, queues = self.nodes, self.edges, self.queues
         process = {"want": lambda node: node.process["want"](node.state)}
@@ -185,4 +160,5 @@ class Network:
                "writer_port": lambda edge: edges[edge]["writer_port"]}
         configuration = {"state": lambda node: nodes[node], "sent": lambda edge: tuple(queues[edge]), "received": lambda edge: ()}
         built = Built("Rattle.kahn.specs.declared.outcome.Outcome.TheVariants." + outcome, given)
-        return deriver.decide(self.definitions.call("kahn.specs.Outcomes", "HasOutcome", process, net, self.capacity, configuration, built))
+        given = process, net, self.capacity, configuration, built
+        return self.definitions.deriver.decide(self.definitions.call("kahn.specs.Outcomes", "HasOutcome", *given))

@@ -4,7 +4,7 @@ import os
 import tempfile
 
 from .modules import read_modules
-from .page import BEGIN
+from .headline import BEGIN
 from .program import Program
 from .tokens import FormError
 

@@ -1,13 +1,11 @@
 """All definitions as one program: each is compiled when it is first called."""
 
-import os
-
 from .compiling import Writer
 from .library import FUNCTIONS, OPERATORS, WORDS
 from .looping import ended
 from .matching import equations_of
-from .modules import read_modules
-from .scope import Scope
+from .modules import Scope
+from .relations import Deriver
 from .values import Built, Claim, TYPE, dropped, parted, shared, waiting
 
 
@@ -30,23 +28,14 @@ class Program:
 
     def __init__(self, modules):
         self.modules = modules
-        self.numbers = {}
-        self.read_equations = {}
-        self.places = {}
+        self.numbers, self.read_equations, self.places, self.constants, self.constructors, self.called = {}, {}, {}, {}, {}, {}
         self.reached = bytearray()
-        self.constants = {}
+        self.deriver = Deriver(self)
         self.space = {
             "Built": Built, "Claim": Claim, "TYPE": TYPE, "dropped": dropped, "parted": parted, "ended": ended, "shared": shared,
             "missing": missing, "implicit": implicit, "OPERATORS": OPERATORS, "REACHED": self.reached,
             **{WORDS[word]: meaning for word, (_, meaning) in FUNCTIONS.items()},
         }
-        self.constructors = {}
-        self.called = {}
-
-    @classmethod
-    def of_crates(cls, root):
-        """The program of the specifications of the crates at root."""
-        return cls(read_modules(os.path.abspath(root)))
 
     def equations(self, definition):
         if definition.key not in self.read_equations:

@@ -10,16 +10,11 @@ import collections
 from .compiling import Writer, binder_variables, binds, implication_of
 from .matching import Match
 from .modules import explicit_parameters
-from .terms import names_in, parsed
+from .terms import arguments_of, names_in, parsed
 from .tokens import binder_names
 from .values import Built, Claim, TYPE, key_of
 
 HOLE = object()
-
-
-def is_digit(letter, base):
-    """Whether a letter is a digit of a base."""
-    return chr(letter).isascii() and chr(letter).isalnum() and int(chr(letter), 36) < base
 
 
 # The claims of the kit that are decided.
@@ -27,7 +22,8 @@ KIT_CLAIMS = {
     "Unit": lambda deriver: True, "⊤": lambda deriver: True, "⊥": lambda deriver: False,
     "¬": lambda deriver, claim: not deriver.decide(claim),
     "IsTrue": lambda deriver, truth: truth, "IsFalse": lambda deriver, truth: not truth,
-    "IsNumeral": lambda deriver, base, text: len(text) > 0 and all(is_digit(letter, base) for letter in text),
+    "IsNumeral": lambda deriver, base, text:
+        len(text) > 0 and all(48 <= it < 123 and chr(it).isalnum() and int(chr(it), 36) < base for it in text),
     "IsInRange": lambda deriver, low, high, number: low <= number <= high,
     "IsSome": lambda deriver, option: option.tag == "Some",
     "All": lambda deriver, claim, items: all(deriver.decide(claim(item)) for item in items),
@@ -58,15 +54,6 @@ def rules_of(definition):
     return rules
 
 
-def arguments_of(term):
-    """A name and its arguments."""
-    given = []
-    while term[0] == "apply":
-        given.insert(0, term[2])
-        term = term[1]
-    return term, given
-
-
 class Relation:
     """A `data` or a record: its parameters and rules."""
 
@@ -89,19 +76,16 @@ def header_of(definition):
 
 
 class Deriver:
-    """Derives instances of relations by the rules of a program."""
-
     def __init__(self, program):
-        self.program = program
-        self.relations = {}
-        self.expressions = {}
-        self.patterns = {}
-        self.names = {}
-        self.heads = {}
-        self.passed_on = {}
-        self.forms = {}
-        self.found = {}
-        self.open = set()
+        self.program, self.relations, self.kept, self.found, self.open, self.parameters = program, {}, {}, {}, set(), {}
+
+    def once(self, what, term, compute, *key):
+        """What is computed of a term, once for each key."""
+        key = what, id(term), *key
+        if key not in self.kept:
+            # (a term that is kept has its number for itself)
+            self.kept[key] = term, compute()
+        return self.kept[key][1]
 
     def relation(self, definition):
         if definition.key not in self.relations:
@@ -113,12 +97,12 @@ class Deriver:
         if term[0] == "name" and term[1] in bound:
             return bound[term[1]]
         names = sorted(self.names_of(term) & bound.keys())
-        key = (relation.definition.key, id(term), tuple(names))
-        if key not in self.expressions:
+
+        def written():
             inner = {name: f"b_{at}" for at, name in enumerate(names)}
-            written = relation.writer.write(term, inner)
-            self.expressions[key] = term, eval(f"lambda {', '.join(inner.values())}: {written}", self.program.space)
-        return self.expressions[key][1](*(bound[name] for name in names))
+            return eval(f"lambda {', '.join(inner.values())}: {relation.writer.write(term, inner)}", self.program.space)
+
+        return self.once("value", term, written, relation.definition.key, tuple(names))(*(bound[name] for name in names))
 
     def is_known(self, term, rule, bound):
         """Whether all variables in a term have values."""
@@ -127,25 +111,19 @@ class Deriver:
         return not (self.names_of(term) & rule.variables) - bound.keys()
 
     def names_of(self, term):
-        """The names that stand in a term, which are looked for once."""
-        if id(term) not in self.names:
-            self.names[id(term)] = term, frozenset(names_in(term))
-        return self.names[id(term)][1]
+        return self.once("names", term, lambda: frozenset(names_in(term)))
 
     def head_of(self, relation, term):
-        """What a premise begins with, and its arguments, which are looked for once."""
-        if id(term) not in self.heads:
+        """What a premise begins with, and its arguments."""
+        def looked():
             head, given = arguments_of(term)
-            found = relation.writer.scope.find(str(head[1]))[0] if head[0] == "name" else None
-            self.heads[id(term)] = term, (found, given)
-        return self.heads[id(term)][1]
+            return relation.writer.scope.find(str(head[1]))[0] if head[0] == "name" else None, given
+
+        return self.once("head", term, looked)
 
     def is_form(self, relation, rule, term):
-        """Whether a term is made of constructors and variables alone, which is looked for once."""
-        key = id(term), id(rule), len(rule.variables)
-        if key not in self.forms:
-            self.forms[key] = term, is_pattern(term, relation.writer.scope, rule)
-        return self.forms[key][1]
+        """Whether a term is made of constructors and variables alone."""
+        return self.once("form", term, lambda: is_pattern(term, relation.writer.scope, rule), id(rule), len(rule.variables))
 
     def derive(self, definition, given):
         """The arguments of an instance whose known ones are these, or None. Holes ask for the others."""
@@ -156,15 +134,14 @@ class Deriver:
             raise Undecided(f"{definition.name} rests on itself")
         self.open.add(key)
         try:
-            answer = self.by_record(definition, given) if definition.kind == "record" else self.by_rules(definition, given)
+            answer = self.by_rules(definition, given)
         finally:
             self.open.discard(key)
         self.found[key] = answer
         return answer
 
     def by_rules(self, definition, given):
-        """An instance by the first rule that gives one."""
-        relation = self.relation(definition)
+        relation = self.relation_of_record(definition) if definition.kind == "record" else self.relation(definition)
         for number, rule in enumerate(relation.rules):
             answer = self.by_rule(relation, rule, given)
             if answer is not None:
@@ -173,7 +150,6 @@ class Deriver:
         return None
 
     def by_rule(self, relation, rule, given):
-        """An instance by one rule."""
         count = len(relation.parameters)
         bound = dict(zip(relation.parameters, given[:count]))
         for parameter in [name for name, one in bound.items() if one is HOLE]:
@@ -215,14 +191,13 @@ class Deriver:
 
     def compiled(self, relation, pattern):
         """A pattern as a test, and the names that it binds, each with what takes its value out of a value."""
-        key = relation.definition.key, id(pattern)
-        if key not in self.patterns:
+        def read():
             match = Match(relation.writer.scope)
             match.take(pattern, "value")
-            test = eval(f"lambda value: {' and '.join(match.tests) or 'True'}", self.program.space)
-            parts = [(name, eval(f"lambda value: {path}", self.program.space)) for name, path in match.bound.items()]
-            self.patterns[key] = pattern, (test, parts)
-        return self.patterns[key][1]
+            of_value = lambda written: eval(f"lambda value: {written}", self.program.space)
+            return of_value(" and ".join(match.tests) or "True"), [(name, of_value(path)) for name, path in match.bound.items()]
+
+        return self.once("pattern", pattern, read, relation.definition.key)
 
     def meet(self, relation, rule, premises, bound):
         """Whether all premises are met, each once it has what it needs."""
@@ -283,7 +258,8 @@ class Deriver:
                 asked.append(HOLE)
             else:
                 return None
-        if sum(one is HOLE for one in asked) > most_holes(definition):
+        # (one argument is found at most, but of those relations that give two)
+        if sum(one is HOLE for one in asked) > 1 + (definition.name in ("ProgramTypes", "HasTokens")):
             return None
         answer = self.derive(definition, tuple(asked))
         if answer is None:
@@ -292,16 +268,8 @@ class Deriver:
 
     def passed(self, relation, definition):
         """The parameters of a module, which its relations pass on to one another, as terms."""
-        key = relation.definition.key, definition.key
-        if key not in self.passed_on:
-            names = definition.parameters if definition.module is relation.definition.module else []
-            self.passed_on[key] = [("name", name) for name in names]
-        return self.passed_on[key]
-
-    def by_record(self, definition, given):
-        """An instance of a record whose fields are claims: each in turn."""
-        relation = self.relation_of_record(definition)
-        return self.by_rule(relation, relation.rules[0], given)
+        names = definition.parameters if definition.module is relation.definition.module else []
+        return [self.parameters.setdefault(name, ("name", name)) for name in names]
 
     def has_instance(self, definition, given, fields):
         """Whether there is an instance of a record: its claims, where its other fields have these values."""
@@ -315,7 +283,6 @@ class Deriver:
         return self.relation(definition)
 
     def decide(self, claim):
-        """Whether a claim holds."""
         if type(claim) is Claim:
             return self.decide_claim(claim)
         if type(claim) is Built and isinstance(claim.tag, tuple):
@@ -345,11 +312,6 @@ class Deriver:
         return self.decide(left()) == self.decide(right())
 
 
-def most_holes(definition):
-    """How many arguments are found at most: one, but for those relations that give two."""
-    return 2 if definition.name in ("ProgramTypes", "HasTokens") else 1
-
-
 def is_pattern(term, scope, rule):
     """Whether a term is made of constructors and variables alone."""
     kind = term[0]
@@ -368,6 +330,5 @@ def is_pattern(term, scope, rule):
 
 
 def is_constructor(name, scope):
-    """Whether a name is a constructor or a constant."""
     found, fields = scope.find(name)
     return found is not None and not fields and found.kind in ("constructor", "constant")

@@ -1,21 +1,22 @@
-"""Tables of jobs and their answers: crates/tool_runs/data/*.jobs, and others of that form (crates/snesl_tables says it)."""
+"""Tables of jobs and their answers: crates/tool_runs/data/*.jobs, and others of that form (crates/snesl_trials says it)."""
 
-import glob
-import os
+import dataclasses
+import pathlib
 import re
 
-ESCAPES = {"t": 9, "n": 10, "r": 13, "0": 0}
+ESCAPES = {b"t": b"\t", b"n": b"\n", b"r": b"\r", b"0": b"\0", b"\n": b""}
+ESCAPE = re.compile(rb"\\(?:x(..)|(.|\n))")
 PIECE = re.compile(r"\\\[(\d+):(.*?)\\\]", re.DOTALL)
 
 
+@dataclasses.dataclass
 class Row:
     """A job with its words, and what is printed, said and answered for it."""
 
-    def __init__(self, table, line, first):
-        self.place = f"{table}:{line}"
-        self.lines = [first]
-        self.words = []
-        self.fields = {}
+    place: str
+    lines: list
+    words: list = dataclasses.field(default_factory=list)
+    fields: dict = dataclasses.field(default_factory=dict)
 
     @property
     def job(self):
@@ -28,42 +29,25 @@ class Row:
 
 def spelled(text):
     """The bytes that a text spells."""
-    text = PIECE.sub(lambda found: found.group(2) * int(found.group(1)), text)
-    spelling = bytearray()
-    pieces = text.split("\\")
-    spelling += pieces[0].encode()
-    for piece in pieces[1:]:
-        if piece[:1] == "x":
-            spelling.append(int(piece[1:3], 16))
-            spelling += piece[3:].encode()
-        elif piece[:1] == "\n":
-            spelling += piece[1:].encode()
-        else:
-            spelling.append(ESCAPES[piece[:1]])
-            spelling += piece[1:].encode()
-    return bytes(spelling)
+    text = PIECE.sub(lambda found: found[2] * int(found[1]), text).encode()
+    return ESCAPE.sub(lambda found: bytes([int(found[1], 16)]) if found[1] else ESCAPES[found[2]], text)
 
 
 def rows_of(path):
     rows = []
-    with open(path, encoding="utf-8", newline="\n") as file:
-        text = file.read()
-    for number, line in enumerate(text.split("\n"), 1):
-        if not line or line.startswith("#"):
-            continue
+    for number, line in enumerate(path.read_bytes().decode().split("\n"), 1):
         field, _, rest = line.partition(" ")
         if field == "job":
-            rows.append(Row(os.path.basename(path), number, rest))
+            rows.append(Row(f"{path.name}:{number}", [rest]))
         elif line.startswith("    "):
             rows[-1].lines.append(line[4:])
         elif field == "word":
             rows[-1].words.append(spelled(rest))
-        else:
+        elif line and not line.startswith("#"):
             rows[-1].fields[field] = rest
     return rows
 
 
-def all_rows(folders, names=("*.jobs", "*.programs")):
-    """The rows of all tables in these folders."""
-    paths = [path for folder in folders for name in names for path in sorted(glob.glob(os.path.join(folder, name)))]
+def all_rows(folders):
+    paths = [path for folder in folders for name in ("*.jobs", "*.programs") for path in sorted(pathlib.Path(folder).glob(name))]
     return [row for path in paths for row in rows_of(path)]

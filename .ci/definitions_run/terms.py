@@ -19,12 +19,8 @@ ENDS = {")", "}", "]", ",", ";", "then", "else", "in", "=", "|", "↦", "as", "w
 
 
 class Parser:
-    """Reads the tokens of one term, or of patterns."""
-
     def __init__(self, tokens, path):
-        self.tokens = tokens
-        self.path = path
-        self.at = 0
+        self.tokens, self.path, self.at = tokens, path, 0
 
     def fail(self, why):
         """Refuses the form, with its place."""
@@ -37,7 +33,6 @@ class Parser:
         return self.tokens[self.at] if self.at < len(self.tokens) else None
 
     def next(self):
-        """Takes the next token."""
         if self.at >= len(self.tokens):
             self.fail("a term that ends too early")
         self.at += 1
@@ -76,16 +71,14 @@ class Parser:
             if token is None or token in TIGHTNESS or token in ENDS:
                 return term
             if token == "{":
-                self.skip_braces()
+                self.skip("{", "}")
             else:
                 term = ("apply", term, self.atom())
 
-    def skip_braces(self):
-        """Passes over an implicit argument or binder."""
-        depth = 0
+    def skip(self, opening, closing, depth=0):
+        """Passes over what stands in brackets: an implicit argument or binder, or the type of a binder."""
         while True:
-            token = self.next()
-            depth += {"{": 1, "}": -1}.get(token, 0)
+            depth += {opening: 1, closing: -1}.get(self.next(), 0)
             if depth == 0:
                 return
 
@@ -172,25 +165,18 @@ class Parser:
             token = self.next()
             if token == "(":
                 names.append(str(self.next()))
-                self.skip_type()
+                self.skip("(", ")", 1)
                 if self.peek() == ".":
                     self.next()
                     break
             elif token == "{":
-                self.at -= 1
-                self.skip_braces()
+                self.skip("{", "}", 1)
             elif token.endswith("."):
                 names.append(str(token[:-1]))
                 break
             else:
                 names.append(str(token))
         return ("lambda", tuple(names), self.term())
-
-    def skip_type(self):
-        """Passes over the type of a binder, up to its bracket."""
-        depth = 1
-        while depth:
-            depth += {"(": 1, ")": -1}.get(self.next(), 0)
 
     def choice(self):
         condition = self.term()
@@ -234,20 +220,28 @@ def patterns(tokens, path):
     found = []
     while parser.peek() is not None:
         if parser.peek() == "{":
-            parser.skip_braces()
+            parser.skip("{", "}")
         else:
             found.append(parser.atom())
     return found
 
 
 def equation_parts(tokens, path):
-    """The left and the right side of an equation."""
     depth = 0
     for at, token in enumerate(tokens):
         depth += {"(": 1, "{": 1, ")": -1, "}": -1}.get(token, 0)
         if token == "=" and depth == 0:
             return tokens[:at], tokens[at + 1:]
     raise FormError(f"{path}:{tokens[0].line}: an equation without `=`")
+
+
+def arguments_of(term):
+    """What is applied, and its arguments."""
+    given = []
+    while term[0] == "apply":
+        given.insert(0, term[2])
+        term = term[1]
+    return term, given
 
 
 def parts_of(term):

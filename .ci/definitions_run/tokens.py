@@ -26,29 +26,12 @@ class Line:
     """A line with the lines that go on with it: those that are indented deeper."""
 
     def __init__(self, indent, tokens):
-        self.indent = indent
-        self.tokens = tokens
-        self.parts = [tokens]
-
-    def join(self, tokens):
-        """Takes a line that goes on with this one."""
-        self.tokens = self.tokens + tokens
-        self.parts.append(tokens)
-
-    @property
-    def number(self):
-        """The line where it begins."""
-        return self.tokens[0].line
+        self.indent, self.tokens, self.parts, self.number = indent, tokens, [tokens], tokens[0].line
 
 
 def tokens_of(text, number):
     """The tokens of one line, without its comment."""
     return [Token(piece, number) for piece in TOKEN.findall(text) if not re.match(r"--(\s|$)", piece)]
-
-
-def opens_block(tokens):
-    """Whether deeper lines are a block of their own: `module` and `mutual` open one."""
-    return tokens[0] == "module" or [str(token) for token in tokens] in (["mutual"], ["abbrev", "mutual"])
 
 
 def lines_of(text):
@@ -61,11 +44,12 @@ def lines_of(text):
             continue
         indent = len(written) - len(written.lstrip())
         if open_line is not None and (indent > open_line.indent or tokens[0] in CLOSERS):
-            open_line.join(tokens)
+            open_line.tokens = open_line.tokens + tokens
+            open_line.parts.append(tokens)
             continue
-        line = Line(indent, tokens)
-        lines.append(line)
-        open_line = None if opens_block(tokens) else line
+        lines.append(Line(indent, tokens))
+        # (deeper lines are a block of their own behind these)
+        open_line = None if tokens[0] == "module" or tokens in (["mutual"], ["abbrev", "mutual"]) else lines[-1]
     return lines
 
 

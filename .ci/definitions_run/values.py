@@ -7,9 +7,7 @@ class Built:
     __slots__ = ("tag", "given", "hashed")
 
     def __init__(self, tag, given=()):
-        self.tag = tag
-        self.given = given
-        self.hashed = None
+        self.tag, self.given, self.hashed = tag, given, None
 
     def __call__(self, argument):
         return Built(self.tag, self.given + (argument,))
@@ -45,9 +43,7 @@ class Claim:
     __slots__ = ("operator", "left", "right")
 
     def __init__(self, operator, left, right):
-        self.operator = operator
-        self.left = left
-        self.right = right
+        self.operator, self.left, self.right = operator, left, right
 
 
 class Opaque:
@@ -70,8 +66,7 @@ class Rest:
     __slots__ = ("items", "start")
 
     def __init__(self, items, start):
-        self.items = items
-        self.start = start
+        self.items, self.start = items, start
 
     def __len__(self):
         return len(self.items) - self.start
@@ -108,7 +103,6 @@ def plain(items):
 
 
 def dropped(items, count):
-    """A list without its first items."""
     if type(items) is Rest:
         start = min(items.start + count, len(items.items))
         return Rest(items.items, start) if len(items.items) - start > LONG else items.items[start:]
@@ -118,7 +112,6 @@ def dropped(items, count):
 
 
 def taken(items, count):
-    """The first items of a list."""
     if type(items) is Rest:
         return items.items[items.start:items.start + count]
     return items[:count]

@@ -1,8 +1,7 @@
 """Typing, and what it refuses (LANGUAGE.md, "Typing and evaluation", "Names", and the order under "Refusals")."""
 
-from .answers import MISMATCH, NAME, STREAMED, TOO_BIG, Refused
+from .values import BOOL, INT, MISMATCH, MOST_SIZE, NAME, STREAMED, TOO_BIG, Refused, Type, pair, sequence, vector
 from .grammar import COMPARISONS, Function
-from .types import BOOL, INT, MOST_SIZE, Type, pair, sequence, vector
 
 MOST_DECLARATIONS = 64
 MOST_FORMS = 65_536
@@ -19,52 +18,28 @@ def sequence_of(element):
     return None if element is None else sequence(element)
 
 
-def flat(first):
-    """The type of `concat`."""
-    element = first.part_of("sequence")
-    return element if element is not None and element.kind == "sequence" else None
-
-
-def of_arithmetic(*types):
-    """The type of a sum and its like."""
-    return INT if all(it == INT for it in types) else None
-
-
-def of_order(left, right):
-    """The type of `<` and its like."""
-    return BOOL if left == right == INT else None
-
-
-def of_logic(*types):
-    """The type of `and`, `or` and `not`."""
-    return BOOL if all(it == BOOL for it in types) else None
-
-
-def of_branches(condition, first, second):
-    """The type of `if`."""
-    return first if condition == BOOL and first == second else None
+def fixed(result, *parts):
+    """A rule of one type alone, for parts of these types."""
+    return len(parts), lambda *types: result if types == parts else None
 
 
 # What the type of a form is by the types of its parts, or nothing where they do not fit; and how many parts it has.
 RULES = {
-    **{it: (2, of_arithmetic) for it in "+-*/%"},
-    **{it: (2, of_order) for it in COMPARISONS},
+    **{it: fixed(INT, INT, INT) for it in "+-*/%"},
+    **{it: fixed(BOOL, INT, INT) for it in COMPARISONS},
     "==": (2, lambda left, right: BOOL if left == right and left in (INT, BOOL) else None),
-    "and": (2, of_logic),
-    "or": (2, of_logic),
-    "not": (1, of_logic),
-    "negate": (1, of_arithmetic),
+    **{it: fixed(BOOL, BOOL, BOOL) for it in ("and", "or")},
+    "not": fixed(BOOL, BOOL),
+    "negate": fixed(INT, INT),
     "pair": (2, pair),
     "fst": (1, lambda it: it.parts[0] if it.kind == "pair" else None),
     "snd": (1, lambda it: it.parts[1] if it.kind == "pair" else None),
-    "iota": (1, lambda it: sequence(INT) if it == INT else None),
-    "scan_add": (1, lambda it: it if it == sequence(INT) else None),
-    "reduce_add": (1, lambda it: INT if it == sequence(INT) else None),
-    "reduce_max": (1, lambda it: INT if it == sequence(INT) else None),
-    "reduce_and": (1, lambda it: BOOL if it == sequence(BOOL) else None),
-    "reduce_or": (1, lambda it: BOOL if it == sequence(BOOL) else None),
+    "iota": fixed(sequence(INT), INT),
+    "scan_add": fixed(sequence(INT), sequence(INT)),
+    **{it: fixed(INT, sequence(INT)) for it in ("reduce_add", "reduce_max")},
+    **{it: fixed(BOOL, sequence(BOOL)) for it in ("reduce_and", "reduce_or")},
     "length": (1, lambda it: INT if it.kind == "sequence" else None),
-    "concat": (1, flat),
+    "concat": (1, lambda it: it.parts[0] if it.kind == "sequence" and it.parts[0].kind == "sequence" else None),
     "part": (2, lambda it, ends: sequence(it) if it.kind == "sequence" and ends == sequence(BOOL) else None),
     "the": (1, lambda it: it.part_of("sequence")),
     "tab": (1, lambda it: vector(it.parts[0]) if it.kind == "sequence" else None),
@@ -72,11 +47,10 @@ RULES = {
     "!": (2, lambda it, place: it.part_of("vector") if place == INT else None),
     "++": (2, lambda left, right: sequence_of(elements(left, right))),
     "parentheses": (1, lambda it: it),
-    "if": (3, of_branches),
+    "if": (3, lambda condition, first, second: first if condition == BOOL and first == second else None),
     "guard": (2, lambda it, condition: sequence(it) if condition == BOOL else None),
-    "integer": (0, lambda: INT),
-    "true": (0, lambda: BOOL),
-    "false": (0, lambda: BOOL),
+    "integer": fixed(INT),
+    **{it: fixed(BOOL) for it in ("true", "false")},
 }
 
 
@@ -116,7 +90,6 @@ class Checker:
         return self.of_parts(form, types)
 
     def of_parts(self, form, types):
-        """The type of a form whose parts have these types."""
         if form.kind == "call":
             if form.text not in self.functions:
                 raise Refused(NAME, form.offset)
@@ -132,7 +105,6 @@ class Checker:
         return bounded(found)
 
     def of_name(self, form, names, level):
-        """The type of a variable."""
         if form.text not in names:
             raise Refused(NAME, form.offset)
         found, bound_at = names[form.text]

@@ -1,18 +1,173 @@
 """Evaluation (LANGUAGE.md, "Typing and evaluation" and "Faults").
 
-Evaluation is strict, from left to right, and ends at its first fault. A network may come to other faults as well, and names one of them. Which one,
-the page leaves to the network. So there is a second way to evaluate, which goes on beside each fault: what needs the value that never came is
-broken, and all else is computed. The faults that it meets are all that stand in a network, unless one of them is found by looking at streams
-beside which the elements go on (Length, Part, The). Then elements meet others than they belong to, and any form may fault as its kind can.
+Evaluation is strict, from left to right, and ends at its first fault. A network may come to other faults as well, and names one of them.
+Which one, the page leaves to the network. So there is a second way to evaluate, which goes on beside each fault: what needs the value that
+never came is broken, and all else is computed. The faults that it meets are all that stand in a network, unless one of them is found by
+looking at streams beside which the elements go on (Length, Part, The). Then elements meet others than they belong to, and any form may
+fault as its kind can.
+
+What operators and built-ins give of the values of their operands is a table (LANGUAGE.md, the table of forms). Each is called with the
+evaluation, whose `fault` it meets, the form, and the values of the parts, some of which may be broken or open.
 """
 
-from . import operations
-from .answers import DIVIDE, EMPTY_MAX, INDEX, LENGTH, NEGATIVE_COUNT, OVERFLOW, PART, SHAPE, THE, Faulted, Long
+import operator
+
+from .values import BROKEN, DIVIDE, EMPTY_MAX, INDEX, LENGTH, NEGATIVE_COUNT, OVERFLOW, PART, SHAPE, THE
+from .values import Faulted, Long, Sequence, Vector, as_sequence, is_whole
 from .lexer import number_of
-from .values import BROKEN, Sequence, as_sequence
 
 # How many forms are evaluated before a job counts as long.
 MANY_STEPS = 1_000_000
+# A longer sequence counts as long.
+MOST_ELEMENTS = 20_000
+
+
+def of_whole(operation):
+    """An operation on operands of which none is broken; else its result is."""
+
+    def result(evaluation, form, *operands):
+        return BROKEN if any(it is BROKEN for it in operands) else operation(evaluation, form, *operands)
+
+    return result
+
+
+def plain(operation):
+    """An operation without a fault."""
+    return of_whole(lambda _, form, *operands: operation(*operands))
+
+
+def in_range(evaluation, form, number):
+    """An integer, or the fault of one that is out of the range."""
+    return number if evaluation.dialect.has(number) else evaluation.fault(OVERFLOW, form)
+
+
+def arithmetic(operation):
+    """An operation on integers whose result may be out of the range."""
+    return of_whole(lambda evaluation, form, *operands: in_range(evaluation, form, operation(*operands)))
+
+
+def quotient_of(left, right):
+    """The quotient, rounded towards zero."""
+    found = abs(left) // abs(right)
+    return found if (left < 0) == (right < 0) else -found
+
+
+def iota(evaluation, form, count):
+    if count is BROKEN or count < 0:
+        if count is not BROKEN:
+            evaluation.fault(NEGATIVE_COUNT, form)
+        return Sequence(is_open=True)
+    if count > MOST_ELEMENTS:
+        raise Long()
+    return Sequence(range(count))
+
+
+def scan_add(evaluation, form, terms):
+    """`scan_add`: a sum is given, and has to be in the range, only where an element stands."""
+    terms, total = as_sequence(terms), 0
+    found = Sequence(is_open=terms.is_open)
+    for term in terms:
+        if total is not BROKEN:
+            total = in_range(evaluation, form, total)
+        found.append(total)
+        total = BROKEN if BROKEN in (total, term) else total + term
+    return found
+
+
+def reduce_add(evaluation, form, terms):
+    """`reduce_add`: the sum of the first one, two, .. elements has to be in the range."""
+    terms, total = as_sequence(terms), 0
+    for term in terms:
+        if term is BROKEN:
+            return BROKEN
+        total = in_range(evaluation, form, total + term)
+        if total is BROKEN:
+            return BROKEN
+    return BROKEN if terms.is_open else total
+
+
+def of_all(operation):
+    """An operation on a sequence of which nothing is missing; else its result is broken."""
+    return lambda evaluation, form, elements: operation(evaluation, form, elements) if is_whole(elements) else BROKEN
+
+
+def concat(_, form, sequences):
+    sequences, found = as_sequence(sequences), Sequence()
+    for it in map(as_sequence, sequences):
+        found.extend(it)
+        if it.is_open:
+            found.is_open = True
+            return found
+    found.is_open = sequences.is_open
+    return found
+
+
+def part(evaluation, form, elements, ends):
+    """`part`. What is given before a fault stands in front of an open rest."""
+    elements, ends = as_sequence(elements), as_sequence(ends)
+    found, piece, taken = Sequence(is_open=True), Sequence(is_open=True), 0
+    for end in ends:
+        if end is BROKEN:
+            return found
+        if end:
+            piece.is_open = False
+            found.append(piece)
+            piece = Sequence(is_open=True)
+        elif taken < len(elements):
+            piece.append(elements[taken])
+            taken += 1
+        else:
+            if not elements.is_open:
+                evaluation.fault(PART, form)
+            break
+    else:
+        if not ends.is_open and taken == len(elements) and (not ends or ends[-1]):
+            found.is_open = elements.is_open
+            return found
+        if not ends.is_open:
+            evaluation.fault(PART, form)
+    return Sequence([*found, *[piece] * (len(piece) > 0)], is_open=True)
+
+
+def the(evaluation, form, elements):
+    """`the`. Where there is more than one element, the first may be given before that is known."""
+    elements = as_sequence(elements)
+    if len(elements) > 1 or not (elements or elements.is_open):
+        evaluation.fault(THE, form)
+    return elements[0] if elements else BROKEN
+
+
+def joined(_, form, left, right):
+    """`++`."""
+    left, right = as_sequence(left), as_sequence(right)
+    return left if left.is_open else Sequence([*left, *right], right.is_open)
+
+
+OPERATIONS = {
+    **{sign: arithmetic(its) for sign, its in {"+": operator.add, "-": operator.sub, "*": operator.mul, "negate": operator.neg}.items()},
+    "/": of_whole(lambda its, form, left, right: in_range(its, form, quotient_of(left, right)) if right else its.fault(DIVIDE, form)),
+    "%": of_whole(lambda its, form, left, right: left - right * quotient_of(left, right) if right else its.fault(DIVIDE, form)),
+    "==": plain(operator.eq),
+    **{sign: plain(its) for sign, its in {"<": operator.lt, "<=": operator.le, ">": operator.gt, ">=": operator.ge}.items()},
+    "and": plain(lambda left, right: left and right),
+    "or": plain(lambda left, right: left or right),
+    "not": plain(operator.not_),
+    "pair": lambda _, form, first, second: (first, second),
+    "fst": plain(lambda it: it[0]),
+    "snd": plain(lambda it: it[1]),
+    **{its.__name__: its for its in (iota, scan_add, reduce_add, concat, part, the)},
+    "reduce_max": of_all(lambda its, form, terms: max(terms) if terms else its.fault(EMPTY_MAX, form)),
+    "reduce_and": of_all(lambda _, form, terms: all(terms)),
+    "reduce_or": of_all(lambda _, form, terms: any(terms)),
+    # (it needs no element)
+    "length": lambda _, form, elements: BROKEN if as_sequence(elements).is_open else len(elements),
+    "tab": of_all(lambda _, form, elements: Vector(elements)),
+    "seq": lambda _, form, elements: Sequence(elements) if is_whole(elements) else Sequence(is_open=True),
+    "!": of_whole(lambda its, form, vector, place: vector[place] if 0 <= place < len(vector) else its.fault(INDEX, form)),
+    "++": joined,
+    "parentheses": lambda _, form, inner: inner,
+    "literal": lambda _, form, *elements: Sequence(elements),
+}
 
 
 class Evaluation:
@@ -26,22 +181,20 @@ class Evaluation:
         self.stuck, self.calls = set(), ()
 
     def fault(self, number, form):
-        """Meets a fault at a form."""
         if not self.goes_on:
             raise Faulted(number, form.offset)
         self.faults.add((number, form.offset))
         return BROKEN
 
     def value(self, form, names):
-        """The value of a form, given those of the names."""
         self.steps_left -= 1
         if self.steps_left < 0:
             raise Long()
-        special = SPECIAL.get(form.kind)
+        special = getattr(self, f"of_{form.kind}", None)
         if special:
-            found = special(self, form, names)
+            found = special(form, names)
         else:
-            found = operations.OPERATIONS[form.kind](self, form, *[self.value(it, names) for it in form.parts])
+            found = OPERATIONS[form.kind](self, form, *[self.value(it, names) for it in form.parts])
         return self.in_turn(form, found) if self.goes_on else found
 
     def in_turn(self, form, found):
@@ -54,16 +207,15 @@ class Evaluation:
         return found
 
     def of_name(self, form, names):
-        """The value of a variable."""
         return names[form.text]
 
     def of_integer(self, form, _):
-        """The value of an integer."""
         return number_of(form.text)
 
-    def of_truth(self, form, _):
-        """The value of `true` and `false`."""
+    def of_true(self, form, _):
         return form.kind == "true"
+
+    of_false = of_true
 
     def of_let(self, form, names):
         bound = self.value(form.parts[0], names)
@@ -116,18 +268,6 @@ class Evaluation:
         has_more = any(len(it) > least for it in sequences)
         if has_more and any(len(it) == least and not it.is_open for it in sequences):
             self.fault(LENGTH, form)
-
-SPECIAL = {
-    "name": Evaluation.of_name,
-    "integer": Evaluation.of_integer,
-    "true": Evaluation.of_truth,
-    "false": Evaluation.of_truth,
-    "let": Evaluation.of_let,
-    "if": Evaluation.of_if,
-    "call": Evaluation.of_call,
-    "guard": Evaluation.of_guard,
-    "comprehension": Evaluation.of_comprehension,
-}
 
 
 def evaluated(program, inputs, most_steps=MANY_STEPS):

@@ -1,13 +1,13 @@
 """From tokens to forms (LANGUAGE.md, "Grammar" and the rules under "Refusals").
 
-Each rule is given the room that it has: how deep what stands there may be. The token that is refused is the first that fits no rule (Syntax), or
-that fits one only if there were more room (Deep). So what a rule opens is asked for room before anything below it is read, and an operator is
-asked when it is met, since its left operand was read without knowing of it.
+Each rule is given the room that it has: how deep what stands there may be. The token that is refused is the first that fits no rule
+(Syntax), or that fits one only if there were more room (Deep). So what a rule opens is asked for room before anything below it is read, and
+an operator is asked when it is met, since its left operand was read without knowing of it.
 """
 
 from dataclasses import dataclass, field
 
-from .answers import DEEP, SYNTAX, Refused
+from .values import DEEP, SYNTAX, Refused
 from .lexer import BUILT_INS, number_of
 
 MOST_DEPTH = 64
@@ -21,9 +21,9 @@ LEVEL_OF = {operator: level for level, operators in enumerate(LEVELS) for operat
 class Form:
     """An expression or a written type.
 
-    The kind is `integer`, `true`, `false`, `name`, `call`, `let`, `if`, `pair`, `parentheses`, `literal`, `guard`, `comprehension`, `negate`,
-    `not`, an operator or a built-in's name; of types `int`, `bool`, `pair`, `vector`, `sequence`. A comprehension's parts are its sequences,
-    its condition where it has one, and its body.
+    The kind is `integer`, `true`, `false`, `name`, `call`, `let`, `if`, `pair`, `parentheses`, `literal`, `guard`, `comprehension`,
+    `negate`, `not`, an operator or a built-in's name; of types `int`, `bool`, `pair`, `vector`, `sequence`. A comprehension's parts are its
+    sequences, its condition where it has one, and its body.
     """
 
     kind: str
@@ -61,12 +61,10 @@ class Program:
 
     @property
     def inputs(self):
-        """The declared inputs, in order."""
         return [it for it in self.declarations if not isinstance(it, Function)]
 
     @property
     def functions(self):
-        """The declared functions, in order."""
         return [it for it in self.declarations if isinstance(it, Function)]
 
 
@@ -84,7 +82,6 @@ class Reader:
 
     @property
     def next(self):
-        """The token that stands here."""
         return self.tokens[self.place]
 
     def fails(self):
@@ -189,8 +186,8 @@ class Reader:
         return Form("if", offset, tuple(parts))
 
     def disjunction(self, room, least=0):
-        """disjunction, or a rule below it: operands of the levels from the least on, grouped to the left. An operator does not go on with what
-        one of a level before has made, nor one of comparisons with a comparison."""
+        """disjunction, or a rule below it: operands of the levels from the least on, grouped to the left. An operator does not go on with
+        what one of a level before has made, nor one of comparisons with a comparison."""
         left, most = self.prefixed(room), len(LEVELS)
         while least <= LEVEL_OF.get(self.next.kind, -1) <= most:
             asks_for(left.depth + 1, room)

@@ -2,16 +2,14 @@
 
 import re
 
-from .answers import BAD_INPUT, Refused
+from .values import BAD_INPUT, Refused, Sequence, Vector
 from .lexer import BLANKS, number_of
-from .values import Sequence, Vector
 
 MOST_BYTES = 16_777_216
 TOKEN = re.compile(r"(?P<word>[A-Za-z][A-Za-z0-9_]*)|(?P<integer>-?[0-9]+)|(?P<sign>[=;,()\[\]{}])")
 
 
 def signed(token):
-    """The number of an integer's token."""
     number = number_of(token.lstrip("-"))
     return -number if token.startswith("-") else number
 
@@ -36,7 +34,6 @@ class Reader:
             self.kind = "bad"
 
     def fails(self):
-        """Refuses the token that stands here."""
         raise Refused(BAD_INPUT, self.place)
 
     def take(self, kind, *tokens):
@@ -48,7 +45,6 @@ class Reader:
         return token
 
     def value(self, found):
-        """A value of this type."""
         if found.kind == "int":
             return signed(self.take("integer"))
         if found.kind == "bool":

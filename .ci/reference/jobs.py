@@ -3,13 +3,12 @@
 import re
 from dataclasses import dataclass, field
 
-from .answers import BAD_CONFIG, Faulted, Refused, fault_line
+from .values import BAD_CONFIG, Faulted, Refused, fault_line, text_of
 from .checker import checked
 from .evaluator import MANY_STEPS, evaluated, standing_faults
 from .grammar import program_of
 from .inputs import inputs_of
 from .lexer import number_of, tokens_of
-from .values import text_of
 
 SEPARATOR = re.compile(r"^---(?:\n|\r\n|\Z)", re.MULTILINE)
 NUMBERS = {"capacity": (1, 65_536), "chunk": (1, 1024), "threads": (1, 16), "idle": (1, 1_000_000)}
@@ -85,4 +84,4 @@ def answer(job, words=(), most_steps=MANY_STEPS):
         return Answer(text_of(evaluated(program, inputs, most_steps)), 0, size=size)
     except Faulted as fault:
         faults, are_all_met = standing_faults(program, inputs, most_steps)
-        return Answer(fault.line(), 2, set(map(fault_line, faults)), are_all_met, size)
+        return Answer(fault_line((fault.number, fault.offset)), 2, set(map(fault_line, faults)), are_all_met, size)

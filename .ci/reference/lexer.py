@@ -3,7 +3,7 @@
 import re
 from dataclasses import dataclass
 
-from .answers import LEX, TOO_LONG, Refused
+from .values import LEX, TOO_LONG, Refused
 
 MOST_BYTES = 65_536
 BUILT_INS = "iota scan_add reduce_add reduce_max reduce_and reduce_or length concat part the tab seq fst snd".split()
@@ -29,7 +29,6 @@ class Dialect:
         return (1 << (self.bits - 1)) - 1
 
     def has(self, number):
-        """Whether an integer is in the range."""
         return self.least <= number <= self.greatest
 
 
@@ -46,7 +45,6 @@ class Token:
 
 
 def kind_of(match):
-    """The kind of the token that was matched."""
     if match.lastgroup == "integer":
         return "integer"
     text = match.group()

@@ -3,7 +3,7 @@
 from dataclasses import dataclass, replace
 
 from .lexer import FIRST, SECOND
-from .types import BOOL, INT, Type, pair, sequence, vector
+from .values import BOOL, INT, Type, pair, sequence, vector
 
 NAMES = list("abcdxyz")
 # How strongly the forms bind: from what stands in parentheses as an operand to what never does.
@@ -49,7 +49,6 @@ class Maker:
         return sequence(self.type(room - 1))
 
     def number(self):
-        """An integer's text."""
         near = self.dice.choice([self.dialect.greatest, FIRST.greatest, 3_037_000_500])
         if self.chance(3 + self.risk / 3):
             return str(near + self.dice.choice([0, 0, -1, -2, 1 if self.chance(10) else 0]))
@@ -63,8 +62,13 @@ class Maker:
             found = self.type(2)
         if fuel <= 0:
             return self.leaf(found, scope)
-        special = {"int": self.integer, "bool": self.truth, "pair": self.pair, "vector": self.vector, "sequence": self.sequence}
-        return special[found.kind](found, fuel - 1, scope) if self.chance(70) else self.any(found, fuel - 1, scope)
+        if not self.chance(70):
+            return self.any(found, fuel - 1, scope)
+        if found.kind == "pair":
+            return self.around("({}, {})", found.parts, fuel - 1, scope), PRIMARY
+        if found.kind == "vector":
+            return self.around("tab({})", [sequence(found.parts[0])], fuel - 1, scope), PRIMARY
+        return {"int": self.integer, "bool": self.truth, "sequence": self.sequence}[found.kind](found, fuel - 1, scope)
 
     def operand(self, found, fuel, scope, strength):
         """An expression that binds so strongly at least."""
@@ -80,6 +84,10 @@ class Maker:
         cuts = sorted(self.dice.randint(0, max(fuel, 0)) for _ in range(count - 1))
         return [right - left for left, right in zip([0, *cuts], [*cuts, max(fuel, 0)])]
 
+    def around(self, text, types, fuel, scope):
+        """A form around parts of these types, any of which may stand there."""
+        return text.format(*(self.whole(it, share, scope) for it, share in zip(types, self.shares(fuel, len(types)))))
+
     def known(self, found, scope):
         """A name of a type that may be used here, or nothing."""
         fits = []
@@ -89,7 +97,6 @@ class Maker:
         return self.dice.choice(fits) if fits else None
 
     def leaf(self, found, scope):
-        """A small expression."""
         name = self.known(found, scope)
         if name and self.chance(75):
             return name, PRIMARY
@@ -123,8 +130,7 @@ class Maker:
 
     def choice(self, found, fuel, scope):
         """`if`."""
-        condition, first, second = [self.whole(it, share, scope) for it, share in zip([BOOL, found, found], self.shares(fuel, 3))]
-        return f"if {condition} then {first} else {second}", LOOSE
+        return self.around("if {} then {} else {}", [BOOL, found, found], fuel, scope), LOOSE
 
     def the(self, found, fuel, scope):
         """`the`, of one element as a rule."""
@@ -167,7 +173,6 @@ class Maker:
         return f"{left} {self.dice.choice(operators)} {right}", strength
 
     def integer(self, found, fuel, scope):
-        """A form of integers."""
         kind = self.dice.randrange(9)
         if kind < 2:
             return self.two(["+", "-"], INT, fuel, scope, SUM)
@@ -187,7 +192,6 @@ class Maker:
         return f"({name} % {self.dice.choice('23')})" if name else self.dice.choice([*"234789", "(-2)", "(-3)"])
 
     def truth(self, found, fuel, scope):
-        """A form of truth values."""
         kind = self.dice.randrange(6)
         if kind < 2:
             return self.two(["==", "<", "<=", ">", ">="], INT, fuel, scope, COMPARISON)
@@ -200,37 +204,20 @@ class Maker:
         word, strength = self.dice.choice([("and", CONJUNCTION), ("or", DISJUNCTION)])
         return self.two([word], BOOL, fuel, scope, strength)
 
-    def pair(self, found, fuel, scope):
-        first, second = [self.whole(it, share, scope) for it, share in zip(found.parts, self.shares(fuel, 2))]
-        return f"({first}, {second})", PRIMARY
-
-    def vector(self, found, fuel, scope):
-        return f"tab({self.whole(sequence(found.parts[0]), fuel, scope)})", PRIMARY
-
     def sequence(self, found, fuel, scope):
-        """A form of sequences."""
         element = found.parts[0]
-        makes = [self.literal, self.guard, self.comprehension, self.comprehension, self.comprehension, self.joined, self.concat]
-        makes += [self.ranges] * 2 * (element == INT) + [self.seq] * element.is_concrete + [self.part] * 3 * (element.kind == "sequence")
-        return self.dice.choice(makes)(element, fuel, scope)
+        makes = [self.literal, ("{{{} | {}}}", element, BOOL), self.comprehension, self.comprehension, self.comprehension, self.joined]
+        makes += [("concat({})", sequence(found))] + [self.ranges] * 2 * (element == INT) + [("seq({})", vector(element))] * element.is_concrete
+        made = self.dice.choice([*makes, *[self.part] * 3 * (element.kind == "sequence")])
+        return made(element, fuel, scope) if callable(made) else (self.around(made[0], made[1:], fuel, scope), PRIMARY)
 
     def literal(self, element, fuel, scope):
-        shares = self.shares(fuel, self.dice.randint(1, 4))
-        return "{" + ", ".join(self.whole(element, it, scope) for it in shares) + "}", PRIMARY
-
-    def guard(self, element, fuel, scope):
-        first, second = self.shares(fuel, 2)
-        return f"{{{self.whole(element, first, scope)} | {self.whole(BOOL, second, scope)}}}", PRIMARY
+        count = self.dice.randint(1, 4)
+        return self.around(f"{{{{{', '.join(['{}'] * count)}}}}}", [element] * count, fuel, scope), PRIMARY
 
     def joined(self, element, fuel, scope):
         """`++`."""
         return self.two(["++"], sequence(element), fuel, scope, JOINED)
-
-    def concat(self, element, fuel, scope):
-        return f"concat({self.whole(sequence(sequence(element)), fuel, scope)})", PRIMARY
-
-    def seq(self, element, fuel, scope):
-        return f"seq({self.whole(vector(element), fuel, scope)})", PRIMARY
 
     def ranges(self, element, fuel, scope):
         """`iota`, of a small number as a rule, or `scan_add`."""
@@ -244,8 +231,7 @@ class Maker:
     def part(self, element, fuel, scope):
         """`part`, with ends that fit as a rule."""
         if self.chance(self.risk / 4):
-            first, second = self.shares(fuel, 2)
-            return f"part({self.whole(element, first, scope)}, {self.whole(sequence(BOOL), second, scope)})", PRIMARY
+            return self.around("part({}, {})", [element, sequence(BOOL)], fuel, scope), PRIMARY
         count = self.dice.randint(1, 4)
         ends = ["false"] * (count - self.chance(self.risk / 4)) + ["true"] * self.dice.randint(0, 3)
         self.dice.shuffle(ends)
@@ -293,7 +279,6 @@ class Maker:
         return text, (name, [found for _, found in parameters], result)
 
     def program(self, fuel):
-        """A program and an input text."""
         lines, functions, names, values = [], (), [], []
         if self.dialect == SECOND:
             lines.append("dialect 2;")

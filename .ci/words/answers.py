@@ -7,7 +7,6 @@ After that `.ci/wrong CRATE` must still refuse each wrong body: an answer tries 
 
 It takes five checks of these functions. Functions of a cycle have their answers elsewhere, and are not looked at."""
 
-import os
 import pathlib
 import re
 import shutil
@@ -16,9 +15,8 @@ import tempfile
 
 from common import asked
 from functions import Code
-from kit import rt
-from trials import STUB
-from words.checks import check, crates_here, crates_named, kept_modules
+from trials import copy_parts, leave_out_proof
+from words.proving import check, crates_here, crates_named, kept_modules
 
 # What the prover tries of a goal without an answer, and what an answer may say in its place.
 SEARCH = (
@@ -33,8 +31,7 @@ OFFERED = re.compile(r"(?m)^pub (\S+) : goal\.\S+\n(\S+) ([^=?\n]*\S) = \?$")
 
 
 class Goals:
-    """The goals of a function that have no answer: the variables of each, the answers of the others, and what all of them
-    import."""
+    """The goals of a function that have no answer: the variables of each, the answers of the others, and what all of them import."""
 
     def __init__(self, crate, function, room):
         self.function, self.name = function, f"Rattle.{crate.name}.proofs.{function.name.replace('::', '.')}"
@@ -78,7 +75,6 @@ def with_imports(text, uses):
 
 
 def with_import(text, module, word):
-    """The text with an import of this word."""
     found = re.search(rf"(?m)^use {re.escape(module)}\.{{([^}}]*)}}", text)
     if not found:
         return f"use {module}.{{{word}}}\n{text}"
@@ -91,15 +87,10 @@ class Looks:
 
     def __init__(self, crate, functions, names, room):
         self.crate, self.names, self.room, self.copy = crate, names, room, room / "copy"
-        for part in rt.rtlib.PARTS:
-            if os.path.isdir(f"{crate.folder}/{part}"):
-                shutil.copytree(f"{crate.folder}/{part}", self.copy / part)
+        copy_parts(crate, self.copy)
         for function in functions:
             if function.has_stub and function.name not in names:
-                shutil.rmtree(self.copy / function.proofs, ignore_errors=True)
-                (self.copy / function.proofs).mkdir(parents=True)
-                text = STUB.format(crate=crate.name, path=function.name.replace("::", "."), name=function.name.rpartition("::")[2])
-                (self.copy / function.proofs / "Proof.antt").write_text(text, encoding="utf-8")
+                leave_out_proof(crate, function, self.copy)
 
     def check(self, kept, *words):
         return check(self.crate, self.room / kept, *words, folder=self.copy).stdout

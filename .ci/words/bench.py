@@ -1,20 +1,19 @@
-"""Measures the program `snesl`, or SNESL where it is named, beside its peers of bench/peers, all in one sitting and by turns, and
-prints a table. It takes some ten minutes.
+"""Measures the program `snesl`, or SNESL where it is named, beside its peers of bench/peers, all in one sitting and by turns, and prints a
+table. It takes some ten minutes.
 
-The peers are plain Rust without a proof, which cargo builds here: an unproved twin of the drive, whole vectors, a plain loop, and
-a thread a node over channels. All answers have to be the same. The twin and the threads have no nodes for vectors, so two
-programs have no figures of theirs.
+The peers are plain Rust, which cargo builds here: an unproved twin of the drive, whole vectors, a plain loop, and a thread a node over
+channels. All answers have to be the same. The twin and the threads have no nodes for vectors, so two programs have no figures of theirs.
+Times are nanoseconds an element: what a run takes beyond a run of a few elements. They are of the processor for what runs in one thread,
+and by the clock for what runs in several or over rings. Instructions are counted by `perf` where it can count, and else by valgrind, at
+fewer elements.
 
-Times are nanoseconds an element: what a run takes beyond a run of a few elements, so that starting does not count. They are of
-the processor for what runs in one thread, and by the clock for what runs in several or over rings. Instructions are counted by
-`perf` where it can count, and else by valgrind, at fewer elements.
+With --threads the product is measured by rings of so many threads too, at the defaults, and with capacity 4,096 at chunk 256 and 1,024; for
+more than one thread with neighbours apart, and by `levuttar`, or LEVUTTAR where it is named, which deals the nodes by a cut. A last table
+tells when threads pay: the best of each number beside one thread without rings, all by the clock. --svg FILE draws what the product takes
+in one thread and with the defaults of snesl, and its peers. Each is run --runs times."""
 
-With --threads the product is measured by rings of so many threads too, at the defaults, and with capacity 4,096 at chunk 256 and
-1,024; for more than one thread with neighbours apart, and by `levuttar`, or LEVUTTAR where it is named, which deals the nodes by a
-cut. A last table tells when threads pay: the best of each number beside one thread without rings, all by the clock."""
-
-import argparse
 import collections
+import itertools
 import math
 import os
 import pathlib
@@ -23,9 +22,8 @@ import sys
 from concurrent.futures import ThreadPoolExecutor
 from typing import NamedTuple
 
-from common import built, table
+from common import asked, built, table
 from words.measured import MEANS, TEXTS, WITH_VECTORS, build_peers, counter, instructions, peer, timed
-from words.picture import picture
 
 PROGRAMS = list(TEXTS)
 # Chunk and capacity; and those over rings, the defaults and those for speed.
@@ -44,6 +42,14 @@ COUNTED = {"squares": (10_000, 30_000), "wide": (10_000, 30_000), "nest": (10_00
 COUNTED |= {"heavy": (4_000, 8_000), "row": (10_000, 20_000), **dict.fromkeys(WITH_VECTORS, (20_000, 40_000))}
 # How nodes are dealt out to threads: all in one thread without rings, over rings in turn, or over rings by a cut.
 ALONE, APART, CUT = "alone", "apart", "by a cut"
+# The picture: as many programs as stand beside one another on a page.
+DRAWN = ["squares", "wide", "nest", "deep"]
+# Who runs the programs, each in a colour that is seen on white and on black.
+COLOURS = {"product": "#d9772b", "twin": "#4a8ad4", "vectors": "#35995f", "plain": "#9873cf", "threads": "#84888e"}
+INK, GRID = "#797d83", "#797d8355"
+LEFT, COLUMN, HEAD, LINE, GAP = 410, 160, 62, 20, 8
+# The room in a column for bars, the rest being for numbers behind them.
+BARS = 112
 
 
 class Programs(NamedTuple):
@@ -150,8 +156,7 @@ def counts(programs, cells):
 
 
 def sitting(programs, threads, runs):
-    """What counted instructions, and the figure of each variant and program: by the clock where nodes wait, and else of the
-    processor."""
+    """What counted instructions, and the figure of each variant and program: by the clock where nodes wait, and else of the processor."""
     cells = [(variant, program) for variant in variants(threads) for program in PROGRAMS if variant.runs(program)]
     spent = times(programs, cells, runs)
     name, found = counts(programs, cells)
@@ -204,8 +209,7 @@ def multiple(its, one):
 
 
 def when_threads_pay(figures, threads):
-    """What an element takes by the clock in one thread without rings, and over rings of each number of threads, with both
-    multiples."""
+    """What an element takes by the clock in one thread without rings, and over rings of each number of threads, with both multiples."""
     alone = [best(figures, program, in_one_thread(PRODUCT), "by_clock") for program in PROGRAMS]
     yield ["one thread without rings", *map(both, alone)]
     for count in threads:
@@ -215,24 +219,75 @@ def when_threads_pay(figures, threads):
         yield [f"rings, {in_threads(count)}", *(f"{both(it)} ({by})" for it, by in zip(beside, multiples))]
 
 
-def asked():
-    words = argparse.ArgumentParser(description=__doc__, formatter_class=argparse.RawDescriptionHelpFormatter)
-    words.add_argument("snesl", nargs="?")
-    words.add_argument("levuttar", nargs="?")
-    words.add_argument("--threads", type=lambda text: [int(it) for it in text.split(",")], default=[], metavar="N,..")
-    words.add_argument("--runs", type=int, default=9, help="how often each is run; 9 without it")
-    words.add_argument("--svg", help="draws what the product takes in one thread and with the defaults of snesl, and its peers")
-    return words.parse_args()
+def spans(figures):
+    """The least and the greatest power of ten of the axis, with the shortest bar in sight unless it is an error of measure."""
+    times = [max(it.times.least, 0.2) for it in figures.values()]
+    return math.floor(math.log10(min(times) / 2)), math.ceil(math.log10(max(times)))
+
+
+def written(x, y, words, extra=""):
+    return f'<text x="{x:.0f}" y="{y:.0f}" {extra}>{words}</text>'
+
+
+def axis(column, low, high, bottom):
+    """The head of a column, and a line for each power of ten."""
+    left = LEFT + column * COLUMN
+    parts = [written(left, 38, DRAWN[column], 'font-weight="bold"')]
+    for power in range(low, high + 1):
+        x = left + BARS * (power - low) / (high - low)
+        parts.append(f'<line x1="{x:.1f}" x2="{x:.1f}" y1="{HEAD - 4}" y2="{bottom}" stroke="{GRID}"/>')
+        if power in (low, (low + high) // 2, high):
+            parts.append(written(x, HEAD - 8, f"{10.0**power:,.{max(0, -power)}f}", 'font-size="10" text-anchor="middle"'))
+    return parts
+
+
+def bar(column, y, who, least, low, high):
+    left = LEFT + column * COLUMN
+    long = BARS * max(math.log10(least) - low, 0) / (high - low)
+    number = f"{least:.1f}" if least < 9.95 else f"{least:,.0f}"
+    return [
+        f'<rect x="{left}" y="{y}" width="{long:.1f}" height="{LINE - 6}" rx="2" fill="{COLOURS[who]}"/>',
+        written(left + long + 4, y + LINE - 9, number, 'font-size="11"'),
+    ]
+
+
+def marked(variant, defaults):
+    """A variant in words, and which program does so where no option says otherwise."""
+    if variant not in defaults:
+        return variant.title()
+    return f'<tspan font-weight="bold">{defaults[variant]}</tspan>, without options: {variant.title().partition(", ")[2]}'
+
+
+def picture(figures, defaults, what):
+    """The figures of variants and programs as the text of an SVG file. `what` is what they are of."""
+    figures = {cell: it for cell, it in figures.items() if cell[1] in DRAWN}
+    low, high = spans(figures)
+    parts, y, before = [], HEAD, None
+    for variant in dict.fromkeys(variant for variant, _ in figures):
+        y += GAP if before not in (None, variant.who) else 0
+        before = variant.who
+        parts.append(written(LEFT - 10, y + LINE - 9, marked(variant, defaults), 'text-anchor="end"'))
+        for column, program in enumerate(DRAWN):
+            parts += bar(column, y, variant.who, figures[variant, program].times.least, low, high)
+        y += LINE
+    parts = [part for column in range(len(DRAWN)) for part in axis(column, low, high, y)] + parts
+    for number, program in enumerate(DRAWN, 1):
+        parts.append(written(10, y + LINE * number, f'<tspan font-weight="bold">{program}</tspan>: {MEANS[program]}', 'font-size="11"'))
+    width, height = LEFT + COLUMN * len(DRAWN), y + LINE * (1 + len(DRAWN))
+    head = f'<svg xmlns="http://www.w3.org/2000/svg" viewBox="0 0 {width} {height}" width="{width}" height="{height}"'
+    head += f' font-family="sans-serif" font-size="12" fill="{INK}">'
+    title = f"{what}: nanoseconds an element, the least of several runs. Each line to the right is ten times as long."
+    return "\n".join([head, f"<title>{title}</title>", written(10, 16, title), *parts, "</svg>", ""])
 
 
 def main():
-    words = asked()
+    words = asked(__doc__, "PROGRAM", threads="", runs=9, svg="")
     build_peers()
-    named = [words.snesl, words.levuttar]
-    places = [os.path.abspath(it) if it else built(name)["llvm"][name] for it, name in zip(named, Programs._fields)]
-    what = f"The program {os.path.basename(places[0])} beside its peers" if words.snesl else "The proved program beside its peers"
-    runs = max(1, words.runs)
-    counted_by, figures = sitting(Programs(*places), words.threads, runs)
+    named = itertools.zip_longest(words.rest[:2], Programs._fields)
+    places = [os.path.abspath(it) if it else built(name)["llvm"][name] for it, name in named]
+    what = f"The program {os.path.basename(places[0])} beside its peers" if words.rest else "The proved program beside its peers"
+    runs, threads = max(1, words.runs), [int(it) for it in words.threads.split(",") if it]
+    counted_by, figures = sitting(Programs(*places), threads, runs)
     counted = f"; in brackets instructions an element, by {counted_by}" if counted_by else ""
     print(f"{what}: nanoseconds an element, the least and the median of {runs} runs{counted}.\n")
     made = dict.fromkeys(variant for variant, _ in figures)
@@ -241,9 +296,9 @@ def main():
     print("\nA cell is empty where the peer has no nodes for vectors. The programs:\n")
     print("\n".join(f"- {program}: {means}" for program, means in MEANS.items()))
     print(f"\nIn one thread, either at its best:\n\n{table([f'{TITLES[PRODUCT]} as a multiple of', *PROGRAMS], *ratios(figures))}")
-    if words.threads:
+    if threads:
         print("\nWhen threads pay, each at its best; in brackets as multiples of one thread without rings:\n")
-        print(table(["nanoseconds an element, by the clock", *PROGRAMS], *when_threads_pay(figures, words.threads)))
+        print(table(["nanoseconds an element, by the clock", *PROGRAMS], *when_threads_pay(figures, threads)))
     if words.svg:
         # What the programs do where no option says otherwise.
         defaults = {Variant(PRODUCT, 1_024, 1_024): "levuttar run", Variant(PRODUCT, 16, 256, 2, APART): "snesl"}

@@ -12,8 +12,9 @@ import sys
 from common import CRATES, ROOT, Tally, asked, clauses_in
 
 PAGE = ROOT / "docs" / "CALLING.md"
-# The files of callers by name, but for lib.rt, which holds none.
-SOURCES = {it.name: it.read_text(encoding="utf-8") for it in sorted((CRATES / "callers" / "src").glob("*.rt")) if it.name != "lib.rt"}
+# The files of callers by name, but for the roots of the crate and of its part, which hold none.
+ROOTS = {"lib.rt", "strangers.rt"}
+SOURCES = {it.name: it.read_text(encoding="utf-8") for it in sorted((CRATES / "callers" / "src").glob("*.rt")) if it.name not in ROOTS}
 
 
 def blocks(fence):

@@ -1,12 +1,10 @@
-"""Writes the deepest lawful programs: 64 functions that call each other in a chain, each with a body of
-depth 64 in which one form nests, and the final expression likewise. Where the text of a form is
-long, it nests less deep, so that the program keeps within 65,536 bytes.
+"""Writes the deepest lawful programs: 64 functions that call each other in a chain, each with a body of depth 64 in which one form nests,
+and the final expression likewise. Where the text of a form is long, it nests less deep, so that the program keeps within 65,536 bytes.
 
-Under a name `A_then_B` the form A nests around the form B. Each level of A adds steps to the plan before what stands
-in it does, so a program may have only some of them before its network is too big, and then no deeper part of it would
-be translated; the levels of B add none. Under a name with `_of_value` the first function holds the deepest value
-besides, which is copied. Under a name with `_of_input` the program gives an input of the deepest type, and its input text
-stands behind it.
+Under a name `A_then_B` the form A nests around the form B. Each level of A adds steps to the plan before what stands in it does, so a
+program may have only some of them before its network is too big, and then no deeper part of it would be translated; the levels of B add
+none. Under a name with `_of_value` the first function holds the deepest value besides, which is copied. Under a name with `_of_input` the
+program gives an input of the deepest type, and its input text stands behind it.
 
     dev deepest                 the names of the forms
     dev deepest FORM            the program of that form, and its input text if it has one
@@ -14,7 +12,9 @@ stands behind it.
                                 a graph may have; then it was parsed, checked and translated to that point
 """
 
-from common import asked
+import resource
+
+from common import Tally, asked, built, run
 
 FUNCTIONS = 64
 DEPTH = 64
@@ -79,6 +79,10 @@ OF_INPUT = {
 VALUES = dict.fromkeys(["group", "binary_left", "binary_right", "prefix", "let_value", "let_body", "call"], "0")
 VALUES |= {"pair_first": "1", "pair_second": "1"}
 TOO_BIG = "refused 9"
+# How many KB of stack are to suffice for what a compiler builds.
+BOUNDS = {"llvm": 4096, "rattle": 6144}
+# Between these the least stack is looked for, to so many KB.
+LEAST, MOST, STEP = 64, 65_536, 16
 
 
 def names():
@@ -114,8 +118,7 @@ def body(form, inner, inner_depth, room, depth=DEPTH):
 
 
 def deepest_value():
-    """An expression of depth 64 that copies a value of 126 pairs in each other, of which each part adds no step. Its own
-    value is 1."""
+    """An expression of depth 64 that copies a value of 126 pairs in each other, of which each part adds no step. Its own value is 1."""
     text, name = "", "x"
     for larger, many in zip("pqr", (58, 58, 10)):
         text += f"let {larger}={'(' * many}{name}{',x)' * many} in "
@@ -130,7 +133,6 @@ def around(text, sides):
 
 
 def program(named):
-    """The program of the form of this name."""
     if named in OF_INPUT:
         of_type, of_value = OF_INPUT[named]
         return f"input x : {around('int', of_type)}; x\n---\nx = {around('7', of_value)}\n"
@@ -159,7 +161,6 @@ def names_of_forms():
 
 
 def answer(named):
-    """What the program of the form of this name prints."""
     return around("7", OF_INPUT[named][1]) if named in OF_INPUT else VALUES.get(named, TOO_BIG)
 
 
@@ -169,3 +170,35 @@ def main():
         print(*names_of_forms(), sep="\n")
     else:
         print(f"{answer(wish.rest)}\n" if wish.answer else program(wish.rest), end="")
+
+
+def fits(snesl, form, kilobytes):
+    """Whether the program prints the answer of a form within so much stack; the status of a refusal is 1."""
+    limits = {resource.RLIMIT_STACK: kilobytes * 1024, resource.RLIMIT_CORE: 0}
+    limit = lambda: [resource.setrlimit(kind, (size, size)) for kind, size in limits.items()]
+    ran = run([snesl, "--drive", "serial"], program(form).encode(), preexec_fn=limit)
+    return ran.printed == f"{answer(form)}\n".encode() and ran.status in (0, 1)
+
+
+def least(snesl, form):
+    low, high = LEAST, MOST
+    while high - low > STEP:
+        middle = (low + high) // 2
+        low, high = (low, middle) if fits(snesl, form, middle) else (middle, high)
+    return high
+
+
+def stack():
+    """Runs the deepest lawful programs and input texts (`deepest`) within half of the 8 MB of stack that a thread has by default, in the
+    program as LLVM builds it, and within 6 MB as Rattle's own compiler does: that one keeps no function apart whose attribute asks for it,
+    so a step of the translation takes more. With --measure it prints the least stack, in KB, that the program of each form runs with."""
+    measure, tally = asked(stack.__doc__, measure=False).measure, Tally("stack")
+    programs = built("snesl")
+    for form in names_of_forms():
+        for compiler, bound in BOUNDS.items():
+            snesl = programs[compiler]["snesl"]
+            if measure:
+                print(f"{compiler:<6} {form:<34} {answer(form):<9.9} {least(snesl, form):6d} KB", flush=True)
+            else:
+                tally.that(fits(snesl, form, bound), f"{form}, built by {compiler}, does not print {answer(form)} within {bound} KB")
+    return 0 if measure else tally.end()

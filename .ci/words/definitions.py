@@ -22,6 +22,5 @@ def main():
     counts = {"changed": None, "from": 1, "changes": None, "seconds": None, "processes": os.cpu_count() or 1}
     wish = asked(__doc__, "TEXT", page=False, write=False, **counts)
     if wish.changed is not None:
-        part = changes.Part(getattr(wish, "from"), wish.changes, wish.rest or [""])
-        return changes.run(wish.changed, part, wish.seconds, wish.processes)
+        return changes.run(wish.changed, getattr(wish, "from"), wish.changes, wish.rest or [""], wish.seconds, wish.processes)
     return gate.page() if wish.page else gate.run(wish.write, wish.processes)

@@ -16,7 +16,6 @@ LONG = "quicksort"
 
 
 def look(tally, levuttar, job, name, *words):
-    """Draws a job, and has dot read the drawing."""
     drawn = run([levuttar, "draw", *words], job)
     if drawn.status == 1:
         return

@@ -33,11 +33,11 @@ WORDS_END = ")(?![A-Za-z0-9_])"
 
 def language():
     """What each lexeme of the language is."""
-    lexer = (CRATES / "snesl_lexer/src/lexer.rt").read_text(encoding="utf-8")
+    lexer = (CRATES / "snesl_grammar/src/lexer/lexer.rt").read_text(encoding="utf-8")
     words = re.findall(r'(?m)^ +b"(\w+)" => TokenKind::(\w+),', lexer)
     pairs = re.findall(r"(?m)^ +\(b'(.)', b'(.)'\) => Some\(TokenKind::(\w+)\)", lexer)
     signs = re.findall(r"(?m)^ +b'(.)' => Some\(TokenKind::(\w+)\)", lexer) + [(a + b, kind) for a, b, kind in pairs]
-    parser = "".join((CRATES / "snesl_expressions/src" / it).read_text(encoding="utf-8") for it in ("operands.rt", "closings.rt"))
+    parser = "".join((CRATES / "snesl_syntax/src/expressions" / it).read_text(encoding="utf-8") for it in ("operands.rt", "closings.rt"))
     families = {kind: BUILTIN for kind in re.findall(r"TokenKind::(\w+) => name_call\(", parser)}
     families |= {kind: OPERATOR for kind in re.findall(r"TokenKind::(\w+) => (?:infix|enter_prefix)\(", parser)}
     return {it: families.get(kind, other) for its, other in ((words, WORD), (signs, SIGN)) for it, kind in its}

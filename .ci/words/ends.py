@@ -15,8 +15,7 @@ TOO_LONG = {"program": (b"", 70_000, b"refused 1\n"), "input": (b"1\n---\n", 16_
 
 
 def worked():
-    """Runs the programs of the worked rows by every drive, in tool_runs as both compilers build it: several threads end as one
-    does.
+    """Runs the programs of the worked rows by every drive, in tool_runs as both compilers build it: several threads end as one does.
 
     These are thousands of runs, whose threads wait for one another, and on a busy machine they take minutes. A stored run may
     take 120 seconds, so they are no part of it."""
@@ -72,8 +71,7 @@ def given(pipe, job):
 def open_pipe():
     """Runs the program for scripts, as both compilers build it, on a pipe that stays open.
 
-    The answer of a program that is too long comes while more of the job may come, and so does that of an input text that is too
-    long."""
+    The answer of a program that is too long comes while more of the job may come, and so does that of an input text that is too long."""
     asked(open_pipe.__doc__)
     built("snesl")
     tally = Tally("open_pipe")

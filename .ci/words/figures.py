@@ -119,8 +119,7 @@ def great_programs():
 
 
 def inputs():
-    """Input texts of the greatest length, each behind its program: a long inner sequence, as many short ones as fit, a long
-    vector."""
+    """Input texts of the greatest length, each behind its program: a long inner sequence, as many short ones as fit, a long vector."""
     jobs = {
         "one inner sequence of ones": (SUMS, "xs = {{1", ",1", "}}"),
         "one inner sequence of numbers of six digits": (SUMS, "xs = {{1", ",123456", "}}"),
@@ -137,21 +136,8 @@ def without_indices(count):
     return f"let v = tab(iota({count})) in reduce_add({{i : i in iota({count})}}) + v ! 0"
 
 
-def gathered(count):
-    return f"let v = tab(iota({count})) in v ! 0"
-
-
-def pairs(count):
-    return f"let v = tab({{(i, i + 1) : i in iota({count})}}) in reduce_add({{fst(v ! i) : i in iota({count})}})"
-
-
-def rows_of(count):
-    return f"let v = tab({{tab(iota({INNER})) : i in iota({count})}}) in reduce_add({{(v ! i) ! 1 : i in iota({count})}})"
-
-
 def growth(run, sizes):
-    """Of each size the answer, the nanoseconds of an element beyond a run of one element, and the exponent by which the time
-    grows."""
+    """Of each size the answer, the nanoseconds of an element beyond a run of one element, and the exponent by which the time grows."""
     begun, made, before = least(*run(1), "processor"), [], None
     for count in sizes:
         spent = max(least(*run(count), "processor") - begun, 1e-6)
@@ -192,14 +178,18 @@ def vectors(program):
     made, without = beside_peers("indices", indices, (INDICES,)), growth(by_text(without_indices), (INDICES,))
     agreed(made["network"], without)
     rows = [grown(said, "an index", its) for said, its in {**made, "network, the same loop without `!`": without}.items()]
-    rows.append(grown("network, `tab` alone", "an element", growth(by_text(gathered), (INDICES,))))
+    rows.append(grown("network, `tab` alone", "an element", growth(by_text(lambda n: f"let v = tab(iota({n})) in v ! 0"), (INDICES,))))
     print("\n" + table(head("indices into a vector that `tab` made, n is", (INDICES,)), *rows))
     name = counter()
     ours, others = ([instructions(name, *by_text(make)(count)) for count in COUNTED] for make in (indices, without_indices))
     few, many = (its - other for its, other in zip(ours, others))
     print(f"\nAn index takes the network {made['network'][0][1] - without[0][1]:,.0f} ns", end=" ")
     print(f"and {(many - few) / (COUNTED[1] - COUNTED[0]):,.0f} instructions beyond the loop.")
-    made = {"vectors of pairs": pairs, "vectors of vectors": rows_of}
+    made = {
+        "vectors of pairs": lambda n: f"let v = tab({{(i, i + 1) : i in iota({n})}}) in reduce_add({{fst(v ! i) : i in iota({n})}})",
+        "vectors of vectors":
+            lambda n: f"let v = tab({{tab(iota({INNER})) : i in iota({n})}}) in reduce_add({{(v ! i) ! 1 : i in iota({n})}})",
+    }
     rows = [grown(said, "an index", growth(by_text(make), NESTED)) for said, make in made.items()]
     print("\n" + table(head("elements that are not scalars, read by as many indices, n is", NESTED), *rows))
 

@@ -9,7 +9,7 @@ types. What else the programs print is a table (`printed`), or stands in a page 
 import re
 
 from common import ROOT, Tally, asked, built, run, unproved
-from words import pages, printed
+from words import printed
 
 EXAMPLES = ROOT / "examples"
 # Programs that levuttar refuses, or that stall at a capacity of 256, each with a line of what it says then.
@@ -77,6 +77,6 @@ def main():
         for text, line in SAID.items():
             ran = run([places["levuttar"], "run", "--capacity", "256"], text.encode(), cwd=ROOT)
             tally.that(line in ran.said.decode(errors="replace").split("\n"), f"levuttar says of {text}, and not '{line}': {ran}")
-        for part in (printed, pages):
-            tally.that(part.look(**places) == 0, f"what {part.__name__} looks at ({build})")
+        for part, look in {"printed": printed.look, "pages": printed.look_at_pages}.items():
+            tally.that(look(**places) == 0, f"what {part} looks at ({build})")
     return tally.end()

@@ -1,24 +1,23 @@
 """Refuses each growth of memory in turn, in the programs as both compilers build them.
 
-For each job below `snesl` runs with ample memory, and then once for each of its growths, of which that one is refused
-(preloaded.py): while the program is read, its network built, its inputs put in, or the network driven. Each such run must
-end in the job's own answer, or in nothing on standard output, `refused 11` on standard error and status 4. Some jobs are driven
-in threads too: there a growth may be part of a thread's start, which is `refused 13`. Over rings its number may belong to
-another growth in each run. Of a job that is no worked row and has more than 1,000 growths so many are tried, evenly spread.
+Each job below is run by `snesl` with ample memory, and then once for each of its growths, of which that one is refused (preloaded.py). Such
+a run must end in the job's own answer, or in nothing on standard output, `refused 11` on standard error and status 4. Of a job in threads a
+growth may be part of a thread's start, which is `refused 13`; over rings its number may belong to another growth in each run. Of a job that
+is no worked row and has more than 1,000 growths so many are tried, evenly spread.
 
-Of the worked rows growth n is refused for each n from 1 on, until a run meets no refusal, in one thread and in rounds; over rings
-for n from 1 to 200. And `refused 13` is only right there where the growth was part of a start: one of the last that the first
-thread makes before it starts another. How many these are is measured: as many as lie between two starts of one round.
+Of the worked rows growth n is refused for each n from 1 on, until a run meets no refusal, in one thread and in rounds; over rings for n
+from 1 to 200. There `refused 13` is only right where the growth was part of a start: one of the last that the first thread makes before it
+starts another, as many as lie between two starts of one round.
 
-The nodes that take memory while they run are driven by `tool_runs nodes`, message by message: a node to which memory is refused
-is as it was, since it goes on as with ample memory. So are those that share vectors, and none of their calls is refused. An input
-text is read by `tool_runs inputs`, once with one inner sequence and once with a thousand: so many refusals end the reading as out
-of memory, the same number for both, and none is refused to a source that was made. The program for people runs, checks, lays out,
-sizes and draws a job: it does as with ample memory, or prints nothing and says in words, with status 4, that memory was refused.
+The nodes that take memory while they run are driven by `tool_runs nodes`, message by message: a node to which memory is refused goes on as
+with ample memory. So are those that share vectors, and none of their calls is refused. `tool_runs inputs` reads an input text with one
+inner sequence and with a thousand: the same number of refusals ends the reading as out of memory, and none is refused to a source that was
+made. `levuttar` runs, checks, lays out, sizes and draws a job as with ample memory, or prints nothing and says in words, with status 4,
+that memory was refused.
 
 --quick tries at most 100 growths of each job, of those in threads 40; and any refusal of a start is right in threads."""
 
-import dataclasses
+import collections
 import itertools
 import os
 import sys
@@ -89,16 +88,10 @@ JOBS = {
     "deep": (b"(" * 64 + b"1" + b")" * 64, b"refused 4\n", 1),
     "name": (b"{y : x in iota(2)}", b"refused 5 at 1\n", 1),
     "mismatch": (b"1 + iota(2)", b"refused 6 at 2\n", 1),
-    "streamed": (
-        b"{{reduce_add(x) : y in x} : x in {iota(a) : a in iota(3)}}",
-        b"refused 7 at 13\n",
-        1,
-    ),
+    "streamed": (b"{{reduce_add(x) : y in x} : x in {iota(a) : a in iota(3)}}", b"refused 7 at 13\n", 1),
     "bad input": (b"input n : int; n\n---\nn == 5", b"refused 8 at 3\n", 1),
     "too big": (
-        b"".join(b"function f%d(x : int) : int = f%d(f%d(x));" % (k, k - 1, k - 1) for k in range(1, 18)).replace(
-            b"f0", b"-"
-        )
+        b"".join(b"function f%d(x : int) : int = f%d(f%d(x));" % (k, k - 1, k - 1) for k in range(1, 18)).replace(b"f0", b"-")
         + b"f17(1)",
         b"refused 9\n",
         1,
@@ -106,59 +99,43 @@ JOBS = {
 }
 
 
-# Jobs with words on the command line. The first two are refused for them, one of which is no UTF-8; in the others a sum
-# is wanted before the numbers are, which wait in an edge, as many as its capacity.
-WORDS = {
-    "a word": [b"word"],
-    "bytes": [b"\xff"],
-    "stall": [*ALONE, b"--capacity", b"4", b"--chunk", b"1"],
-    "no stall": [*ALONE, b"--capacity", b"64"],
-}
-JOBS.update({name: (b"1", b"refused 10\n", 1) for name in ("a word", "bytes")})
 # What stands on standard error where the words are no settings, and there is memory for them (`printed` compares it).
 HELP = b"""snesl reads a job from standard input, and takes options, as `--chunk 256`
 (docs/LANGUAGE.md). `levuttar run FILE` runs a file, `levuttar --help` helps.
 """
 SUM_FIRST = b"let xs = iota(9) in {reduce_add(xs)} ++ xs"
-JOBS["stall"] = (SUM_FIRST, b"stalled\n", 3)
-JOBS["no stall"] = (SUM_FIRST, b"{36,0,1,2,3,4,5,6,7,8}\n", 0)
+# Jobs with words on the command line. The first two are refused for them, one of which is no UTF-8; in the others a sum
+# is wanted before the numbers are, which wait in an edge, as many as its capacity.
+JOBS |= {
+    "a word": (b"1", b"refused 10\n", 1, [b"word"]),
+    "bytes": (b"1", b"refused 10\n", 1, [b"\xff"]),
+    "stall": (SUM_FIRST, b"stalled\n", 3, [*ALONE, b"--capacity", b"4", b"--chunk", b"1"]),
+    "no stall": (SUM_FIRST, b"{36,0,1,2,3,4,5,6,7,8}\n", 0, [*ALONE, b"--capacity", b"64"]),
+}
 # Some jobs in threads as well.
-for name in ("nested", "input", "fault", "stall"):
-    for drive, words in THREADED.items():
-        JOBS[f"{name}, by {drive}"] = JOBS[name]
-        WORDS[f"{name}, by {drive}"] = words
+for name, (drive, words) in itertools.product(("nested", "input", "fault", "stall"), THREADED.items()):
+    JOBS[f"{name}, by {drive}"] = (*JOBS[name][:3], words)
 # Worked rows, each by every drive and with no limit to how many growths are tried: the first over edges of one message, each
 # node in a thread of its own, and the last in both of its endings.
 TWICE = b"let s = iota(100) in s ++ s"
 HUNDRED = b",".join(b"%d" % number for number in range(100))
 WORKED = {
-    "sum": (
-        (b"reduce_add(iota(5))", b"10\n", 0),
-        b"--capacity 1 --chunk 1 --threads 16 --deal 0123456789abcdef",
-    ),
+    "sum": ((b"reduce_add(iota(5))", b"10\n", 0), b"--capacity 1 --chunk 1 --threads 16 --deal 0123456789abcdef"),
     "sums": ((b"{reduce_add({x + y : y in iota(x)}) : x in iota(4)}", b"{0,1,5,12}\n", 0), b""),
-    "part": (
-        (
-            b"part({3,1,4,1,5,9}, {false,false,true,false,true,true,false,false,false,true})",
-            b"{{3,1},{4},{},{1,5,9}}\n",
-            0,
-        ),
-        b"",
-    ),
+    "part": ((b"part({3,1,4,1,5,9}, {false,false,true,false,true,true,false,false,false,true})", b"{{3,1},{4},{},{1,5,9}}\n", 0), b""),
     "vector": ((b"let v = tab(iota(3)) in {reduce_add(seq(v)) : x in iota(2)}", b"{3,3}\n", 0), b""),
     "twice": ((TWICE, b"{%s,%s}\n" % (HUNDRED, HUNDRED), 0), b""),
     "twice, too small": ((TWICE, b"stalled\n", 3), b"--capacity 4"),
 }
-WHOLE = set()
-for name, (row, words) in WORKED.items():
-    for drive in ("serial", "rounds", "rings"):
-        WHOLE.add(f"{name}, {drive}")
-        JOBS[f"{name}, {drive}"] = row
-        WORDS[f"{name}, {drive}"] = [b"--drive", drive.encode(), *words.split()]
+for (name, (row, words)), drive in itertools.product(WORKED.items(), ("serial", "rounds", "rings")):
+    JOBS[f"{name}, {drive}"] = (*row, [b"--drive", drive.encode(), *words.split()], True)
 # Of the deepest programs the one that takes the most stack, and one whose network has about as many nodes as there may be.
 for form in ("literal_then_where_source", "binary_left"):
     line = f"{deepest.answer(form)}\n".encode()
     JOBS[form] = (deepest.program(form).encode(), line, int(line.startswith(b"refused")))
+# A job: what it prints and its status, its words, and whether all of its growths are tried.
+Job = collections.namedtuple("Job", "text line status words is_whole", defaults=[ALONE, False])
+JOBS = {name: Job(*it) for name, it in JOBS.items()}
 
 
 # What `levuttar` is asked for over a job, beside what it prints and how what it says begins, and its status. What `size` prints
@@ -182,28 +159,23 @@ PEOPLE = {
 OF_MEMORY = b"error: memory was refused\n", b"error: out of memory\n"
 
 
-def numbers_of(name, count, quick):
+def numbers_of(job, count, quick):
     """The numbers of the growths of a job that are refused in turn, where it has so many."""
-    words = WORDS.get(name, ALONE)
-    most = MOST
-    if name in WHOLE:
-        count = MOST_OVER_RINGS if b"rings" in words else count
-        most = count
+    count = MOST_OVER_RINGS if job.is_whole and b"rings" in job.words else count
+    most = count if job.is_whole else MOST
     if quick:
-        most = MOST_OF_QUICK if words == ALONE else MOST_OF_QUICK_IN_THREADS
+        most = MOST_OF_QUICK if job.words == ALONE else MOST_OF_QUICK_IN_THREADS
     return range(1, count + 1, max(1, -(-count // max(most, 1))))
 
 
 def threads_of(words):
-    """The number of threads of a drive of several."""
     return int(words[words.index(b"--threads") + 1]) if b"--threads" in words else THREADS
 
 
 def growths_of_a_start(compiler, library):
-    """How many growths the first thread makes for a start before it asks the system for the thread: those between two starts of a
-    round."""
-    (text, _, _), words = JOBS["sum, rounds"], WORDS["sum, rounds"]
-    before = run(program_of("snesl", compiler), words, text, library).before_starts[: threads_of(words)]
+    """How many growths the first thread makes for a start before it asks the system for the thread: those between two starts of a round."""
+    job = JOBS["sum, rounds"]
+    before = run(program_of("snesl", compiler), job.words, job.text, library).before_starts[: threads_of(job.words)]
     found = {after - at for at, after in zip(before, before[1:])}
     if len(found) != 1:
         sys.exit(f"growths: built by {compiler}, the starts of one round have growths of these numbers: {found}")
@@ -211,8 +183,7 @@ def growths_of_a_start(compiler, library):
 
 
 def is_of_a_start(ran, ample, words, most):
-    """Whether the refused growth, an own one, was among the last so many before a start of a thread, as the run with ample memory
-    has them.
+    """Whether the refused growth, an own one, was among the last so many before a start of a thread, as the run with ample memory has them.
 
     Over rings there may be more epochs than in that run. So there the growth is looked for behind the last start, between two
     that stand at the same places among the threads of an epoch."""
@@ -225,24 +196,23 @@ def is_of_a_start(ran, ample, words, most):
     return any(gap - most < since <= gap for gap in gaps)
 
 
-def without_help(ran):
-    """The run without what it said of words that are no settings."""
-    return dataclasses.replace(ran, said=ran.said.replace(HELP, b""))
-
-
 def tried(tally, compiler, name, library, pool, quick, of_a_start):
     """Counts the runs of a job that end as they must."""
-    text, line, status = JOBS[name]
-    words, answer, job = WORDS.get(name, ALONE), (line, b"", status), f"{name}, built by {compiler}"
-    of = lambda number: without_help(run(program_of("snesl", compiler), words, text, library, GROWTH=number))
+    text, line, status, words, is_whole = JOBS[name]
+    answer, job = (line, b"", status), f"{name}, built by {compiler}"
+
+    def of(number):
+        ran = run(program_of("snesl", compiler), words, text, library, GROWTH=number)
+        return ran._replace(said=ran.said.replace(HELP, b""))
+
     ample = of(0)
     if ample.answer() != answer or not ample.growths:
         tally.that(False, f"{job}, with ample memory: {ample}")
         return
     in_threads, before = ample.starts > 0, tally.passed + tally.failed
     # Behind the last growth none is refused.
-    numbers = [*numbers_of(name, ample.growths, quick), ample.growths + 1]
-    of_whole = not quick and name in WHOLE
+    numbers = [*numbers_of(JOBS[name], ample.growths, quick), ample.growths + 1]
+    of_whole = is_whole and not quick
     for number, ran in runs(numbers, pool, of, of_whole and b"rings" not in words):
         comes = number <= ample.growths
         is_due = in_threads and (not of_whole or ran.refused != A_GROWTH or is_of_a_start(ran, ample, words, of_a_start))
@@ -264,9 +234,8 @@ def runs(numbers, pool, of, goes_on):
 
 
 def refused_call(ran, ample):
-    """The node of which a call was refused, where a growth was: the one whose line says so. None where the growth was of
-    something else, which ends the program. It is an error where anything else differs from what the nodes do with ample
-    memory."""
+    """The node of which a call was refused, where a growth was: the one whose line says so. None where the growth was of something else,
+    which ends the program. It is an error where anything else differs from what the nodes do with ample memory."""
     lines, wanted = (text.decode().splitlines() for text in (ran.printed, ample.printed))
     told = [number for number, line in enumerate(lines) if line != wanted[number]]
     if not told and ran.refused == A_GROWTH and ran.said in NO_MEMORY and ran.status == 1:

@@ -1,25 +1,20 @@
-"""Runs random programs under a system that gives less than is asked for (preloaded.py), in both builds of the programs: for a
-minute, from the seed that the clock gives, where no word tells.
+"""Runs random programs under a system that gives less than is asked for (preloaded.py), in both builds of the programs: for a minute, from
+the seed that the clock gives, where no word tells.
 
-Job number k of a seed S is that of the seed S + k (`tool_runs job SEED`). It is run undisturbed by one thread, whose answer must
-be that of plain evaluation (`tool_runs plain`), a stall or a network that is too big; then under random options by a random
-drive, which must give the same; and then some times more under these options:
+Job number k of a seed S is that of the seed S + k (`tool_runs job SEED`). It is run undisturbed by one thread, whose answer must be that of
+plain evaluation (`tool_runs plain`), a stall or a network that is too big; then under random options by a random drive, which must give the
+same; and then some times more under these options:
 
-    growth         one growth of memory is refused
-    start          one start of a thread is
-    read           one read of standard input fails, and each gives few bytes
-    short reads    each read gives few bytes
-    write          one write to standard output fails, and each takes few bytes
-    empty write    one write takes no byte, likewise
-    short writes   each write takes few bytes
+    growth, start                       one growth of memory is refused, or one start of a thread
+    read, write                         one read of standard input or write to standard output fails, and each moves few bytes
+    short reads, short writes           each moves few bytes
+    empty write                         one write takes no byte, and each takes few
 
-Such a run must give the right answer, or the one refusal that is due to what was refused: 11 for memory, 13 for a start and what
-it takes, 14 for the reader, and 12 for the writer, which then has exactly what the calls before took. `levuttar run` is given
-each job under the same options too, undisturbed and while a growth, a read and a write are refused: it prints the same values,
-has the same statuses, and says the same refusals in words. All is over at the first answer that is another. The last lines say
-how many runs there were of each kind, and how many were right."""
+Such a run must give the right answer, or the one refusal that is due to what was refused: 11 for memory, 13 for a start and what it takes,
+14 for the reader, and 12 for the writer, which then has exactly what the calls before took. `levuttar run` is given each job too,
+undisturbed and while a growth, a read and a write are refused: it prints the same values, has the same statuses, and says the same refusals
+in words. All is over at the first answer that is another."""
 
-import dataclasses
 import os
 import random
 import subprocess
@@ -27,6 +22,7 @@ import tempfile
 import time
 
 from common import COMPILERS, Tally, asked, built, program_of
+from reference.mutations import options
 from words.preloaded import Wrong, compiled, may_answer, over_seeds, run
 
 # A job that takes longer undisturbed is passed over.
@@ -46,25 +42,6 @@ OF_PEOPLE = ("growth", "read", "write")
 # Of reads and writes that fail: interrupted, broken, to be tried again, no room, and nobody there.
 ERRORS = [4, 5, 11, 28, 32]
 BROKEN_PIPE = 32
-
-
-def random_options(dice):
-    """Words of the command line, and among them those of the capacity and of the drive."""
-    capacity = dice.choice([*range(1, 9), 256])
-    threads = dice.choice([1, 2, 2, 3, 4, 16])
-    deal = "".join("%x" % dice.randrange(threads) for _ in range(dice.randint(1, 8)))
-    return {
-        "--capacity": capacity,
-        "--drive": dice.choice(["serial", "rounds", "rings", "rings"]),
-        "--threads": threads,
-        "--deal": deal,
-        "--chunk": dice.choice([1, 16]),
-        "--idle": dice.choice([1, 64]),
-    }
-
-
-def words_of(options):
-    return [str(word) for option in options.items() for word in option]
 
 
 def calls_for(count, most):
@@ -110,9 +87,9 @@ def as_for_scripts(ran, right):
     without a value, and of a refusal of the system."""
     if ran.status == 4:
         number = SENTENCES.get(ran.said.partition(b"\n")[0])
-        return dataclasses.replace(ran, said=b"refused %d\n" % number) if number else ran
+        return ran._replace(said=b"refused %d\n" % number) if number else ran
     if ran.status == right[2] != VALUE and not ran.printed and ran.said.startswith(b"error: "):
-        return dataclasses.replace(ran, printed=right[0], said=b"")
+        return ran._replace(printed=right[0], said=b"")
     return ran
 
 
@@ -129,19 +106,19 @@ def tried_for_people(of, dice, right, job):
         ran = as_for_scripts(of(**refusals), right)
         if ran.status == 4 and not ran.said and "WRITE" in refusals and refusals["ERROR"] == BROKEN_PIPE:
             # Where nobody reads any more it ends without a word.
-            ran = dataclasses.replace(ran, said=b"refused 12\n")
+            ran = ran._replace(said=b"refused 12\n")
         if not is_right(ran, right, ample.starts > 0, refusals):
             raise Wrong(f"levuttar under {refusals} {ran}, where the right answer is {right}")
         yield f"{kind}, for people"
 
 
-def tried_for_scripts(of, dice, options, job, library):
+def tried_for_scripts(of, dice, words, capacity, job, library):
     """Runs a job by snesl, alone, under these options, and under disturbances, and gives the kind of each run, with the right
     answer. `of` runs it. It is passed over where it takes long undisturbed."""
-    alone = ["--drive", "serial", "--capacity", str(options["--capacity"])]
+    alone = ["--drive", "serial", "--capacity", str(capacity)]
     right = of(alone, seconds=LONG).answer()
     evaluated = run(program_of("tool_runs"), ["plain"], job, library, seconds=LONG).printed
-    ample = of(words_of(options), seconds=LONG)
+    ample = of(words, seconds=LONG)
     if not evaluation_allows(right, evaluated):
         raise Wrong(f"one thread answers {right}, and evaluation {evaluated}")
     if ample.answer() != right:
@@ -149,7 +126,7 @@ def tried_for_scripts(of, dice, options, job, library):
     yield "undisturbed", right
     for kind, refusals in disturbances(dice, ample, job):
         try:
-            ran = of(words_of(options), **refusals)
+            ran = of(words, **refusals)
         except subprocess.TimeoutExpired:
             raise Wrong(f"no end under {refusals}, where the right answer is {right}") from None
         if not is_right(ran, right, ample.starts > 0, refusals):
@@ -160,21 +137,22 @@ def tried_for_scripts(of, dice, options, job, library):
 def tried(seed, library):
     """Runs the job of a seed, and gives the kind of each run. An error where one ends otherwise than it is to."""
     dice = random.Random(seed)
-    compiler, options = dice.choice([*COMPILERS]), random_options(dice)
+    compiler, capacity = dice.choice([*COMPILERS]), dice.choice([*range(1, 9), 256])
+    words = options(dice, dice.choice(["serial", "rounds", "rings", "rings"]), capacity)
     job = subprocess.check_output([program_of("tool_runs"), "job", str(seed)])
     if not job:
         return
     by = lambda crate: lambda words, **how: run(program_of(crate, compiler), words, job, library, **how)
-    of_people = lambda **refusals: by("levuttar")(["run", *words_of(options)], seconds=LONG, **refusals)
+    of_people = lambda **refusals: by("levuttar")(["run", *words], seconds=LONG, **refusals)
     try:
-        for kind, right in tried_for_scripts(by("snesl"), dice, options, job, library):
+        for kind, right in tried_for_scripts(by("snesl"), dice, words, capacity, job, library):
             yield {kind: 1}
         for kind in tried_for_people(of_people, dice, right, job):
             yield {kind: 1}
     except subprocess.TimeoutExpired:
         yield {"passed over for their length": 1}
     except Wrong as wrong:
-        raise Wrong(f"by the build of {compiler} under {options}:\n{job.decode()}\n{wrong}") from None
+        raise Wrong(f"by the build of {compiler} under {words}:\n{job.decode()}\n{wrong}") from None
 
 
 def main():

@@ -1,16 +1,14 @@
-"""Runs great jobs over rings in several threads, while random ones of these sleep at random moments (delays.c), and compares each
-run with that of one thread without rings: for half a minute, from the seed that the clock gives, where no word tells.
+"""Runs great jobs over rings in several threads, while random ones of these sleep at random moments (delays.c), and compares each run with
+that of one thread without rings: for half a minute, from the seed that the clock gives, where no word tells. The programs SNESL and
+LEVUTTAR are tried, or the proved ones, in both builds. Where SNESL stands alone no messages are counted.
 
-    dev load [--seconds N] [--seed S] [SNESL [LEVUTTAR]]
+Job number k of a seed S is that of the seed S + k; the shapes of programs come by turns. A job has a capacity of 1,024 to 65,536, and sends
+100,000 messages and more over its edges; some have a small one. Each runs some times in 2 to 16 threads, with random chunks and idle turns,
+nodes dealt in turn or by a random list, and mostly with delays. What comes out is that of one thread at the same capacity: what snesl
+prints, what it says, and its status; and the same of `levuttar draw --text --traffic`, which has how many messages went over each edge. All
+is over at the first answer that is another or does not come."""
 
-SNESL and LEVUTTAR are the programs that are tried: those that .ci/run proved, in both builds, where no word tells. Where SNESL
-stands alone no messages are counted. Job number k of a seed S is that of the seed S + k; the shapes of programs come by turns. A
-job has a capacity of 1,024 to 65,536, and sends 100,000 messages and more over its edges; some have a small one. Each runs some
-times in 2 to 16 threads, with random chunks and idle turns, nodes dealt in turn or by a random list, and mostly with delays. What
-comes out is that of one thread at the same capacity: what snesl prints, what it says, and its status; and the same of `levuttar
-draw --text --traffic`, which has how many messages went over each edge. All is over at the first answer that is another or does
-not come."""
-
+import collections
 import os
 import random
 import re
@@ -18,7 +16,6 @@ import struct
 import subprocess
 import tempfile
 import time
-from dataclasses import dataclass
 
 from common import Tally, asked, built
 from words.preloaded import Wrong, compiled, counted, over_seeds
@@ -63,18 +60,11 @@ SHAPES = {
 }
 
 
-@dataclass(frozen=True)
-class Ran:
+class Ran(collections.namedtuple("Ran", "printed said status starts delays")):
     """What a program printed and said, and its status; how many threads it started, and how often one slept."""
 
-    printed: bytes
-    said: bytes
-    status: int
-    starts: int
-    delays: int
-
     def answer(self):
-        return self.printed, self.said, self.status
+        return self[:3]
 
     def messages(self):
         """How many went over all edges, where a program told."""
@@ -97,7 +87,6 @@ def random_capacity(dice):
 
 
 def ring_words(dice, capacity):
-    """The words of a run over rings."""
     threads, chunk = dice.randint(2, 16), dice.randint(1, dice.choice([1, 16, 256, 1_024]))
     idle = dice.choice(IDLE if capacity >= LEAST_GREAT else IDLE[1:])
     words = ["--capacity", capacity, "--drive", "rings", "--threads", threads, "--chunk", chunk, "--idle", idle]
@@ -115,9 +104,8 @@ def random_delays(dice):
 
 def run(command, job, library, seconds, delays):
     """What came of a command with this job on standard input."""
-    child, file = counted(command, job, library, seconds, COUNTS.size, delays)
-    with file:
-        return Ran(child.stdout, child.stderr, child.returncode, *COUNTS.unpack(os.pread(file.fileno(), COUNTS.size, 0)))
+    child, counts = counted(command, job, library, seconds, COUNTS.size, delays)
+    return Ran(child.stdout, child.stderr, child.returncode, *COUNTS.unpack(counts))
 
 
 def try_rings(command, capacity, job, library, dice, right):

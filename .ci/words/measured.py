@@ -89,7 +89,6 @@ Spent = collections.namedtuple("Spent", "clock processor")
 
 
 def build_peers():
-    """Builds the peers, plain Rust without a proof."""
     subprocess.run(["cargo", "build", "--release", "--offline", "--quiet"], cwd=PEERS, check=True)
 
 

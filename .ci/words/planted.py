@@ -1,8 +1,7 @@
 """Plants wrong bodies that tests are there to show, all or those of some names, and looks whether the test of each fails.
 
-Most of them meet their contracts: none can say that threads run side by side, or that a call does not always want memory. Each is
-a file crates/CRATE/planted/NAME.edit, written as those of wrong/ are (docs/TESTS.md), with one more line, which names the test
-that has to fail:
+Most of them meet their contracts: none can say that threads run side by side, or that a call does not always want memory. Each is a file
+crates/CRATE/planted/NAME.edit, written as those of wrong/ are (docs/TESTS.md), with one more line, which names the test that has to fail:
 
     fails: snesl_run_tests threads::threads_run_side_by_side
 

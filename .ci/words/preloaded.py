@@ -16,7 +16,6 @@ import tempfile
 import threading
 import time
 from concurrent.futures import ThreadPoolExecutor
-from dataclasses import dataclass, field
 
 HERE = pathlib.Path(__file__).parent
 SECONDS = 60
@@ -29,27 +28,14 @@ class Wrong(Exception):
     """A run that ended otherwise than it is to."""
 
 
-@dataclass(frozen=True)
-class Ran:
+class Ran(collections.namedtuple("Ran", "printed said status growths starts reads writes refused own_growths refused_own before_starts")):
     """What a program printed and said, and its status; its calls by kind, and what was refused to it.
 
     Own growths are those of its first thread, but for those made within the start of another. `refused_own` is the number of the
     refused one among them, and `before_starts` has for each start how many of them came before it."""
 
-    printed: bytes
-    said: bytes
-    status: int
-    growths: int
-    starts: int
-    reads: int
-    writes: int
-    refused: int
-    own_growths: int
-    refused_own: int
-    before_starts: tuple = field(repr=False)
-
     def answer(self):
-        return self.printed, self.said, self.status
+        return self[:3]
 
 
 def says_refused(number, printed=b""):
@@ -87,28 +73,25 @@ def compiled(folder, name):
 
 
 def counted(command, job, library, seconds, room, words):
-    """What came of a command under a library with these words, and the file of its counts, which has room for so many bytes.
+    """What came of a command under a library with these words, and its counts, for which there is room for so many bytes.
 
     The job is read from a file: what a read of a pipe gives, and so how often memory grows, is a matter of luck."""
     name = pathlib.Path(library).stem.upper()
-    with tempfile.TemporaryFile() as file:
-        counts = tempfile.TemporaryFile()
+    with tempfile.TemporaryFile() as file, tempfile.TemporaryFile() as counts:
         counts.truncate(room)
         file.write(job)
         file.seek(0)
         number = counts.fileno()
         environment = {"LD_PRELOAD": library, f"{name}_COUNTS": str(number), **{f"{name}_{key}": str(its) for key, its in words.items()}}
         how = {"stdin": file, "capture_output": True, "pass_fds": [number], "timeout": seconds}
-        return subprocess.run(command, env=environment, check=False, **how), counts
+        return subprocess.run(command, env=environment, check=False, **how), os.pread(number, room, 0)
 
 
 def run(program, words, job, library, seconds=SECONDS, **refusals):
     """What came of a program with these words, and this job on standard input."""
-    child, file = counted([program, *words], job, library, seconds, 8 * ALL_WORDS, refusals)
-    with file:
-        counts = WORDS.unpack(os.pread(file.fileno(), WORDS.size, 0))
-        starts = os.pread(file.fileno(), 8 * counts[1], WORDS.size)
-    before_starts = tuple(it for (it,) in struct.iter_unpack("q", starts[: len(starts) // 8 * 8]))
+    child, words = counted([program, *words], job, library, seconds, 8 * ALL_WORDS, refusals)
+    counts = WORDS.unpack_from(words)
+    before_starts = tuple(it for (it,) in struct.iter_unpack("q", words[WORDS.size : WORDS.size + 8 * counts[1]]))
     return Ran(child.stdout, child.stderr, child.returncode, *counts, before_starts)
 
 

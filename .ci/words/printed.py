@@ -2,13 +2,13 @@
 
     dev printed SNESL LEVUTTAR    the places of the two programs
 
-A row of examples/*.rows begins with a line `$ PROGRAM WORD..`. Lines that begin with `< ` are its job, and the others, up to a
-line `= STATUS`, all that it prints, on standard output and standard error together. What stands between backquotes in a hint
-stands in the words or the job of a row with status 0 too: so each program that a hint shows was run. Of each job there `levuttar
-check` says what `run` refuses, and nothing else; with `--json` its object has the message's parts. `levuttar fmt` refuses what is
-no program, and else its layout means the same, and is its own. `fmt --write` writes a file anew, or leaves it as it was. The
-files of docs/help are what words for help print, and editors/levuttar.bash has their options. A pipe that breaks is no error. On
-a terminal `error` is red, but for NO_COLOR, and the search for a capacity is told, and taken away again."""
+A row of examples/*.rows begins with a line `$ PROGRAM WORD..`. Lines that begin with `< ` are its job, and the others, up to a line `=
+STATUS`, all that it prints, on both outputs together. What stands between backquotes in a hint stands in the words or the job of a row with
+status 0 too: so each program that a hint shows was run. Of each job there `levuttar check` says what `run` refuses, and nothing else; with
+`--json` its object has the message's parts. `levuttar fmt` refuses what is no program, and else its layout means the same, and is its own.
+`fmt --write` writes a file anew, or leaves it as it was. The files of docs/help are what words for help print, and editors/levuttar.bash
+has their options. A pipe that breaks is no error. On a terminal `error` is red, but for NO_COLOR, and the search for a capacity is told,
+and taken away again."""
 
 import json
 import os
@@ -16,6 +16,7 @@ import pathlib
 import pty
 import re
 import shlex
+import shutil
 import subprocess
 import tempfile
 from concurrent.futures import ThreadPoolExecutor
@@ -36,6 +37,9 @@ WIDEST = 79
 MARKED = re.compile(rb"\w+|==|<=|>=|\+\+|[^ \t\r\n][\x80-\xbf]*")
 RED = "\x1b[1;31merror\x1b[0m"
 MISTAKE = b"1 + true"
+# The pages that show runs.
+PAGES = ["README.md", "docs/TOUR.md", "docs/LEVUTTAR.md", "docs/NEWCOMER.md"]
+FENCE = "\x01"
 
 
 def rows(text):
@@ -210,6 +214,62 @@ class Looks(Tally):
         self.look("the search is not told, or not taken away", "looking how many messages" in said and f"\r\x1b[K{RED}" in said, said)
 
 
+def shown(page):
+    """Each command of a page, with what it is to print."""
+    commands, indent, empty = [], None, 0
+    for line in page.read_text(encoding="utf-8").splitlines():
+        begins = re.match(r"( {4,})\$ ", line)
+        if begins:
+            indent = begins[1]
+            commands.append([line[len(indent) + 2 :], ""])
+        elif indent and line.startswith(indent):
+            commands[-1][1] += "\n" * empty + f"{line[len(indent):]}\n"
+        elif line:
+            indent = None
+        empty = 0 if line else empty + 1
+    return [with_document(*it) for it in commands]
+
+
+def with_document(command, printed):
+    """A command with the document that it reads, if it has one: the lines up to that which ends it."""
+    end = re.search(r"<<'(\w+)'", command)
+    if end is None:
+        return command, printed
+    document, _, rest = printed.partition(f"{end[1]}\n")
+    return f"{command}\n{document}{end[1]}", rest
+
+
+def prepare(room, programs):
+    """Fills the folder in which commands are run, and returns what they find in their environment."""
+    for name, place in programs.items():
+        (room / name).symlink_to(os.path.abspath(place))
+    (room / "examples").symlink_to(ROOT / "examples")
+    tools = room / ".tools"
+    tools.mkdir()
+    if not shutil.which("dot"):
+        (tools / "dot").write_text("#!/bin/sh\nexec cat\n")
+        (tools / "dot").chmod(0o755)
+    return {**os.environ, "PATH": f"{tools}:{os.environ['PATH']}", "TMPDIR": str(room)}
+
+
+def run_page(page, programs):
+    """The commands of a page, with what each is to print and what it prints."""
+    commands, lines = shown(page), []
+    with tempfile.TemporaryDirectory(prefix="pages-") as name:
+        room = pathlib.Path(name)
+        environment = prepare(room, programs)
+        for command, printed in commands:
+            made = re.fullmatch(r"cat (\w+\.\w+)", command)
+            if made:
+                (room / f".{made[1]}").write_text(printed, encoding="utf-8")
+                lines.append(f"[ -e {made[1]} ] || cp .{made[1]} {made[1]}")
+            lines += [command.replace("/tmp/", f"{room}/"), f"printf '{FENCE}'"]
+        (room / ".script").write_text("\n".join(lines) + "\n", encoding="utf-8")
+        ran = run(["bash", room / ".script"], seconds=300, cwd=room, env=environment, stderr=subprocess.STDOUT)
+    said = ran.printed.decode(errors="replace").split(FENCE) + ["nothing"] * len(commands)
+    return [(command, printed, its) for (command, printed), its in zip(commands, said)]
+
+
 def look(snesl, levuttar):
     """Counts what is so of two programs. The status: 1 where something is not."""
     looks = Looks(snesl, levuttar)
@@ -218,5 +278,24 @@ def look(snesl, levuttar):
     return looks.end()
 
 
+def look_at_pages(snesl, levuttar):
+    """The same of the commands that print what their page shows."""
+    tally = Tally("pages")
+    for page in PAGES:
+        for command, wanted, said in run_page(ROOT / page, {"snesl": snesl, "levuttar": levuttar}):
+            tally.that(said == wanted, f"{page}: {command}\n  is to print {wanted!r}\n  and prints  {said!r}")
+    return tally.end()
+
+
 def main():
     return look(*asked(__doc__, "PROGRAM", 2).rest)
+
+
+def pages():
+    """Runs what the pages show: each line `$ COMMAND` of a block prints the lines after it, up to the next such line. The two programs
+    are snesl and levuttar.
+
+    A block is lines with four blanks or more before them. Those of one page are run by one shell, in a folder that has the two
+    programs and examples/. `$ cat NAME` of a file that is not there makes it, as the page shows it. What Graphviz draws is not
+    compared: `cat` stands in its place where there is none."""
+    return look_at_pages(*asked(pages.__doc__, "PROGRAM", 2).rest)

@@ -1,15 +1,14 @@
 """Compares the built program with a second reference, which was written from docs/LANGUAGE.md alone (.ci/reference).
 
-First the reference answers the rows of crates/tool_runs/data, where a stall and a network that is too big are no matter of that
-page; then with the program its examples. Then come random jobs: typed programs with their input texts, ill-typed ones, cut and
-changed texts, texts near the limits, and words of the command line. Each is answered by the reference and by a program, each of
-those that are named in turn, or of both builds of crates/snesl. A lawful job is run by several drives and capacities. Its value
-has to be the same. Its fault has to be one that the network may come to, and the first of them where all edges are wide; where
-they are small a run may stall. One of N jobs is answered by the definitions of specs/ too (--definitions N), where these can be
-run.
+First the reference answers the rows of crates/tool_runs/data, where a stall and a network that is too big are no matter of that page; then
+with the program its examples. Then come random jobs: typed programs with their input texts, ill-typed ones, cut and changed texts, texts
+near the limits, and words of the command line. Each is answered by the reference and by a program, each of those that are named in turn, or
+of both builds of crates/snesl. A lawful job is run by several drives and capacities. Its value has to be the same. Its fault has to be one
+that the network may come to, and the first of them where all edges are wide; where they are small a run may stall. One of N jobs
+(--definitions N) is answered by the definitions of specs/ too.
 
-The jobs of a seed are always the same. Without --seconds so many are tried, from one seed; with it as many as the time allows,
-from the clock's seed. A job that differs is made smaller and printed."""
+The jobs of a seed are always the same. Without --seconds so many are tried, from one seed; with it as many as the time allows, from the
+clock's seed. A job that differs is made smaller and printed."""
 
 import collections
 import itertools
@@ -20,12 +19,11 @@ import time
 from concurrent.futures import ProcessPoolExecutor
 
 from common import DATA, ROOT, Tally, asked, built
-from reference import definitions
-from reference.answers import Long
-from reference.comparison import difference_of, run
+from definitions_run.answers import on_large_stack
+from definitions_run.tables import all_rows
+from reference.comparison import difference_of, differing_rows, examples_of, run, shrunk
 from reference.mutations import Job, random_job
-from reference.shrinking import shrunk
-from reference.tables import differing_rows, examples_of, rows_below
+from reference.values import Long
 
 # The seed, where no word tells. After so many jobs that differ a lane ends.
 SEED, MOST_DIFFERENCES = 63, 3
@@ -34,7 +32,7 @@ SEED, MOST_DIFFERENCES = 63, 3
 def differing_examples(rows, programs):
     """Examples that a program answers otherwise, where they stand, and how."""
     for row, program in itertools.product(rows, programs):
-        answered = run(program, Job(row.job), ())
+        answered = run(program, Job(row.job.decode("latin-1")), ())
         if answered != (row.fields["prints"], row.fields["status"]):
             yield row.place, f"{program} prints {answered[0]!r} with status {answered[1]}"
 
@@ -78,25 +76,21 @@ def lane(number, lanes, wish):
     return counts, differing
 
 
-def lane_with_room(number, lanes, wish):
-    """The same where there is room for the definitions."""
-    return definitions.with_room(lane, number, lanes, wish)
-
-
 def main():
     wish, tally = asked(__doc__, "SNESL", jobs=1000, seconds=None, seed=None, definitions=60), Tally("second")
     sys.setrecursionlimit(1_000_000)
     if wish.seed is None:
         wish.seed = int(time.time()) if wish.seconds else SEED
     wish.programs = wish.rest or [it["snesl"] for it in built("snesl").values()]
-    rows, examples = [*rows_below(DATA)], examples_of(ROOT / "docs/LANGUAGE.md")
+    rows, examples = all_rows([DATA]), examples_of(ROOT / "docs/LANGUAGE.md")
     differences = [*differing_rows([*rows, *examples]), *differing_examples(examples, wish.programs)]
     for place, said in differences:
         tally.that(False, f"{place}: {said}")
     tally.say(f"{len(rows)} rows of tables, {len(examples)} examples; {len(differences)} differ")
     lanes, counts = os.cpu_count(), collections.Counter()
     with ProcessPoolExecutor(lanes) as pool:
-        for its, differing in pool.map(lane_with_room, range(lanes), itertools.repeat(lanes), itertools.repeat(wish)):
+        # (the definitions need room)
+        for its, differing in pool.map(on_large_stack, [lane] * lanes, range(lanes), [lanes] * lanes, [wish] * lanes):
             counts += its
             tally.failed += differing
     passed_over = counts.pop("passed over", 0)

@@ -82,7 +82,7 @@ def files_of(*names):
 
 
 SNESL, LEVUTTAR, TOOL_RUNS = (("snesl", False), ("levuttar", False), ("tool_runs", False))
-SOURCES_OF_WORDS = ["crates/snesl_lexer/src/**/*", "crates/snesl_expressions/src/**/*"]
+SOURCES_OF_WORDS = ["crates/snesl_grammar/src/lexer/**/*", "crates/snesl_syntax/src/expressions/**/*"]
 EXAMPLES = ["README.md", "docs/*.md", "examples/**/*", "docs/help/*", "editors/levuttar.bash"]
 PARTS = [
     *(Part(f"tests of {it.name}", [(it.name, True)], [], tests) for it in sorted(CRATES.glob("*_tests"))),
@@ -90,7 +90,7 @@ PARTS = [
     Part("stored run of levuttar", [LEVUTTAR], ["crates/levuttar/std*", "crates/levuttar/args"], stored_run),
     Part("tables", [TOOL_RUNS], ["crates/tool_runs/*", "crates/tool_runs/data/*"], stored_run),
     Part("worked rows", [TOOL_RUNS], ["crates/tool_runs/data/worked.*"], worked),
-    Part("gallery", [SNESL, LEVUTTAR], [*files_of("gallery", "printed", "pages"), *EXAMPLES], word("gallery", "--unproved")),
+    Part("gallery", [SNESL, LEVUTTAR], [*files_of("gallery", "printed"), *EXAMPLES], word("gallery", "--unproved")),
     Part(
         "second reference",
         [SNESL],

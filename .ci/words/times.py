@@ -86,7 +86,7 @@ def checks(found, top):
 def bars():
     """The processor minutes that each crate is to keep within."""
     rows = (line.split() for line in (HERE / "bars").read_text(encoding="utf-8").splitlines() if line and not line.startswith("#"))
-    return {crate: float(minutes) for crate, minutes in rows}
+    return {crate: float(minutes) for minutes, *crates in rows for crate in crates}
 
 
 def watched(command):

@@ -13,9 +13,9 @@ class Edit:
     """An edit of a crate.
 
     `why` says why it cannot be applied. `lines` are the new lines by file and number. `struck` are the functions that it strikes: those
-    whose bodies it changes, or that name the constant it changes, or else those of its lines 'strikes: FUNCTION'. Where nothing
-    tells them there are none. It is tried apart unless it changes bodies alone. `besides` are the goals of its line 'besides: GOAL ..': those
-    that it spoils too, so that a try of one goal is enough.
+    whose bodies it changes, or that name the constant it changes, or else those of its lines 'strikes: FUNCTION'. Where nothing tells them
+    there are none. It is tried apart unless it changes bodies alone. `besides` are the goals of its line 'besides: GOAL ..': those that it
+    spoils too, so that a try of one goal is enough.
     """
 
     def __init__(self, crate, file, code):
@@ -42,7 +42,6 @@ class Edit:
 
     @property
     def names(self):
-        """The names of the functions that it strikes."""
         return {it.name for it in self.struck}
 
     @property

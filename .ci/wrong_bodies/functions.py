@@ -114,7 +114,6 @@ class Code:
         return [it for it in file[len("src/") : -len(".rt")].split("/") if it not in ("lib", "main", "mod")] + names
 
     def around(self, file, begin, end):
-        """The function whose body holds these bytes, if there is one."""
         return [it for it in self.functions if it.holds(file, begin, end)]
 
     def naming(self, constant):
@@ -136,10 +135,7 @@ def tokens_of(crate):
     words = [rt.rtlib.RATTLE, "fmt", "--tokens", *files]
     said = subprocess.run(words, cwd=crate.folder, stdout=subprocess.PIPE, check=True).stdout.decode()
     parts = re.split(r"(?m)^file \d+\n", said)[1:]
-    return {
-        file: [Token(*map(int, it.groups()[:3]), it[4]) for it in ROW.finditer(part)]
-        for file, part in zip(files, parts, strict=True)
-    }
+    return {file: [Token(*map(int, it.groups()[:3]), it[4]) for it in ROW.finditer(part)] for file, part in zip(files, parts, strict=True)}
 
 
 def places_of_tests(file, tokens):

@@ -16,15 +16,15 @@ import sys
 LIMITS = re.compile(r"\blimits?\b")
 
 
-def load():
-    found = shutil.which("rt") or sys.exit("wrong: the kit's command rt is not in PATH")
-    loader = importlib.machinery.SourceFileLoader("rt", os.path.realpath(found))
-    made = importlib.util.module_from_spec(importlib.util.spec_from_loader("rt", loader))
+def loaded(name, path):
+    """A command as a module."""
+    loader = importlib.machinery.SourceFileLoader(name, str(path))
+    made = importlib.util.module_from_spec(importlib.util.spec_from_loader(name, loader))
     loader.exec_module(made)
     return made
 
 
-rt = load()
+rt = loaded("rt", os.path.realpath(shutil.which("rt") or sys.exit("wrong: the kit's command rt is not in PATH")))
 
 
 def stamp_of(crate):

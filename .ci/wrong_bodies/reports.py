@@ -25,8 +25,8 @@ class Report:
 
     `has_ended`: whether the prover came to an end. `unproved` and `fit`: the functions that it says are not proved, and those that are but
     for what holes stand for. `own`: the functions with a goal of their own that is not proved, each with what is said of the first.
-    `searched`: the names of those of their goals that no proof file answers. `stale`: the names of those whose answer no longer fits, of the
-    functions that have no other goal of their own that is not proved. `by_name`: those whose own proof files name what is gone.
+    `searched`: the names of those of their goals that no proof file answers. `stale`: the names of those whose answer no longer fits, of
+    the functions that have no other goal of their own that is not proved. `by_name`: those whose own proof files name what is gone.
     `unread_cycles`: the cycles of functions whose common proof files do. `elsewhere`: what is said of other goals, as those of lemmas.
     """
 
@@ -47,8 +47,8 @@ class Report:
         self.stale = {name: goals for name, goals in self.stale.items() if name not in others}
 
     def add(self, line, file, number, text):
-        """Takes in what is said of a goal. The name of its function, where that is not proved for another reason than an answer that no longer
-        fits."""
+        """Takes in what is said of a goal. The name of its function, where that is not proved for another reason than an answer that no
+        longer fits."""
         function, is_code = self.owner(file, number, text), file.startswith("src/")
         is_by_name = not is_code and bool(BY_NAME.search(text))
         if is_by_name:
@@ -73,8 +73,8 @@ class Report:
         return set()
 
     def spoiled_besides(self, name):
-        """The goals of a function that need not be searched for, since another one of it is not proved either: an answer of its proof files,
-        or one of these goals, a single clause where there is one, which costs less than a record of them."""
+        """The goals of a function that need not be searched for, since another one of it is not proved either: an answer of its proof
+        files, or one of these goals, a single clause where there is one, which costs less than a record of them."""
         goals = [*dict.fromkeys(self.searched[name])]
         if name in self.answered or not goals:
             return goals

@@ -35,6 +35,23 @@ OF_CYCLE = re.compile(r"\s*#\[cycle\(\w+\)\]")
 OF_GOAL = re.compile(r"(?m)^(?:abbrev )?pub (\S+) : goal\.\1$")
 
 
+def copy_parts(crate, folder):
+    """Copies what a check of the crate reads."""
+    for part in rt.rtlib.PARTS:
+        if os.path.isdir(f"{crate.folder}/{part}"):
+            shutil.copytree(f"{crate.folder}/{part}", f"{folder}/{part}")
+
+
+def leave_out_proof(crate, function, copy):
+    """Has a hole stand for the proof of a function in a copy of its crate."""
+    folder, name = pathlib.Path(copy, function.proofs), function.name.rpartition("::")[2]
+    folder.mkdir(parents=True, exist_ok=True)
+    for file in ("Answers.antt", "Invariants.antt"):
+        (folder / file).unlink(missing_ok=True)
+    text = STUB.format(crate=crate.name, path=function.name.replace("::", "."), name=name)
+    (folder / "Proof.antt").write_text(text, encoding="utf-8")
+
+
 class Trials:
     """The checks of one crate. Where one is not enough, they keep what they checked in a folder of their own."""
 
@@ -64,8 +81,8 @@ class Trials:
         return made
 
     def without_answers(self, verdicts):
-        """The verdict on each of these edits where the answers that no longer fit it are left out, as the verdicts so far tell them: tactics are
-        tried of their goals, and of all others that the edit spoils."""
+        """The verdict on each of these edits where the answers that no longer fit it are left out, as the verdicts so far tell them:
+        tactics are tried of their goals, and of all others that the edit spoils."""
         self.unanswered |= {it: {*verdict.goals} for it, verdict in verdicts.items()}
         for edit in verdicts:
             edit.besides = []
@@ -134,9 +151,7 @@ class Trials:
     def lay_out(self, batch, struck):
         """Makes a copy of the crate with these edits. Where functions are struck, holes stand for the proofs of the others, which do nothing."""
         shutil.rmtree(self.copy, ignore_errors=True)
-        for part in rt.rtlib.PARTS:
-            if os.path.isdir(f"{self.crate.folder}/{part}"):
-                shutil.copytree(f"{self.crate.folder}/{part}", f"{self.copy}/{part}")
+        copy_parts(self.crate, self.copy)
         hollow = self.hollow(struck | {it.name for it in self.functions if batch.is_in(it)}) if struck else []
         for path in {path for edit in batch.edits for path, _ in edit.lines} | {it.file for it in hollow}:
             text = pathlib.Path(self.copy, path).read_text(encoding="utf-8")
@@ -152,12 +167,7 @@ class Trials:
         for function in hollow:
             if function.recurs:
                 shutil.rmtree(f"{self.copy}/{function.cycle_proofs}", ignore_errors=True)
-            folder, name = pathlib.Path(self.copy, function.proofs), function.name.rpartition("::")[2]
-            folder.mkdir(parents=True, exist_ok=True)
-            for file in ("Answers.antt", "Invariants.antt"):
-                (folder / file).unlink(missing_ok=True)
-            text = STUB.format(crate=self.crate.name, path=function.name.replace("::", "."), name=name)
-            (folder / "Proof.antt").write_text(text, encoding="utf-8")
+            leave_out_proof(self.crate, function, self.copy)
 
     def hollow(self, others):
         """The functions but these for whose proofs a hole can stand. Their bodies are left out, since the prover walks over a body whatever
@@ -188,8 +198,8 @@ class Trials:
                 file.write_text("\n\n".join(kept), encoding="utf-8")
 
     def copy_proofs(self, function, name):
-        """Gives a copy of a function, of this name, the proof files of the function, which name themselves by it. Of those of a cycle it gets
-        what is said of this function."""
+        """Gives a copy of a function, of this name, the proof files of the function, which name themselves by it. Of those of a cycle it
+        gets what is said of this function."""
         found = pathlib.Path(self.crate.folder, function.cycle_proofs if function.recurs else function.proofs)
         above = str(pathlib.PurePath(function.proofs).parent).replace("/", ".")
         for file in found.rglob("*.antt"):
@@ -224,9 +234,9 @@ class Batch:
     """Edits that one check tries.
 
     `copies` are the names of copies of functions, each for an edit whose function another edit strikes. All but one that strike a function
-    get one, and where there are several edits, each that strikes a function that calls itself. `controls` are the names of further copies of
-    the latter, which have no edit: where such a copy is not proved, that of an edit says nothing. `struck` are the names of the functions
-    that the check proves, none for the whole crate. `places` are the lines of each edit by file and number, as they are laid out.
+    get one, and where there are several edits, each that strikes a function that calls itself. `controls` are the names of further copies
+    of the latter, which have no edit: where such a copy is not proved, that of an edit says nothing. `struck` are the names of the
+    functions that the check proves, none for the whole crate. `places` are the lines of each edit by file and number, as they are laid out.
     `shared_cycles` are the cycles of functions that more than one edit strikes themselves.
     """
 
@@ -315,8 +325,8 @@ def hollowed(text, functions):
 
 
 def said_of(function, text):
-    """What a proof file of a cycle says of this function, as if it called itself no more: it has no measure, its goals are named without it,
-    and none is given what the others of the cycle promise."""
+    """What a proof file of a cycle says of this function, as if it called itself no more: it has no measure, its goals are named without
+    it, and none is given what the others of the cycle promise."""
     own, kept = function.name.rpartition("::")[2], []
     for part in text.split("\n\n"):
         goal = OF_GOAL.search(part)
@@ -374,7 +384,6 @@ def goals_of(edit, struck, report):
 
 
 def verdict_of(edit, report):
-    """The verdict of a check with this edit alone."""
     if report.is_bad(edit):
         return Verdict(BAD, report.head())
     if not report.has_ended:
