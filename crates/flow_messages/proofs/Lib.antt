@@ -7,8 +7,8 @@ pub mod Waiting
 pub mod Blocks
 pub mod SideBySide
 pub mod Lines
+pub mod Columns
 pub mod Contents
-pub mod Stores
 pub mod Widened
 pub mod Scalars
 pub mod Sends

@@ -1,8 +1,11 @@
 -- What was taken from an edge, one put or one take later.
-use Rattle.std.proofs.Common.{◌≡◌, ℕ, ◌+◌, ◌-◌, List, ◌++◌, length, take, sym, ap, ◌∙◌, arith, append_assoc, length-append}
+use Rattle.std.proofs.Common.{◌≡◌, ℕ, ◌+◌, ◌-◌, false, List, ◌++◌, length, take, sym, ap, ◌∙◌, arith, append_assoc, length-append}
 use Rattle.std.proofs.Math.Seq.{take-append_seam}
 use Rattle.std.specs.Io.Iter.{u64_saturate}
+use Rattle.flow_messages.specs.declared.message.Msg.{Msg}
 use Rattle.flow_messages.specs.Lines.{gone}
+use Rattle.flow_messages.specs.Signals.{signals, ended, has_end}
+use Rattle.flow_messages.proofs.Signals.{ended-rest}
 
 -- what stands before those that are held is what is gone
 pub gone_is : {X : Type 0} (r c s : List X) → r ++ c ≡ s → gone s c ≡ r
@@ -36,3 +39,7 @@ module _ {X : Type 0} (s c : List X) (fifo : gone s c ++ c ≡ s) where
 
   pub sent_length : length (gone s c) + length c ≡ length s
   sent_length = sym (length-append (gone s c) c) ∙ ap length fifo
+
+-- what is held has no stop where none was sent
+pub open_held : (s c : List Msg) → gone s c ++ c ≡ s → ended (signals s) ≡ false → has_end c ≡ false
+open_held s c fifo free = ended-rest (gone s c) c (ap (λ l. ended (signals l)) fifo ∙ free)

@@ -52,6 +52,13 @@ ended-more [] ns h = refl
 ended-more (Item x ∷ ms) ns h = ended-more ms ns h
 ended-more (End ∷ ms) ns h = cc
 
+-- what comes after others has no stop where all have none
+pub ended-rest : (ms ns : List Msg) → ended (signals (ms ++ ns)) ≡ false → ended (signals ns) ≡ false
+unfolding ended signals
+ended-rest [] ns h = h
+ended-rest (Item x ∷ ms) ns h = ended-rest ms ns h
+ended-rest (End ∷ ms) ns h = absurd (cc)
+
 pub orderly-more : (ms ns : List Msg) → ended (signals ms) ≡ false → orderly (signals (ms ++ ns)) ≡ orderly (signals ns)
 unfolding ended orderly signals
 orderly-more [] ns h = refl

@@ -7,6 +7,7 @@ use Rattle.std.proofs.lemmas.Bool.{cases_eq, cases_Bool}
 use mathlib.Core.List.{IsPrefix}
 use Rattle.std.specs.List.{All}
 use Rattle.std.specs.Prelude.{Option, Some, None, Result, Ok, Err, OnOk, OnErr, IfErr, IfSome, IfNone, IsSome, ◌↔◌}
+use Rattle.flow_messages.specs.declared.message.Kind.{Kind}
 use Rattle.flow_messages.specs.declared.message.Msg.{Msg}
 use Rattle.flow_messages.specs.declared.line.Line.{Line}
 use Rattle.flow_messages.specs.Signals.{Signal, signals, signal_of, ended}
@@ -51,6 +52,9 @@ received_on l = signals (gone_from l)
 abbrev coming_on : Line → List Signal
 coming_on l = signals (content_of l.store)
 
+abbrev kind_on : Line → Option Kind
+kind_on l = Some l.store.kind
+
 abbrev room_on : Line → ℕ
 room_on l = l.store.capacity - length (content_of l.store)
 
@@ -70,7 +74,7 @@ taken_one a b e m all =
     }
 
 -- the ends of a table, with one line changed
-module _ (ls : List Line) (e : ℕ) (old new : Line) (h : e < length ls) (is : old ≡ get_or ls e old) where
+module _ (ls : List Line) (e : ℕ) (old new : Line) (h : e < length ls) (is : old ≡ get_or ls e old) (of_kind : new.store.kind ≡ old.store.kind) where
   abbrev before : View
   before = view_of_lines ls
 
@@ -78,7 +82,7 @@ module _ (ls : List Line) (e : ℕ) (old new : Line) (h : e < length ls) (is : o
   after = view_of_lines (set ls e new)
 
   pub same_ends : SameEnds before after
-  same_ends = record { kinds = λ k. refl; writes = λ k. rw (length-set ls e new); reads = λ k. rw (length-set ls e new) }
+  same_ends = record { kinds = at_line-kept kind_on ls e None old new h is (ap (λ k. Some k) of_kind); writes = λ k. rw (length-set ls e new); reads = λ k. rw (length-set ls e new) }
 
   -- these messages were put on it
   module _ (ms : List Msg) (sent : new.sent.items ≡ old.sent.items ++ ms) (held : content_of new.store ≡ content_of old.store ++ ms) (capacity : new.store.capacity ≡ old.store.capacity) where
@@ -208,6 +212,10 @@ module _ (ls : List Line) (e : ℕ) (l : Line) (h : e < length ls) (is : l ≡ g
   -- the line's first messages are the first that are certain to come
   pub line-begins : (ms : List Msg) → IsPrefix ms (content_of l.store) → IsPrefix (signals ms) ((view_of_lines ls).coming e)
   line-begins ms (more, all) = (signals more, sym (signals-append ms more) ∙ ap signals all ∙ sym line-coming)
+
+  -- it takes items of the line's kind
+  pub line-kind : (view_of_lines ls).kind e ≡ Some l.store.kind
+  line-kind = at_line-here kind_on ls e None l h is
 
   -- there is room for as many messages as the line may hold besides
   pub line-space : (view_of_lines ls).room e ≡ l.store.capacity - length (content_of l.store)

@@ -1,5 +1,5 @@
--- The messages that an edge holds, where items of one kind lie side by side.
-use Rattle.std.specs.Prelude.{ℕ, ℤ, Bool, List, [], ◌++◌, map, replicate}
+-- The messages of items of one kind.
+use Rattle.std.specs.Prelude.{ℕ, ℤ, Bool, List, [], map, replicate}
 use Rattle.flow_messages.specs.declared.message.Msg.{Msg}
 use Rattle.flow_messages.specs.declared.message.Msg.TheVariants.{Item as ItemMsg}
 use Rattle.flow_messages.specs.declared.message.Item.TheVariants.{Unit as UnitItem, Bool as BoolItem, Int as IntItem}
@@ -24,7 +24,3 @@ item_messages Nothing = []
 item_messages (Units n) = unit_messages n
 item_messages (Flags bs) = flag_messages bs.now
 item_messages (Ints ns) = int_messages ns.now
-
--- so many unit items, then these truth values and these integers as items, then these messages
-unfoldable pub content : ℕ → List Bool → List ℤ → List Msg → List Msg
-content units flags ints queue = unit_messages units ++ (flag_messages flags ++ (int_messages ints ++ queue))

@@ -8,6 +8,8 @@ pub mod Ends
 pub mod Blocks
 pub mod Contents
 pub mod Runs
+pub mod IntRuns
+pub mod Columns
 pub mod Stores
 pub mod Lines
 pub mod LineBlocks

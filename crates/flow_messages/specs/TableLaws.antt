@@ -76,7 +76,6 @@ lines_orderly (l ∷ ls) (suc e) = lines_orderly ls e
 pub whole_table : (t : Table) → IsWhole (capacity_of t) (ends_of t)
 whole_table t = record {
   both = λ e. refl;
-  any = λ e. refl;
   in_order = lines_in_order t.lines.items;
   coming = lines_coming t.lines.items;
   room = λ e there. lines_room t.capacity t.lines.items t.even e (omega (arith, ltb-true));

@@ -1,5 +1,6 @@
 -- A table as the ends of all its edges.
-use Rattle.std.specs.Prelude.{◌≡◌, ℕ, ◌-◌, List, [], length, map, slice_index_or, nat_lt, None}
+use Rattle.std.specs.Prelude.{◌≡◌, ℕ, ◌-◌, List, [], length, map, slice_index_or, nat_lt, slice_get, Option, Some, None}
+use Rattle.flow_messages.specs.declared.message.Kind.{Kind}
 use Rattle.flow_messages.specs.declared.line.Line.{Line}
 use Rattle.flow_messages.specs.declared.table.Table.{Table}
 use Rattle.flow_messages.specs.Signals.{signals}
@@ -18,7 +19,7 @@ view_of_lines lines = record {
   received = λ e. at_line (λ l. signals (gone l.sent.items (content_of l.store))) lines e [];
   coming = λ e. at_line (λ l. signals (content_of l.store)) lines e [];
   room = λ e. at_line (λ l. l.store.capacity - length (content_of l.store)) lines e 0;
-  kind = λ e. None;
+  kind = λ e. at_line (λ l. Some l.store.kind) lines e None;
   writes = λ e. nat_lt e (length lines);
   reads = λ e. nat_lt e (length lines);
 }
@@ -37,3 +38,7 @@ pub record IsFresh (edges : ℕ) (v : View) : Type 0 where
   pub reads : (e : ℕ) → v.reads e ≡ nat_lt e edges
   pub sent : (e : ℕ) → v.sent e ≡ []
   pub received : (e : ℕ) → v.received e ≡ []
+
+-- each edge takes items of the kind that stands at its number, and no others
+abbrev pub HasKinds : List Kind → View → Type 0
+HasKinds kinds v = (e : ℕ) → v.kind e ≡ slice_get kinds e

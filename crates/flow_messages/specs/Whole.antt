@@ -1,5 +1,5 @@
 -- Both ends of each edge, seen at once.
-use Rattle.std.specs.Prelude.{◌≡◌, ℕ, ◌+◌, ◌-◌, true, List, ◌++◌, length, drop, None}
+use Rattle.std.specs.Prelude.{◌≡◌, ℕ, ◌+◌, ◌-◌, true, List, ◌++◌, length, drop}
 use Rattle.flow_messages.specs.Signals.{Signal, orderly}
 use Rattle.flow_messages.specs.Ends.{View, held, Put, Taken}
 
@@ -21,8 +21,6 @@ pub record IsWhole (capacity : ℕ) (v : View) : Type 0 where
   pub coming : (e : ℕ) → v.coming e ≡ waiting v e
   -- what is not held is room
   pub room : (e : ℕ) → v.writes e ≡ true → v.room e + held v e ≡ capacity
-  -- items of every kind may be put
-  pub any : (e : ℕ) → v.kind e ≡ None
   -- nothing was sent after a stop
   pub orderly : (e : ℕ) → orderly (v.sent e) ≡ true
 

@@ -6,11 +6,13 @@
 //! where the messages are counted, and [`Table`] holds both ends of every edge, in one thread.
 #![tactic(auto)]
 
+mod column;
 mod counted;
 mod ends;
 mod flat;
 mod histories;
 pub mod history;
+mod int_run;
 mod items;
 mod line;
 mod message;

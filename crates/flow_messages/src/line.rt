@@ -4,7 +4,7 @@ ghost use Rattle.std.specs.Io.Iter.{u64_saturate};
 ghost use mathlib.Core.List.{IsPrefix};
 ghost use Rattle.flow_messages.specs.Signals.{signals, ended, orderly, has_end};
 ghost use Rattle.flow_messages.specs.Contents.{item_messages};
-ghost use Rattle.flow_messages.specs.Stores.{content_of, StoreHasRoom, StoreHasRoomFor, StoreIsFull};
+ghost use Rattle.flow_messages.specs.Stores.{content_of, StoreHasRoom, StoreHasRoomFor, StoreIsFull, StoreTakes, StoreTakesItems};
 ghost use Rattle.flow_messages.specs.Lines.{gone};
 ghost use Rattle.flow_messages.specs.declared.ends.Why.TheVariants.{Full, Closed};
 
@@ -12,7 +12,7 @@ use crate::ends::{Refused, Why};
 use crate::histories::with_items;
 use crate::history::History;
 use crate::items::Items;
-use crate::message::Msg;
+use crate::message::{Kind, Msg};
 use crate::store::Store;
 use std::alloc::{AllocError, Global};
 use std::mem::replace;
@@ -34,14 +34,15 @@ pub struct Line {
 impl Line {
     ghost use Rattle.flow_messages.specs.LineBlocks.{SendsBlock, LeavesOnly};
 
-    /// An empty edge, with its room reserved. Its only error is that memory was refused.
+    /// An empty edge for items of this kind, with its room reserved. Its only error is that memory was refused.
     #[tactic(auto, using(crate::proofs::Signals::signal_steps))]
-    pub fn new(alloc: Global, capacity: usize) -> Result<Line, AllocError>
+    pub fn new(alloc: Global, kind: Kind, capacity: usize) -> Result<Line, AllocError>
         ensures sent { IfOk result (λ line. line.sent.items ≡ []) }
         ensures held { IfOk result (λ line. content_of line.store ≡ []) }
+        ensures kind { IfOk result (λ line. line.store.kind ≡ kind) }
         ensures capacity { IfOk result (λ line. line.store.capacity ≡ capacity) }
     {
-        let store = Store::new(alloc, capacity)?;
+        let store = Store::new(alloc, kind, capacity)?;
         Ok(Line {
             store,
             closed: false,
@@ -79,6 +80,8 @@ impl Line {
     #[inline(always)]
     #[tactic(auto, using(crate::proofs::Signals::signal_steps))]
     pub fn put(&mut self, message: Msg) -> Result<(), Refused>
+        requires { StoreTakes self.old.store message }
+        ensures kind { self.new.store.kind ≡ self.old.store.kind }
         ensures capacity { self.new.store.capacity ≡ self.old.store.capacity }
         ensures sent { OnOk result (self.new.sent.items ≡ self.old.sent.items ++ message ∷ []) }
         ensures held { OnOk result (content_of self.new.store ≡
@@ -115,6 +118,7 @@ impl Line {
     /// Takes the oldest message.
     #[inline(always)]
     pub fn take(&mut self) -> Option<Msg>
+        ensures kind { self.new.store.kind ≡ self.old.store.kind }
         ensures capacity { self.new.store.capacity ≡ self.old.store.capacity }
         ensures sent { self.new.sent.items ≡ self.old.sent.items }
         ensures some { IfSome result (λ m. content_of self.old.store ≡
@@ -152,7 +156,8 @@ impl Line {
     /// Puts these items after all others, in order, unless `End` was put on it.
     #[inline(always)]
     pub fn put_all(&mut self, items: Items<'_>)
-        requires { StoreHasRoomFor self.old.store items }
+        requires room { StoreHasRoomFor self.old.store items }
+        requires kind { StoreTakesItems self.old.store items }
         ensures { SendsBlock (item_messages items.entry) self.old self.new }
     {
         if self.is_closed() {

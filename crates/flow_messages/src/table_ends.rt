@@ -1,7 +1,7 @@
 // A table of fresh edges, a table as ends, as both ends of each edge, and as ends that count.
-ghost use Rattle.std.specs.Prelude.{◌≡◌, ◌<◌, ◌≤◌, ◌↔◌, IsTrue, IfOk};
+ghost use Rattle.std.specs.Prelude.{◌≡◌, ◌<◌, ◌≤◌, ◌↔◌, length, IsTrue, IfOk};
 ghost use Rattle.flow_messages.specs.Limits.{greatest_capacity};
-ghost use Rattle.flow_messages.specs.Tables.{ends_of, capacity_of, IsFresh};
+ghost use Rattle.flow_messages.specs.Tables.{ends_of, capacity_of, IsFresh, HasKinds};
 
 use crate::counted::CountedEnds;
 use crate::ends::{Ends, Refused};
@@ -13,18 +13,19 @@ use crate::whole::WholeEnds;
 use std::alloc::{AllocError, Global};
 
 impl Table {
-    /// The edges with the numbers below `edges`, each of which holds at most `capacity` messages.
-    /// Nothing was sent or received. All the room that messages take is reserved here, and the call
+    /// An edge for each of these kinds, which takes items of that kind and holds at most `capacity` messages. The edges have
+    /// the numbers of the kinds. Nothing was sent or received. All the room that messages take is reserved here, and the call
     /// is refused where there is no memory for it.
-    pub fn new(alloc: Global, edges: usize, capacity: usize) -> Result<Table, AllocError>
+    pub fn new(alloc: Global, kinds: &[Kind], capacity: usize) -> Result<Table, AllocError>
         requires some { 0 < capacity }
         requires limit { capacity ≤ greatest_capacity }
-        ensures fresh { IfOk result (λ table. IsFresh edges (ends_of table)) }
+        ensures fresh { IfOk result (λ table. IsFresh (length kinds.now) (ends_of table)) }
+        ensures kinds { IfOk result (λ table. HasKinds kinds.now (ends_of table)) }
         ensures capacity { IfOk result (λ table. capacity_of table ≡ capacity) }
     {
-        let mut lines = Vec::with_capacity(alloc, edges)?;
-        for _ in 0..edges {
-            lines.push(Line::new(alloc, capacity)?)?;
+        let mut lines = Vec::with_capacity(alloc, kinds.len())?;
+        for kind in kinds {
+            lines.push(Line::new(alloc, *kind, capacity)?)?;
         }
         Ok(Table { lines, capacity })
     }
@@ -57,8 +58,7 @@ impl Ends for Table {
     }
 
     fn takes(&self, edge: usize, kind: Kind) -> bool {
-        let _ = (edge, kind);
-        true
+        self.lines[edge].store.kind == kind
     }
 
     #[inline(always)]

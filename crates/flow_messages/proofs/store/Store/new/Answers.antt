@@ -1,25 +1,19 @@
-use Rattle.std.proofs.Common.{ap, length, refl, ◌∙◌, arith}
-use Rattle.flow_messages.specs.Runs.{run_items}
-use Rattle.flow_messages.proofs.Contents.{length-content, only_queue}
+use Rattle.std.proofs.Common.{false, length, refl, sym, ap, ◌∙◌, arith}
+use Rattle.flow_messages.specs.Signals.{has_end}
+use Rattle.flow_messages.proofs.Contents.{content-open}
+use Rattle.flow_messages.proofs.Signals.{ended-nil}
 use Rattle.flow_messages.proofs.store.Store.new.Goals as goal
 
-pub invariant_of-result-clause-counts : goal.invariant_of-result-clause-counts
-invariant_of-result-clause-counts c =
-    let flags = c.in_ok-flags.flags in
-    let ints = c.in_ok-ints.ints in
-    let queue = c.in_ok-queue.queue in
-    omega (
-      arith,
-      length-content 0 (run_items flags) (run_items ints) queue.items,
-      ap length c.in_ok-flags.ensures.empty.0,
-      ap length c.in_ok-ints.ensures.empty.0,
-      ap length c.in_ok-queue.ensures.items,
-    )
+pub invariant_of-result : goal.invariant_of-result
+invariant_of-result c =
+    let new = c.in_ok-column.ensures in
+    record {
+      counts = sym (ap length (content-open c.in_ok-column.column ∙ new.empty));
+      bound = omega arith;
+      of_kind = new.kind;
+      items = ap has_end new.empty ∙ ended-nil;
+      reserved = new.places;
+    }
 
 pub returns : goal.returns
-returns c = record {
-  empty = (
-    only_queue 0 (run_items c.in_ok-flags.flags) (run_items c.in_ok-ints.ints) c.in_ok-queue.queue.items refl c.in_ok-flags.ensures.empty.0 c.in_ok-ints.ensures.empty.0 ∙ c.in_ok-queue.ensures.items,
-    refl,
-  );
-}
+returns c = record { empty = content-open c.in_ok-column.column ∙ c.in_ok-column.ensures.empty; kind = refl; capacity = refl }

@@ -1,108 +1,60 @@
-use Rattle.std.proofs.Common.{◌≡◌, ◌+◌, ◌<◌, ℤ, [], ◌∷◌, ◌++◌, ap, sym, length, ◌∙◌, rules, arith, length-append, refl}
-use Rattle.std.specs.VecDeque.{deque_len}
-use Rattle.std.proofs.lemmas.Int.{to_z-of_z}
-use mir.Val.{SFits}
-use mir.Syntax.{w64, w128}
-use Rattle.flow_messages.specs.declared.message.Msg.{Msg}
-use Rattle.flow_messages.specs.declared.message.Msg.TheVariants.{Item as ItemMsg}
-use Rattle.flow_messages.specs.declared.message.Item.TheVariants.{Unit as UnitItem, Bool as BoolItem, Int as IntItem}
-use Rattle.flow_messages.specs.Runs.{run_items}
-use Rattle.flow_messages.specs.Contents.{content}
-use Rattle.flow_messages.proofs.Contents.{length-content, put_units, put_flags, put_ints}
-use Rattle.flow_messages.proofs.Stores.{length-held, queued}
+use Rattle.std.proofs.Common.{◌≡◌, true, false, [], ◌∷◌, ◌++◌, length, refl, sym, ap, ◌∙◌, rules, arith, length-append}
+use Rattle.flow_messages.specs.declared.message.Msg.TheVariants.{End as EndMsg}
+use Rattle.flow_messages.specs.Columns.{column_messages, content}
+use Rattle.flow_messages.specs.Signals.{is_stop, signal_of}
+use Rattle.flow_messages.proofs.Columns.{end_is, not_end}
+use Rattle.flow_messages.proofs.Contents.{ends_not, length-content, open_put, put_end, put_items}
 use Rattle.flow_messages.proofs.store.Store.push.Goals as goal
 
-pub put-requires : goal.put-requires
-put-requires c =
+-- the end
+
+pub invariant_of-self : goal.invariant_of-self
+invariant_of-self c =
     let s = c.args.self.now in
-    let room : length (run_items s.ints) < s.ints.most = omega (arith, length-held s) in
-    record { room = room }
+    let free = ends_not s.column s.ends c.requires.open in
+    record {
+      counts = omega (arith, s.counts, ap length (put_end s.column s.ends free), length-append (content s.column s.ends) (EndMsg ∷ []));
+      bound = omega (arith, s.counts, c.requires.room);
+      of_kind = s.of_kind;
+      items = s.items;
+      reserved = s.reserved;
+    }
 
-pub invariant_of-self-clause-counts : goal.invariant_of-self-clause-counts
-invariant_of-self-clause-counts c =
+pub returns-then-is_end : goal.returns-then-is_end
+returns-then-is_end c =
     let s = c.args.self.now in
-    omega (arith, length-held s, length-content s.units (run_items s.flags) (run_items c.put.new.self) s.queue.items, simp length-append at (ap length c.put.ensures.items))
+    let free = ends_not s.column s.ends c.requires.open in
+    let stops : is_stop (signal_of c.args.message) ≡ true = search rules in
+    record {
+      content = put_end s.column s.ends free ∙ ap (λ m. content s.column s.ends ++ m ∷ []) (sym (end_is c.args.message stops));
+      kind = refl;
+      capacity = refl;
+    }
 
-pub returns-in-Ok : goal.returns-in-Ok
-returns-in-Ok c = record {
-  content = (let s = c.args.self.now in
-      let flags = run_items s.flags in
-      let ints = run_items s.ints in
-      let queue = s.queue.items in
-      let none : deque_len s.queue ≡ 0 = search rules in
-      let m = c.in-Item-Int.number in
-      let n = c.in-Ok.narrow in
-      let fits : SFits w128 m = search rules in
-      let is_m : n ≡ m = c.in-Ok.ensures.1 ∙ to_z-of_z w128 m fits in
-      let narrow : SFits w64 n = search rules in
-      let put : run_items c.put.new.self ≡ ints ++ n ∷ [] = c.put.ensures.items ∙ ap (λ (k : ℤ). ints ++ k ∷ []) (to_z-of_z w64 n narrow) in
-      let is : c.args.message ≡ ItemMsg (IntItem m) = search rules in
-      ap (λ l. content s.units flags l queue) put ∙ put_ints s.units flags ints (n ∷ []) queue (omega arith)
-      ∙ ap (λ (k : ℤ). content s.units flags ints queue ++ ItemMsg (IntItem k) ∷ []) is_m
-      ∙ ap (λ (x : Msg). content s.units flags ints queue ++ x ∷ []) (sym is));
-  capacity = refl;
-}
+-- an item
 
-pub put-requires-in-Item-Bool : goal.put-requires-in-Item-Bool
-put-requires-in-Item-Bool c =
+pub push-requires-clause-room : goal.push-requires-clause-room
+push-requires-clause-room c =
     let s = c.args.self.now in
-    let room : length (run_items s.flags) < s.flags.most = omega (arith, length-held s) in
-    record { room = room }
+    omega (arith, s.reserved, c.requires.room, length-content s.column s.ends)
 
-pub invariant_of-self-in-Item-Bool-clause-counts : goal.invariant_of-self-in-Item-Bool-clause-counts
-invariant_of-self-in-Item-Bool-clause-counts c =
+pub invariant_of-self-2 : goal.invariant_of-self-2
+invariant_of-self-2 c =
     let s = c.args.self.now in
-    omega (
-      arith,
-      length-held s,
-      length-content s.units (run_items c.put-in-Item-Bool.new.self) (run_items s.ints) s.queue.items,
-      simp length-append at (ap length c.put-in-Item-Bool.ensures.items),
-    )
-
-pub returns-in-Item-Bool : goal.returns-in-Item-Bool
-returns-in-Item-Bool c = record {
-  content = (let s = c.args.self.now in
-      let flags = run_items s.flags in
-      let ints = run_items s.ints in
-      let queue = s.queue.items in
-      let none : deque_len s.queue ≡ 0 = search rules in
-      let no_ints : length ints ≡ 0 = search rules in
-      let b = c.in-Item-Bool.truth in
-      let is : c.args.message ≡ ItemMsg (BoolItem b) = search rules in
-      ap (λ l. content s.units l ints queue) c.put-in-Item-Bool.ensures.items ∙ put_flags s.units flags (b ∷ []) ints queue no_ints (omega arith)
-      ∙ ap (λ (m : Msg). content s.units flags ints queue ++ m ∷ []) (sym is));
-  capacity = refl;
-}
-
-pub invariant_of-self-in-Item-Unit-clause-counts : goal.invariant_of-self-in-Item-Unit-clause-counts
-invariant_of-self-in-Item-Unit-clause-counts c =
-    let s = c.args.self.now in
-    omega (arith, length-held s, length-content (s.units + 1) (run_items s.flags) (run_items s.ints) s.queue.items)
-
-pub returns-in-Item-Unit : goal.returns-in-Item-Unit
-returns-in-Item-Unit c = record {
-  content = (let s = c.args.self.now in
-      let flags = run_items s.flags in
-      let ints = run_items s.ints in
-      let queue = s.queue.items in
-      let sum = length-held s in
-      let is : c.args.message ≡ ItemMsg UnitItem = search rules in
-      put_units s.units 1 flags ints queue (omega arith) (omega arith) (omega arith) ∙ ap (λ (m : Msg). content s.units flags ints queue ++ m ∷ []) (sym is));
-  capacity = refl;
-}
-
-pub push_back_reserved-requires : goal.push_back_reserved-requires
-push_back_reserved-requires c = omega (arith, length-held c.args.self.now)
-
-pub invariant_of-self-2-clause-counts : goal.invariant_of-self-2-clause-counts
-invariant_of-self-2-clause-counts c =
-    let s = c.args.self.now in
-    omega (
-      arith,
-      length-held s,
-      length-content s.units (run_items s.flags) (run_items s.ints) c.push_back_reserved.new.self.items,
-      simp length-append at (ap length c.push_back_reserved.ensures.items),
-    )
+    let one = c.args.message ∷ [] in
+    let free = ends_not s.column s.ends c.requires.open in
+    let goes : is_stop (signal_of c.args.message) ≡ false = search rules in
+    let new = c.push.ensures in
+    record {
+      counts = omega (arith, s.counts, ap length (put_items s.column c.push.new.self s.ends free one new.messages), length-append (content s.column s.ends) one);
+      bound = omega (arith, s.counts, c.requires.room);
+      of_kind = new.kind ∙ s.of_kind;
+      items = rw new.messages (open_put (column_messages s.column) one s.items (not_end c.args.message goes));
+      reserved = omega (arith, s.reserved, new.places);
+    }
 
 pub returns : goal.returns
-returns c = record { content = queued c.args.self.now _ (c.args.message ∷ []) c.push_back_reserved.ensures.items; capacity = refl }
+returns c =
+    let s = c.args.self.now in
+    let free = ends_not s.column s.ends c.requires.open in
+    record { content = put_items s.column c.push.new.self s.ends free (c.args.message ∷ []) c.push.ensures.messages; kind = refl; capacity = refl }

@@ -20,15 +20,15 @@ nothing_with : (f : Line → List Signal) (before after : List Line) (line : Lin
 nothing_with f before after line is all here e =
     ap (λ (ls : List Line). at_line f ls e []) is ∙ at_line-snoc f before line [] all here e
 
-pub loop-preserved : goal.loop-preserved
-loop-preserved c =
+pub loop-kind-preserved : goal.loop-kind-preserved
+loop-kind-preserved c =
     let line = c.in_ok-new.field-0 in
     let fresh = c.in_ok-new.ensures in
     let is = c.in_ok-push.ensures.items in
     record {
-      count = omega (arith, ap length is, length-append c.loop.lines.items (line ∷ []));
-      sent = nothing_with (λ l. signals l.sent.items) _ _ line is c.loop.invariant.sent (ap signals fresh.sent ∙ signals-nil);
-      received = nothing_with (λ l. signals (gone l.sent.items (content_of l.store))) _ _ line is c.loop.invariant.received
+      count = omega (arith, ap length is, length-append c.loop-kind.lines.items (line ∷ []));
+      sent = nothing_with (λ l. signals l.sent.items) _ _ line is c.loop-kind.invariant.sent (ap signals fresh.sent ∙ signals-nil);
+      received = nothing_with (λ l. signals (gone l.sent.items (content_of l.store))) _ _ line is c.loop-kind.invariant.received
           (ap (λ s. signals (gone s (content_of line.store))) fresh.sent ∙ ap (λ h. signals (gone [] h)) fresh.held ∙ signals-nil);
-      even = even_with c.args.capacity _ _ line is c.loop.invariant.even fresh.capacity;
+      even = even_with c.args.capacity _ _ line is c.loop-kind.invariant.even fresh.capacity;
     }

@@ -12,4 +12,4 @@ returns c =
     let ls = c.args.self.now.lines.items in
     let h : c.args.edge < length ls = omega (arith, ltb-true) in
     subst (λ l. IsPrefix l ((view_of_lines ls).coming c.args.edge)) (signals-items c.shown.result)
-    (line-begins ls c.args.edge c.index.result.now h c.index.ensures (item_messages c.shown.result) c.shown.ensures)
+    (line-begins ls c.args.edge c.index.result.now h c.index.ensures (item_messages c.shown.result) c.shown.ensures.first)

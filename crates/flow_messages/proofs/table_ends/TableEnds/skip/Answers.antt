@@ -26,4 +26,4 @@ returns-clause-taken c =
     let parts = sym (take-append-drop n now) ∙ ap (λ k. take n now ++ k) (sym c.skip.ensures.rest) in
     let said = signals-take n now ∙ ap (take n) (sym (line-coming ls c.args.edge old h c.index_mut.ensures.value)) in
     subst (λ l. TakenAll (view_of_lines ls) c.args.edge l (view_of_lines (set ls c.args.edge new))) said
-    (line-taken_all ls c.args.edge old new h c.index_mut.ensures.value (take n now) c.skip.ensures.sent parts c.skip.ensures.capacity)
+    (line-taken_all ls c.args.edge old new h c.index_mut.ensures.value c.skip.ensures.kind (take n now) c.skip.ensures.sent parts c.skip.ensures.capacity)

@@ -8,7 +8,7 @@ pub returns-clause-some : goal.returns-clause-some
 returns-clause-some c =
     let ls = c.args.self.now.lines.items in
     let h : c.args.edge < length ls = omega (arith, ltb-true) in
-    if_some _ _ c.take.result (λ m p. line-taken ls c.args.edge _ _ h c.index_mut.ensures.value m c.take.ensures.sent p c.take.ensures.capacity) c.take.ensures.some
+    if_some _ _ c.take.result (λ m p. line-taken ls c.args.edge _ _ h c.index_mut.ensures.value c.take.ensures.kind m c.take.ensures.sent p c.take.ensures.capacity) c.take.ensures.some
 
 pub returns-clause-none : goal.returns-clause-none
 returns-clause-none c =
@@ -16,8 +16,8 @@ returns-clause-none c =
     let h : c.args.edge < length ls = omega (arith, ltb-true) in
     let new = c.take.new.self in
     if_none c.take.result (λ p. (
-      (line-kept ls c.args.edge _ new h c.index_mut.ensures.value c.take.ensures.sent (p.0 ∙ sym p.1) c.take.ensures.capacity).1,
-      line-empty ls c.args.edge _ new h c.index_mut.ensures.value p.0,
+      (line-kept ls c.args.edge _ new h c.index_mut.ensures.value c.take.ensures.kind c.take.ensures.sent (p.0 ∙ sym p.1) c.take.ensures.capacity).1,
+      line-empty ls c.args.edge _ new h c.index_mut.ensures.value c.take.ensures.kind p.0,
     )) c.take.ensures.none
 
 pub returns-clause-succeeds : goal.returns-clause-succeeds
