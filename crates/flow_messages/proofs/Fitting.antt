@@ -1,6 +1,8 @@
 -- What an edge of one kind takes.
-use Rattle.std.proofs.Common.{◌≡◌, ℕ, Bool, true, refl, sym, ◌∙◌, subst, arith}
+use Rattle.std.proofs.Common.{◌≡◌, ℕ, Bool, true, refl, sym, ap, ◌∙◌, subst, rules, arith}
 use Rattle.std.specs.Prelude.{pos, Option, Some, None, ◌↔◌, IsTrue}
+use denote.Enum.Bare.{sameb, same_true}
+use Rattle.flow_messages.specs.contracts.message.Kind.{the_type}
 use Rattle.flow_messages.specs.declared.message.Kind.{Kind}
 use Rattle.flow_messages.specs.declared.message.Kind.TheVariants.{Unit as UnitKind, Bool as BoolKind, Int as IntKind, Vec as VecKind}
 use Rattle.snesl_data.specs.Values.{an_int}
@@ -56,6 +58,19 @@ pub takes_where : (j k : Kind) (x : Cell) (r : Bool) → is_of j x ≡ true → 
 takes_where j k x r of_j is = (
   λ t. (takes_own j k).1 (one_kind j k x of_j (sym is ∙ t)),
   λ takes. is ∙ subst (λ i. is_of i x ≡ true) ((takes_own j k).0 takes) of_j,
+)
+
+same_itself : (a : Kind) → sameb the_type a a ≡ true
+same_itself UnitKind = refl
+same_itself BoolKind = refl
+same_itself IntKind = refl
+same_itself VecKind = refl
+
+-- what a comparison of two kinds tells
+pub same_takes : (j k : Kind) (r : Bool) → r ≡ sameb the_type j k → IsTrue r ↔ TakesKind (Some j) k
+same_takes j k r is = (
+  λ t. (takes_own j k).1 (same_true the_type (search rules) j k (sym is ∙ t)),
+  λ takes. is ∙ ap (λ x. sameb the_type x k) ((takes_own j k).0 takes) ∙ same_itself k,
 )
 
 -- an edge of no kind takes all items

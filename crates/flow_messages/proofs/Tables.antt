@@ -6,7 +6,7 @@ use Rattle.std.proofs.lemmas.List.Elements.{All-append}
 use Rattle.std.proofs.lemmas.Bool.{cases_eq, cases_Bool}
 use mathlib.Core.List.{IsPrefix}
 use Rattle.std.specs.List.{All}
-use Rattle.std.specs.Prelude.{Option, Some, None, Result, Ok, Err, OnOk, OnErr, IfErr, IfSome, IfNone, IsSome, ◌↔◌}
+use Rattle.std.specs.Prelude.{Option, Some, None, Result, Ok, Err, OnOk, OnErr, IfErr, IfSome, IfNone, IsSome, slice_get, ◌↔◌}
 use Rattle.flow_messages.specs.declared.message.Kind.{Kind}
 use Rattle.flow_messages.specs.declared.message.Msg.{Msg}
 use Rattle.flow_messages.specs.declared.line.Line.{Line}
@@ -289,3 +289,9 @@ if_none None f p = f p
 pub some_unless_empty : {X Y : Type 0} (r : Option X) (q : List Y) → 0 < length q → IfNone r (q ≡ []) → IsSome r
 some_unless_empty (Some x) q some none = refl
 some_unless_empty None q some none = absurd (omega (arith, some, ap length none))
+
+-- the kinds of lines, by their numbers
+pub kinds_at : (ls : List Line) (e : ℕ) → (view_of_lines ls).kind e ≡ slice_get (map (λ l. l.store.kind) ls) e
+kinds_at [] e = cc
+kinds_at (l ∷ ls) zero = cc
+kinds_at (l ∷ ls) (suc e) = kinds_at ls e

@@ -1,5 +1,5 @@
 -- What a run of integers holds.
-use Rattle.std.specs.Prelude.{◌≡◌, ◌+◌, ℤ, List, ◌++◌}
+use Rattle.std.specs.Prelude.{◌≡◌, ℤ, List, ◌++◌}
 use Rattle.flow_messages.specs.declared.int_run.IntRun.{IntRun}
 use Rattle.flow_messages.specs.Runs.{run_items}
 

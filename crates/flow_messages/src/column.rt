@@ -1,5 +1,6 @@
 // Items of one kind.
-ghost use Rattle.std.specs.Prelude.{◌≡◌, ◌≤◌, Some, [], ◌∷◌, ◌++◌, length, drop, IfOk, IfSome, IfNone};
+ghost use Rattle.std.specs.Prelude.{◌≡◌, ◌+◌, ◌≤◌, Some, [], ◌∷◌, ◌++◌, length, drop, IfOk, IfSome, IfNone};
+ghost use Rattle.std.specs.VecDeque.{deque_len, deque_capacity};
 ghost use mathlib.Core.List.{IsPrefix};
 ghost use Rattle.flow_messages.specs.Signals.{signal_of};
 ghost use Rattle.flow_messages.specs.Cells.{is_of};
@@ -143,5 +144,53 @@ impl Column {
             Column::Ints(ints) => ints.skip(count),
             Column::Vectors(queue) => drop_front(queue, count),
         }
+    }
+
+    /// Moves all items of another column of the same kind after its own, in order.
+    pub fn append(&mut self, other: &mut Column)
+        requires room { HasPlaces (length (column_messages other.old)) self.old }
+        requires kind { column_kind other.old ≡ column_kind self.old }
+        ensures moved { ColumnBecomes (column_messages self.old ++ column_messages other.old)
+            self.old self.new }
+        ensures emptied { ColumnBecomes [] other.old other.new }
+    {
+        match self {
+            Column::Units(count) => match other {
+                Column::Units(more) => {
+                    *count += *more;
+                    *more = 0;
+                }
+                _ => unreachable!(),
+            },
+            Column::Flags(flags) => match other {
+                Column::Flags(more) => {
+                    flags.put_all(more.held());
+                    let count = more.len();
+                    more.skip(count);
+                }
+                _ => unreachable!(),
+            },
+            Column::Ints(ints) => match other {
+                Column::Ints(more) => ints.append(more),
+                _ => unreachable!(),
+            },
+            Column::Vectors(queue) => match other {
+                Column::Vectors(more) => move_all(queue, more),
+                _ => unreachable!(),
+            },
+        }
+    }
+}
+
+// Moves all messages of one queue after those of another.
+fn move_all(queue: &mut VecDeque<Msg>, more: &mut VecDeque<Msg>)
+    requires room { deque_len queue.old + deque_len more.old ≤ deque_capacity queue.old }
+    ensures moved { queue.new.items ≡ queue.old.items ++ more.old.items }
+    ensures emptied { more.new.items ≡ [] }
+    ensures capacity { deque_capacity queue.new ≡ deque_capacity queue.old }
+    ensures other_capacity { deque_capacity more.new ≡ deque_capacity more.old }
+{
+    while let Some(message) = more.pop_front() {
+        queue.push_back_reserved(message);
     }
 }

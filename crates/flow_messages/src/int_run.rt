@@ -101,6 +101,22 @@ impl IntRun {
         self.narrow.skip(narrow);
         drop_front(&mut self.wide, count - narrow);
     }
+
+    /// Moves all integers of another run after its own, in order.
+    pub fn append(&mut self, other: &mut IntRun)
+        requires room { length (integers_in self.old) + length (integers_in other.old) ≤
+            self.old.most }
+        ensures moved { IntRunBecomes (integers_in self.old ++ integers_in other.old)
+            self.old self.new }
+        ensures emptied { IntRunBecomes [] other.old other.new }
+    {
+        self.put_all(other.narrow.held());
+        let narrow = other.narrow.len();
+        other.narrow.skip(narrow);
+        while let Some(number) = other.wide.pop_front() {
+            self.put(number);
+        }
+    }
 }
 
 /// Takes this many of the oldest from a queue.

@@ -130,8 +130,9 @@ impl Store {
     {
         let left = self.held - count;
         self.held = left;
-        // The end of the stream is the last of them.
-        if self.ends && left == 0 {
+        let all = self.ends & (left == 0);
+        if all {
+            // The end of the stream is the last of them.
             self.ends = false;
             self.column.skip(count - 1);
             return;
@@ -167,12 +168,10 @@ impl Store {
         if other.held == 0 {
             return;
         }
-        let items = other.shown();
-        let count = items.len();
-        self.put_all(items);
-        other.skip(count);
-        while let Some(message) = other.pop() {
-            self.push(message);
-        }
+        self.column.append(&mut other.column);
+        self.ends = other.ends;
+        self.held += other.held;
+        other.ends = false;
+        other.held = 0;
     }
 }

@@ -1,4 +1,4 @@
-use Rattle.std.proofs.Common.{false, length, refl, sym, ap, ◌∙◌, arith}
+use Rattle.std.proofs.Common.{length, refl, sym, ap, ◌∙◌, arith}
 use Rattle.flow_messages.specs.Signals.{has_end}
 use Rattle.flow_messages.proofs.Contents.{content-open}
 use Rattle.flow_messages.proofs.Signals.{ended-nil}

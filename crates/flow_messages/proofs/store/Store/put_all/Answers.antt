@@ -1,4 +1,4 @@
-use Rattle.std.proofs.Common.{◌++◌, length, refl, ap, ◌∙◌, arith, length-append}
+use Rattle.std.proofs.Common.{length, refl, ap, ◌∙◌, arith, length-append}
 use Rattle.flow_messages.specs.Columns.{column_messages, content}
 use Rattle.flow_messages.specs.Contents.{item_messages}
 use Rattle.flow_messages.proofs.Contents.{ends_not, length-content, open_put, put_items}

@@ -1,4 +1,4 @@
-use Rattle.std.proofs.Common.{subst, ap}
+use Rattle.std.proofs.Common.{subst}
 use Rattle.std.specs.Prelude.{Some}
 use Rattle.flow_messages.specs.Contents.{item_messages}
 use Rattle.flow_messages.specs.Kinds.{TakesItems}
