@@ -67,11 +67,11 @@ impl IntRun {
         requires room { length (integers_in self.old) + length numbers.now ≤ self.old.most }
         ensures { IntRunBecomes (integers_in self.old ++ numbers.now) self.old self.new }
     {
-        if self.wide.is_empty() {
-            self.narrow.put_all(numbers);
+        if !self.wide.is_empty() {
+            queue_all(&mut self.wide, numbers);
             return;
         }
-        queue_all(&mut self.wide, numbers);
+        self.narrow.put_all(numbers);
     }
 
     /// Takes the oldest.
