@@ -12,7 +12,8 @@ use Rattle.flow_shares.specs.meetings.BoxMeetings.{BoxesJoin, box_slots}
 use Rattle.flow_shares.specs.meetings.RingMeetings.{RingsJoin, ring_slots}
 use Rattle.flow_shares.specs.Deals.{AreJustDealt}
 use Rattle.flow_shares.specs.declared.share.Share.{Share}
-use Rattle.flow_shares.specs.meetings.Open.{edge_kinds, AreOwners, AreFreshEnds}
+use Rattle.flow_networks.specs.EdgeKinds.{edge_kinds}
+use Rattle.flow_shares.specs.meetings.Open.{AreOwners, AreFreshEnds}
 use Rattle.flow_shares.specs.declared.meetings.dealt.Dealt.{Dealt}
 use Rattle.flow_shares.specs.meetings.Deals.{nodes_in, ends_in, AreNew, IsDealt}
 use Rattle.flow_shares.specs.meetings.SharedNetworks.{SharedNetwork, shared_network}

@@ -8,6 +8,7 @@ pub mod Kept
 pub mod Wirings
 pub mod Graphs
 pub mod Standing
+pub mod EdgeKinds
 pub mod InPlace
 pub mod Skeletons
 pub mod Steps

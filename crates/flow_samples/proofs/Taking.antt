@@ -7,7 +7,8 @@ use Rattle.flow_messages.specs.Ends.{View}
 use Rattle.flow_messages.specs.Kinds.{TakesKind}
 use Rattle.flow_edges.proofs.OfLanes.RingLines.{at_line-there}
 use Rattle.flow_shares.specs.declared.meetings.owners.EdgeOwners.{EdgeOwners}
-use Rattle.flow_shares.specs.meetings.Open.{kind_at, HasFreshEnds}
+use Rattle.flow_networks.specs.EdgeKinds.{kind_at}
+use Rattle.flow_shares.specs.meetings.Open.{HasFreshEnds}
 use Rattle.flow_samples.specs.Taking.{AllTake}
 
 -- fresh ends of edges of one kind take all items of it

@@ -15,7 +15,6 @@
 mod dealing;
 mod dealt;
 mod gathering;
-mod kinds;
 mod meeting;
 mod meeting_boxes;
 mod meeting_everywhere;
@@ -31,7 +30,6 @@ mod theorems;
 pub use dealing::deal;
 pub use dealt::Dealt;
 pub use gathering::gather_graph;
-pub use kinds::kinds_of;
 pub use meeting::Meeting;
 pub use meeting_everywhere::meet_all;
 pub use opening::Opening;

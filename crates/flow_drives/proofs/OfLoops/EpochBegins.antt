@@ -19,7 +19,8 @@ use Rattle.flow_shares.specs.Deals.{share_of}
 use Rattle.flow_shares.proofs.Stays.{as_given}
 use Rattle.flow_shares.specs.declared.share.Share.{Share}
 use Rattle.flow_shares.specs.declared.meetings.dealt.Dealt.{Dealt}
-use Rattle.flow_shares.specs.meetings.Open.{edge_kinds, HasFreshEnds}
+use Rattle.flow_networks.specs.EdgeKinds.{edge_kinds}
+use Rattle.flow_shares.specs.meetings.Open.{HasFreshEnds}
 use Rattle.flow_shares.specs.meetings.Deals.{nodes_in, ends_in, IsDealt}
 use Rattle.flow_shares.specs.meetings.SharedNetworks.{SharedNetwork, shared_network, view_at}
 use Rattle.flow_drives.specs.loops.Epochs.{AreOfOneGraph}

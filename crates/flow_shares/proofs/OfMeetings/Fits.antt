@@ -17,7 +17,8 @@ use Rattle.flow_networks.proofs.Seats.{state_here, inputs_here, outputs_here, in
 use Rattle.flow_shares.specs.declared.meetings.owners.EdgeOwners.{EdgeOwners}
 use Rattle.flow_shares.specs.Deals.{share_of, node_at, AreJustDealt}
 use Rattle.flow_shares.specs.Shares.{row_of, StandOnce, HasItsEnds, HasHistory}
-use Rattle.flow_shares.specs.meetings.Open.{edge_kinds, kind_at, AreOwners, HasFreshEnds}
+use Rattle.flow_networks.specs.EdgeKinds.{edge_kinds, kind_at}
+use Rattle.flow_shares.specs.meetings.Open.{AreOwners, HasFreshEnds}
 use Rattle.flow_shares.specs.meetings.Deals.{MakeAShare}
 use Rattle.flow_shares.proofs.OfMeetings.More.{writes_there, reads_there}
 

@@ -12,7 +12,8 @@ use Rattle.flow_boxes.proofs.Changed.{everywhere}
 use Rattle.flow_shares.specs.declared.meetings.owners.EdgeOwners.{EdgeOwners}
 use Rattle.flow_shares.specs.meetings.Met.{Met}
 use Rattle.flow_shares.specs.meetings.Opens.{OpensAt}
-use Rattle.flow_shares.specs.meetings.Open.{kind_at, HasFreshEnds, AreFreshEnds}
+use Rattle.flow_networks.specs.EdgeKinds.{kind_at}
+use Rattle.flow_shares.specs.meetings.Open.{HasFreshEnds, AreFreshEnds}
 
 -- one owner more, as f reads it
 more_other : (f : EdgeOwners → Bool) (owners : List EdgeOwners) (owner : EdgeOwners) (k : ℕ) → k ≢ length owners → at_line f (owners ++ owner ∷ []) k false ≡ at_line f owners k false

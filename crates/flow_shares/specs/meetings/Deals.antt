@@ -12,7 +12,8 @@ use Rattle.flow_shares.specs.Deals.{AreJustDealt}
 use Rattle.flow_shares.specs.declared.share.Share.{Share}
 use Rattle.flow_shares.specs.Shares.{HasItsEnds, AreApart, IsOwn}
 use Rattle.flow_shares.specs.declared.meetings.dealt.Dealt.{Dealt}
-use Rattle.flow_shares.specs.meetings.Open.{edge_kinds, AreOwners, AreFreshEnds}
+use Rattle.flow_networks.specs.EdgeKinds.{edge_kinds}
+use Rattle.flow_shares.specs.meetings.Open.{AreOwners, AreFreshEnds}
 
 -- These nodes make a share with the ends of which this is seen.
 pub record MakeAShare {X : Type 0} {t : Ghosts X} (view : View) (nodes : List (Placed X t)) : Type 0 where

@@ -1,18 +1,13 @@
 -- Fresh ends of all edges, each in the share that its owner names.
-use Rattle.std.specs.Prelude.{◌≡◌, ◌==◌, ℕ, ◌<◌, true, false, List, [], length, map, slice_index_or}
+use Rattle.std.specs.Prelude.{◌≡◌, ◌==◌, ℕ, ◌<◌, true, false, List, [], length, slice_index_or}
 use Rattle.std.specs.declared.vec.Vec.{Vec}
 use Rattle.flow_messages.specs.declared.message.Kind.{Kind}
-use Rattle.flow_messages.specs.declared.message.Kind.TheVariants.{Unit as UnitKind}
 use Rattle.flow_messages.specs.Kinds.{TakesKind}
 use Rattle.flow_messages.specs.Ends.{View}
 use Rattle.flow_messages.specs.Tables.{at_line}
-use Rattle.flow_base.specs.Transducers.{Behaviour}
 use Rattle.flow_networks.specs.declared.edge.Edge.{Edge}
 use Rattle.flow_networks.specs.Edges.{edge_at}
-use Rattle.flow_base.specs.declared.transducer.Transducer.{Ghosts}
-use Rattle.flow_networks.specs.declared.graph.Graph.{Graph}
-use Rattle.flow_networks.specs.Graphs.{states_of, edges_of}
-use Rattle.flow_networks.specs.Networks.{state_at}
+use Rattle.flow_networks.specs.EdgeKinds.{kind_at}
 use Rattle.flow_shares.specs.declared.meetings.owners.EdgeOwners.{EdgeOwners}
 use Rattle.flow_shares.specs.meetings.Met.{Met}
 use Rattle.flow_shares.specs.Deals.{share_of}
@@ -22,14 +17,6 @@ pub record AreOwners (share : List ℕ) (edges : List Edge) (owners : List EdgeO
   pub count : length owners ≡ length edges
   pub writers : (e : ℕ) (w : EdgeOwners) → e < length edges → (slice_index_or owners e w).writer ≡ share_of share (edge_at edges e).writer
   pub readers : (e : ℕ) (w : EdgeOwners) → e < length edges → (slice_index_or owners e w).reader ≡ share_of share (edge_at edges e).reader
-
--- of each edge, the kind of the items at its writer's port
-abbrev pub edge_kinds : {S : Type 0} → Behaviour S → List S → List Edge → List Kind
-edge_kinds b states edges = map (λ edge. b.kind_out (state_at b states edge.writer) edge.writer_port) edges
-
--- the kind of edge e
-abbrev pub kind_at : List Kind → ℕ → Kind
-kind_at kinds e = slice_index_or kinds e UnitKind
 
 -- Share s has just the ends that the owners name it for, and they are fresh.
 pub record HasFreshEnds (owners : List EdgeOwners) (kinds : List Kind) (capacity s : ℕ) (v : View) : Type 0 where
@@ -56,10 +43,6 @@ pub record AreFreshEnds {X : Type 0} (view : X → View) (joins : X → X → �
   -- the two ends of each edge stand as after a meeting
   pub met : (e : ℕ) (w : EdgeOwners) (d : X) → e < length owners → let owner = slice_index_or owners e w in
       Met (view (slice_index_or ends owner.writer d)) (view (slice_index_or ends owner.reader d)) capacity e
-
--- the kinds of the edges of a graph
-abbrev pub graph_kinds : {X : Type 0} {t : Ghosts X} → Graph X t → List Kind
-graph_kinds {X} {t} graph = edge_kinds t.behaviour (states_of graph) (edges_of graph)
 
 -- the same as `AreFreshEnds`, of a vector
 abbrev pub AreOpenEnds : {X Z : Type 0} → (X → View) → (X → X → ℕ → Type 0) → (X → ℕ → ℕ) → List EdgeOwners → List Kind → ℕ → Vec X Z → Type 0

@@ -8,14 +8,13 @@ ghost use Rattle.flow_shares.specs.Deals.{lists_in};
 ghost use Rattle.flow_shares.specs.meetings.Deals.{MakeAShare, nodes_in, ends_in, AreNew, IsDealt};
 
 use crate::meetings::dealt::Dealt;
-use crate::meetings::kinds::kinds_of;
 use crate::meetings::opening::Opening;
 use crate::meetings::opening_everywhere::open_all;
 use crate::meetings::owners::owners_of;
 use crate::{Share, deal_nodes};
 use flow_base::Transducer;
 use flow_messages::Ends;
-use flow_networks::{Graph, Placed};
+use flow_networks::{Graph, Placed, kinds_of};
 use std::alloc::{AllocError, Global};
 
 /// Deals a graph out to so many shares: node `k` goes to the share that `share` names for it, with the ends of the edges

@@ -4,7 +4,8 @@ use Rattle.std.proofs.lemmas.List.{take_more, length-take-le}
 use Rattle.std.proofs.lemmas.List.Elements.{All-take}
 use Rattle.flow_shares.specs.declared.meetings.owners.EdgeOwners.{EdgeOwners}
 use Rattle.flow_shares.specs.meetings.Opens.{OpensAt}
-use Rattle.flow_shares.specs.meetings.Open.{kind_at, AreFreshEnds}
+use Rattle.flow_networks.specs.EdgeKinds.{kind_at}
+use Rattle.flow_shares.specs.meetings.Open.{AreFreshEnds}
 use Rattle.flow_shares.proofs.OfMeetings.Lists.{written_back}
 use Rattle.flow_shares.proofs.OfMeetings.More.{open_more}
 use Rattle.flow_shares.proofs.OfMeetings.Refused.{none_given}

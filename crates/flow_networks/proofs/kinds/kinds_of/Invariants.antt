@@ -1,7 +1,7 @@
 use Rattle.std.proofs.Common.{◌≡◌, take}
 use Rattle.flow_networks.specs.Graphs.{states_of, edges_of}
-use Rattle.flow_shares.specs.meetings.Open.{edge_kinds}
-use Rattle.flow_shares.proofs.meetings.kinds.kinds_of.Given as goal
+use Rattle.flow_networks.specs.EdgeKinds.{edge_kinds}
+use Rattle.flow_networks.proofs.kinds.kinds_of.Given as goal
 
 abbrev pub invariant-loop-number : goal.invariant-loop-number
 invariant-loop-number g l = record {

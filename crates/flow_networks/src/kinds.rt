@@ -1,10 +1,10 @@
 // The kinds of the edges of a graph.
 ghost use Rattle.std.specs.Prelude.{◌≡◌, IfOk};
-ghost use Rattle.flow_shares.specs.meetings.Open.{graph_kinds};
+ghost use Rattle.flow_networks.specs.EdgeKinds.{graph_kinds};
 
+use crate::graph::Graph;
 use flow_base::Transducer;
 use flow_messages::Kind;
-use flow_networks::Graph;
 use std::alloc::{AllocError, Global};
 
 /// Of each edge of the graph, the kind of its items: that of its writer's port.
