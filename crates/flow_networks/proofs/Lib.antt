@@ -17,6 +17,7 @@ pub mod BlockNodes
 pub mod Drawn
 pub mod NodeEnds
 pub mod Shapes
+pub mod EdgeKinds
 pub mod Skeletons
 pub mod Flows
 pub mod Replacements

@@ -1,8 +1,8 @@
 -- The ends of the edges at the ports of one node.
-use Rattle.std.proofs.Common.{◌≡◌, ℕ, ◌<◌, true, List, length, get_or, sym, ◌∙◌, ap, subst, refl, arith}
+use Rattle.std.proofs.Common.{◌≡◌, ℕ, ◌<◌, true, List, length, get_or, sym, ◌∙◌, ap, subst, arith}
 use Rattle.std.specs.List.{All}
 use Rattle.std.proofs.lemmas.List.{get_or_default}
-use Rattle.std.specs.Prelude.{None, Bool, IsTrue, ◌↔◌}
+use Rattle.std.specs.Prelude.{Bool, IsTrue, ◌↔◌}
 use Rattle.flow_messages.specs.declared.message.Kind.{Kind}
 use Rattle.flow_messages.specs.Kinds.{TakesKind}
 use Rattle.flow_messages.specs.Ends.{View}
@@ -12,7 +12,7 @@ use Rattle.flow_networks.specs.declared.edge.Edge.{Edge}
 use Rattle.flow_networks.specs.declared.graph.Graph.{Graph}
 use Rattle.flow_networks.specs.declared.placed.Placed.{Placed}
 use Rattle.flow_networks.specs.Edges.{in_edge, out_edge}
-use Rattle.flow_networks.specs.Networks.{state_at, inputs_at, outputs_at, IsJoined, HasEnds, EdgesTake}
+use Rattle.flow_networks.specs.Networks.{inputs_at, outputs_at, IsJoined, HasEnds}
 use Rattle.flow_networks.specs.Visits.{HasAllEnds}
 use Rattle.flow_networks.specs.Graphs.{states_of, edges_of}
 use Rattle.flow_networks.specs.Places.{placed_state}
@@ -58,10 +58,3 @@ module _ {X : Type 0} {t : Ghosts X} {graph : Graph X t} {k : ℕ} {x : Placed X
         let same = is_kind ∙ ap (λ s. t.behaviour.kind_out s q) (stands at) in
         subst (λ f. IsTrue r ↔ TakesKind (view.kind f) (t.behaviour.kind_out (stand_at graph k) q)) (edge_there q e l read)
         (subst (λ j. IsTrue r ↔ TakesKind (view.kind e) j) same takes)
-
--- an edge of no kind takes all items
-pub any_kind : (v : View) (e : ℕ) (k : Kind) → ((e : ℕ) → v.kind e ≡ None) → TakesKind (v.kind e) k
-any_kind v e k any = subst (λ of. TakesKind of k) (sym (any e)) (λ s is. refl)
-
-pub any_takes : {S : Type 0} (b : Behaviour S) (states : List S) (edges : List Edge) (k : ℕ) (view : View) → ((e : ℕ) → view.kind e ≡ None) → EdgesTake b states edges k view
-any_takes b states edges k view any q l = any_kind view (out_edge edges k q) (b.kind_out (state_at b states k) q) any

@@ -1,6 +1,7 @@
 // Passes over some nodes.
 ghost use Rattle.std.specs.Prelude.{◌≡◌, ◌<◌, true, length, IfOk};
 ghost use Rattle.std.specs.List.{All};
+ghost use Rattle.flow_networks.specs.EdgeKinds.{EdgesTakeAll};
 ghost use Rattle.flow_networks.specs.Graphs.{states_of, edges_of};
 ghost use Rattle.flow_networks.specs.Shapes.{KeepsShape};
 ghost use Rattle.flow_networks.specs.Visits.{HasAllEnds};
@@ -21,6 +22,7 @@ pub fn pass_over<T: Transducer, E: WholeEnds>(
     requires inside { All (λ k. k < length (states_of graph.old)) nodes.now }
     requires some { 0 < chunk }
     requires ends { HasAllEnds (length (edges_of graph.old)) (E.view ends.old) }
+    requires kinds { EdgesTakeAll graph.old (E.view ends.old) }
     ensures shape { KeepsShape E.same E.view graph.old ends.old graph.new ends.new }
     ensures visits { VisitAll E.capacity E.view nodes.now graph.old ends.old graph.new ends.new
         result }

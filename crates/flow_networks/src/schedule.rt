@@ -1,6 +1,7 @@
 // Graphs stepped by a schedule until no node can step.
 ghost use Rattle.std.specs.Prelude.{◌<◌, ◌≤◌, length, IfOk, OnOk};
 ghost use Rattle.flow_messages.specs.Limits.{greatest_capacity};
+ghost use Rattle.flow_networks.specs.EdgeKinds.{EdgesTakeAll};
 ghost use Rattle.flow_networks.specs.Graphs.{states_of, edges_of};
 ghost use Rattle.flow_networks.specs.MaximalRuns.{RunReaches};
 ghost use Rattle.flow_networks.specs.Networks.{AreOpened};
@@ -9,6 +10,7 @@ ghost use Rattle.flow_networks.specs.Shapes.{KeepsShape};
 ghost use Rattle.flow_networks.specs.Visits.{HasAllEnds};
 
 use crate::graph::Graph;
+use crate::kinds::kinds_of;
 use crate::serial::run_serial;
 use crate::settled::Settled;
 use crate::whole_step::step_whole;
@@ -36,7 +38,8 @@ pub fn settle<T: Transducer + Drop>(
     ensures network { IfOk result (λ settled. IsOfNetwork graph settled) }
     ensures run { IfOk result (λ settled. IsEndOfRun graph capacity settled) }
 {
-    let mut ends = Table::new(alloc, graph.edges(), capacity)?;
+    let kinds = kinds_of(alloc, &graph)?;
+    let mut ends = Table::new(alloc, &kinds, capacity)?;
     let mut graph = graph;
     step_named(&mut graph, &mut ends, schedule)?;
     run_serial(alloc, &mut graph, &mut ends, 1)?;
@@ -50,6 +53,7 @@ fn step_named<T: Transducer, E: WholeEnds>(
     numbers: &[usize],
 ) -> Result<(), AllocError>
     requires ends { HasAllEnds (length (edges_of graph.old)) (E.view ends.old) }
+    requires kinds { EdgesTakeAll graph.old (E.view ends.old) }
     requires reached { RunReaches (E.capacity ends.old) graph.old graph.old (E.view ends.old) }
     ensures shape { KeepsShape E.same E.view graph.old ends.old graph.new ends.new }
     ensures run { OnOk result (RunReaches (E.capacity ends.old) graph.old graph.new (E.view

@@ -1,6 +1,7 @@
 // Passes over all nodes of a graph, in one thread.
 ghost use Rattle.std.specs.Prelude.{◌<◌, ℕ, length, IfOk, OnOk};
 ghost use Rattle.std.specs.List.{All, Contains};
+ghost use Rattle.flow_networks.specs.EdgeKinds.{EdgesTakeAll};
 ghost use Rattle.flow_networks.specs.Graphs.{states_of, edges_of};
 ghost use Rattle.flow_networks.specs.Shapes.{KeepsShape};
 ghost use Rattle.flow_networks.specs.Visits.{HasAllEnds};
@@ -29,6 +30,7 @@ pub fn run_serial<T: Transducer, E: WholeEnds>(
 ) -> Result<(), AllocError>
     requires some { 0 < chunk }
     requires ends { HasAllEnds (length (edges_of graph.old)) (E.view ends.old) }
+    requires kinds { EdgesTakeAll graph.old (E.view ends.old) }
     requires reached { RunReaches (E.capacity ends.old) graph.old graph.old (E.view ends.old) }
     ensures shape { KeepsShape E.same E.view graph.old ends.old graph.new ends.new }
     ensures run { OnOk result (RunEndsAt (E.capacity ends.old) graph.old graph.new

@@ -1,5 +1,6 @@
 // Visits of single nodes.
 ghost use Rattle.std.specs.Prelude.{◌<◌, ◌∷◌, [], length, OnErr};
+ghost use Rattle.flow_networks.specs.EdgeKinds.{EdgesTakeAll};
 ghost use Rattle.flow_networks.specs.Graphs.{states_of, edges_of};
 ghost use Rattle.flow_networks.specs.Shapes.{KeepsShape};
 ghost use Rattle.flow_networks.specs.Visits.{HasAllEnds};
@@ -24,6 +25,7 @@ impl<T: Transducer> Graph<T> {
         requires inside { node < length (states_of self.old) }
         requires some { 0 < chunk }
         requires ends { HasAllEnds (length (edges_of self.old)) (E.view ends.old) }
+        requires kinds { EdgesTakeAll self.old (E.view ends.old) }
         ensures shape { KeepsShape E.same E.view self.old ends.old self.new ends.new }
         ensures visits { VisitAll E.capacity E.view (node ∷ []) self.old ends.old self.new ends.new
             result }

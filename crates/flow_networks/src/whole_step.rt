@@ -3,7 +3,7 @@ ghost use Rattle.std.specs.Prelude.{◌<◌, length};
 ghost use Rattle.flow_networks.specs.Graphs.{states_of};
 ghost use Rattle.flow_networks.specs.Shapes.{KeepsShape};
 ghost use Rattle.flow_networks.specs.Turns.{TakesTurn, MakesTurn};
-ghost use Rattle.flow_networks.specs.Standing.{NodeHasEnds};
+ghost use Rattle.flow_networks.specs.Standing.{NodeHasEnds, NodeEdgesTake};
 
 use crate::graph::Graph;
 use crate::step::{Stepped, step_once};
@@ -23,6 +23,7 @@ pub fn step_whole<T: Transducer, E: WholeEnds>(
 ) -> Result<Stepped, AllocError>
     requires inside { node < length (states_of graph.old) }
     requires ends { NodeHasEnds graph.old node (E.view ends.old) }
+    requires kinds { NodeEdgesTake graph.old node (E.view ends.old) }
     ensures shape { KeepsShape E.same E.view graph.old ends.old graph.new ends.new }
     ensures turn { TakesTurn E.view node graph.old ends.old graph.new ends.new result }
     ensures network { MakesTurn E.capacity E.view node graph.old ends.old graph.new ends.new

@@ -2,11 +2,15 @@ use Rattle.std.proofs.Common.{◌≡◌, ◌||◌, ◌+◌, Bool, [], ◌∷◌,
 use Rattle.std.proofs.lemmas.List.{take_all}
 use Rattle.std.proofs.Math.Seq.{take-suc}
 use Rattle.flow_networks.specs.Graphs.{states_of, edges_of}
+use Rattle.flow_networks.proofs.EdgeKinds.{edges_take_still}
 use Rattle.flow_networks.proofs.Nets.{graph_wired}
 use Rattle.flow_networks.proofs.Shapes.{shape_refl, shape_then}
 use Rattle.flow_networks.specs.Visits.{Visits}
 use Rattle.flow_networks.proofs.VisitedGraphs.{visits_none, visits_push}
 use Rattle.flow_networks.proofs.pass.pass_over.Goals as goal
+
+pub visit-requires-clause-kinds : goal.visit-requires-clause-kinds
+visit-requires-clause-kinds g c = edges_take_still g.met.T.Transducer.laws c.loop-node.invariant.shape c.requires.kinds
 
 pub returns-in_err-moved-clause-shape : goal.returns-in_err-moved-clause-shape
 returns-in_err-moved-clause-shape g c =

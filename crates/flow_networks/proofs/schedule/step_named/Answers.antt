@@ -1,6 +1,7 @@
-use Rattle.std.proofs.Common.{◌≡◌, sym, subst}
+use Rattle.std.proofs.Common.{◌≡◌, sym, subst, arith}
 use Rattle.flow_networks.specs.MaximalRuns.{RunReaches}
 use Rattle.flow_networks.specs.Shapes.{KeepsShape}
+use Rattle.flow_networks.proofs.EdgeKinds.{edges_take_still}
 use Rattle.flow_networks.proofs.Settling.{turn_reached}
 use Rattle.flow_networks.proofs.Shapes.{shape_then}
 use Rattle.flow_networks.proofs.schedule.step_named.Goals as goal
@@ -9,6 +10,10 @@ use Rattle.flow_networks.proofs.schedule.step_named.Goals.{then-number-nodes+in_
 -- what holds of two values holds of those that are the same
 of_both : {A B : Type 0} (P : A → B → Type 0) (x y : A) (u v : B) → x ≡ y → u ≡ v → P y v → P x u
 of_both P x y u v is are p = subst (λ z. P z u) (sym is) (subst (P y) (sym are) p)
+
+pub step_whole-requires-clause-kinds : goal.step_whole-requires-clause-kinds
+step_whole-requires-clause-kinds g c =
+    edges_take_still g.met.T.Transducer.laws c.loop-number.invariant.shape c.requires.kinds _ (omega (arith, c.if-number-nodes.true, c.nodes.ensures))
 
 pub loop-number-preserved : goal.loop-number-preserved
 loop-number-preserved g c =

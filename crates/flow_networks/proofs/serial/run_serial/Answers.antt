@@ -1,5 +1,6 @@
 use Rattle.std.proofs.Common.{◌≡◌, inl, length, arith}
 use Rattle.flow_networks.specs.Graphs.{states_of}
+use Rattle.flow_networks.proofs.EdgeKinds.{edges_take_still}
 use Rattle.flow_networks.proofs.Shapes.{shape_refl, shape_then}
 use Rattle.flow_networks.proofs.Passes.{pass_over_running}
 use Rattle.flow_networks.proofs.serial.run_serial.Goals as goal
@@ -14,6 +15,9 @@ passes-init g c =
       others = λ k inside. inl (c.in_ok-running.ensures.all k (omega (arith, count, inside)));
       more = omega arith;
     }
+
+pub pass_over-requires-clause-kinds : goal.pass_over-requires-clause-kinds
+pass_over-requires-clause-kinds g c = edges_take_still g.met.T.Transducer.laws c.passes.invariant.shape c.requires.kinds
 
 pub returns-in_err-moved-clause-shape : goal.returns-in_err-moved-clause-shape
 returns-in_err-moved-clause-shape g c =

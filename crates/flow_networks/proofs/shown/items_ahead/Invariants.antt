@@ -1,4 +1,4 @@
-use Rattle.std.proofs.Common.{◌≡◌, ◌-◌, false, take}
+use Rattle.std.proofs.Common.{◌≡◌, false, take}
 use Rattle.arrayvec.specs.ArrayVec.{array_vec_len}
 use Rattle.flow_messages.specs.Blocks.{item_signals}
 use Rattle.flow_messages.specs.Flats.{flat_signals}

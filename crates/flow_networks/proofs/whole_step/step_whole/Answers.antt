@@ -1,14 +1,10 @@
 use Rattle.std.proofs.Common.{subst}
 use Rattle.flow_messages.specs.Whole.{IsWhole}
-use Rattle.flow_networks.specs.Graphs.{states_of, edges_of}
-use Rattle.flow_networks.proofs.NodeEnds.{any_takes}
 use Rattle.flow_networks.proofs.Turns.{turns_network}
 use Rattle.flow_networks.proofs.whole_step.step_whole.Goals as goal
 
 pub step_once-requires-clause-kinds : goal.step_once-requires-clause-kinds
-step_once-requires-clause-kinds g c =
-    any_takes g.T.Transducer.behaviour (states_of c.args.graph.now) (edges_of c.args.graph.now) c.args.node (g.E.Ends.view c.args.ends.now)
-    (g.met.E.WholeEnds.whole c.args.ends.now).any
+step_once-requires-clause-kinds g c = c.requires.kinds
 
 pub returns-clause-network : goal.returns-clause-network
 returns-clause-network g c =

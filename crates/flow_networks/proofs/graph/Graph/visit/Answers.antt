@@ -1,7 +1,8 @@
 use Rattle.std.proofs.Common.{refl, subst}
 use Rattle.flow_messages.specs.Whole.{IsWhole}
+use Rattle.flow_networks.proofs.BlockNodes.{node_takes}
 use Rattle.flow_networks.proofs.GraphNodes.{is_node, later_openings, later_built, later_seated}
-use Rattle.flow_networks.proofs.NodeEnds.{all_graph_ends, any_kind, ends_reads, ends_writes}
+use Rattle.flow_networks.proofs.NodeEnds.{all_graph_ends, ends_reads, ends_writes}
 use Rattle.flow_networks.proofs.Reached.{if_ok_if, on_err}
 use Rattle.flow_networks.proofs.Shapes.{shape_opened}
 use Rattle.flow_networks.proofs.Visits.{node_visits, node_broke}
@@ -18,7 +19,9 @@ run-requires-clause-writes g c =
     ends_writes at (g.E.Ends.view c.args.ends.now) (all_graph_ends c.args.self.now (g.E.Ends.view c.args.ends.now) c.requires.ends c.args.node)
 
 pub run-requires-clause-kinds : goal.run-requires-clause-kinds
-run-requires-clause-kinds g c q l = any_kind (g.E.Ends.view c.args.ends.now) _ _ (g.met.E.WholeEnds.whole c.args.ends.now).any
+run-requires-clause-kinds g c =
+    let at = is_node c.args.self.now c.args.node c.index_mut.result.now c.requires.inside c.index_mut.ensures.value in
+    node_takes at (g.E.Ends.view c.args.ends.now) (c.requires.kinds c.args.node c.requires.inside)
 
 pub invariant_of-self : goal.invariant_of-self
 invariant_of-self g c =
