@@ -1,4 +1,5 @@
 -- The messages of a column, and the end of the stream after them.
+use mir.Val.{bool_byte}
 use Rattle.std.proofs.Common.{◌≡◌, ℕ, zero, suc, ◌+◌, ◌-◌, ◌≤◌, ◌<◌, ◌&&◌, Bool, true, false, List, [], ◌∷◌, ◌++◌, length, drop, take, get_or, ℤ}
 use Rattle.std.proofs.Common.{refl, sym, ap, ◌∙◌, ◌⊎◌, inl, inr, arith, append_assoc, append-nil, length-append, length-drop}
 use Rattle.std.proofs.lemmas.List.{drop-append-le, map-append, take-append-drop}
@@ -114,6 +115,11 @@ may_follow a ends ms last some = by_end (cases_Bool (has_end (content a ends))) 
   by_end : (has_end (content a ends) ≡ true) ⊎ (has_end (content a ends) ≡ false) → ends ≡ false
   by_end (inl ended) = absurd (omega (arith, some, ap length (last ended)))
   by_end (inr free) = ends_not a ends free
+
+-- how many messages come after the items
+pub count_ending : (ends : Bool) (n : ℕ) → n ≡ bool_byte ends → n ≡ length (ending ends)
+count_ending true n is = is
+count_ending false n is = is
 
 -- how many messages are left after a skip tells whether the end is gone
 pub all_gone : (ends : Bool) (left : ℕ) → (ends && nat_eq left 0) ≡ true → (length (ending ends) ≡ 1) × (left ≡ 0)

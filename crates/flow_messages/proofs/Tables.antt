@@ -295,3 +295,13 @@ pub kinds_at : (ls : List Line) (e : ℕ) → (view_of_lines ls).kind e ≡ slic
 kinds_at [] e = cc
 kinds_at (l ∷ ls) zero = cc
 kinds_at (l ∷ ls) (suc e) = kinds_at ls e
+
+-- what an answer gives that is not none
+pub given : {X : Type 0} {P : X → Type 0} {Q : Type 0} (r : Option X) → IfSome r P → IfNone r Q → (Q → ⊥) → (x : X) × P x
+given (Some x) some none never = (x, some)
+given None some none never = absurd (never none)
+
+-- so what follows from none follows
+pub never_none : {X : Type 0} {Q : Type 0} (R : Type 0) (r : Option X) → IfNone r Q → (Q → ⊥) → IfNone r R
+never_none R (Some x) none never = tt
+never_none R None none never = absurd (never none)

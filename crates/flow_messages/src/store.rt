@@ -110,15 +110,16 @@ impl Store {
         ensures kind { self.new.kind ≡ self.old.kind }
         ensures capacity { self.new.capacity ≡ self.old.capacity }
     {
-        if let Some(message) = self.column.take() {
+        // What the column gives goes on as it is: to look into it would copy it.
+        if self.held > usize::from(self.ends) {
             self.held -= 1;
-            return Some(message);
+            return self.column.take();
         }
         if !self.ends {
             return None;
         }
         self.ends = false;
-        self.held -= 1;
+        self.held = 0;
         Some(Msg::End)
     }
 
