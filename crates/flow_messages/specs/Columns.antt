@@ -27,34 +27,34 @@ column_kind (IntColumn r) = IntKind
 column_kind (VectorColumn q) = VecKind
 
 -- how many items it has memory for; a unit takes none
-abbrev pub places : Column → ℕ
-places (UnitColumn n) = 2 ^ 64 - 1
-places (FlagColumn r) = r.most
-places (IntColumn r) = r.most
-places (VectorColumn q) = deque_capacity q
+abbrev pub reserved : Column → ℕ
+reserved (UnitColumn n) = 2 ^ 64 - 1
+reserved (FlagColumn r) = r.most
+reserved (IntColumn r) = r.most
+reserved (VectorColumn q) = deque_capacity q
 
--- there is memory for so many items more
-abbrev pub HasPlaces : ℕ → Column → Type 0
-HasPlaces n c = length (column_messages c) + n ≤ places c
+-- memory for so many items more is reserved
+abbrev pub HasMemoryFor : ℕ → Column → Type 0
+HasMemoryFor n c = length (column_messages c) + n ≤ reserved c
 
 -- the column has these messages now, of the same kind, and as much memory as before
 pub record ColumnBecomes (ms : List Msg) (a b : Column) : Type 0 where
   pub messages : column_messages b ≡ ms
   pub kind : column_kind b ≡ column_kind a
-  pub places : places b ≡ places a
+  pub reserved : reserved b ≡ reserved a
 
 -- m, the oldest message, was taken from the column
 pub record ColumnTook (m : Msg) (a b : Column) : Type 0 where
   pub first : column_messages a ≡ m ∷ column_messages b
   pub kind : column_kind b ≡ column_kind a
-  pub places : places b ≡ places a
+  pub reserved : reserved b ≡ reserved a
 
 -- the column holds nothing, as before
 pub record ColumnFoundNone (a b : Column) : Type 0 where
   pub before : column_messages a ≡ []
   pub after : column_messages b ≡ []
   pub kind : column_kind b ≡ column_kind a
-  pub places : places b ≡ places a
+  pub reserved : reserved b ≡ reserved a
 
 -- the message carries an item of this kind
 abbrev pub IsItemOf : Kind → Msg → Type 0

@@ -25,13 +25,13 @@ pub enum Column {
 }
 
 impl Column {
-    ghost use Rattle.flow_messages.specs.Columns.{column_kind, column_messages, ColumnBecomes, ColumnFoundNone, ColumnTook, HasPlaces, IsItemOf, places};
+    ghost use Rattle.flow_messages.specs.Columns.{column_kind, column_messages, ColumnBecomes, ColumnFoundNone, ColumnTook, HasMemoryFor, IsItemOf, reserved};
 
     /// No item, and memory for so many. Its only error is that memory was refused.
     pub fn new(alloc: Global, kind: Kind, most: usize) -> Result<Column, AllocError>
         ensures empty { IfOk result (λ column. column_messages column ≡ []) }
         ensures kind { IfOk result (λ column. column_kind column ≡ kind) }
-        ensures places { IfOk result (λ column. most ≤ places column) }
+        ensures reserved { IfOk result (λ column. most ≤ reserved column) }
     {
         Ok(match kind {
             Kind::Unit => Column::Units(0),
@@ -69,7 +69,7 @@ impl Column {
     /// Puts an item of its kind after all others.
     #[inline(always)]
     pub fn push(&mut self, message: Msg)
-        requires room { HasPlaces 1 self.old }
+        requires room { HasMemoryFor 1 self.old }
         requires kind { IsItemOf (column_kind self.old) message }
         ensures { ColumnBecomes (column_messages self.old ++ message ∷ []) self.old self.new }
     {
@@ -90,7 +90,7 @@ impl Column {
     /// Puts these items, which are of its kind, after all others.
     #[inline(always)]
     pub fn put_all(&mut self, items: Items<'_>)
-        requires room { HasPlaces (length (item_messages items)) self.old }
+        requires room { HasMemoryFor (length (item_messages items)) self.old }
         requires kind { TakesItems (Some (column_kind self.old)) items }
         ensures { ColumnBecomes (column_messages self.old ++ item_messages items.entry)
             self.old self.new }
@@ -148,7 +148,7 @@ impl Column {
 
     /// Moves all items of another column of the same kind after its own, in order.
     pub fn append(&mut self, other: &mut Column)
-        requires room { HasPlaces (length (column_messages other.old)) self.old }
+        requires room { HasMemoryFor (length (column_messages other.old)) self.old }
         requires kind { column_kind other.old ≡ column_kind self.old }
         ensures moved { ColumnBecomes (column_messages self.old ++ column_messages other.old)
             self.old self.new }

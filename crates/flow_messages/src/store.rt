@@ -4,7 +4,7 @@ ghost use mathlib.Core.List.{IsPrefix};
 ghost use Rattle.flow_messages.specs.Signals.{signals, has_end};
 ghost use Rattle.flow_messages.specs.Flats.{scalar_first};
 ghost use Rattle.flow_messages.specs.Contents.{item_messages};
-ghost use Rattle.flow_messages.specs.Columns.{column_kind, column_messages, content, places};
+ghost use Rattle.flow_messages.specs.Columns.{column_kind, column_messages, content, reserved};
 
 use crate::column::Column;
 use crate::items::Items;
@@ -25,7 +25,7 @@ pub struct Store {
     ghost bound: { held ≤ capacity },
     ghost of_kind: { column_kind column ≡ kind },
     ghost items: { has_end (column_messages column) ≡ false },
-    ghost reserved: { capacity ≤ places column },
+    ghost reserved: { capacity ≤ reserved column },
 }
 
 impl Store {

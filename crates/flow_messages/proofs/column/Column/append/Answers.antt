@@ -8,5 +8,5 @@ pub returns-in-Units-other-clause-moved : goal.returns-in-Units-other-clause-mov
 returns-in-Units-other-clause-moved c = rw (c.in-Units.is, c.in-Units-other.is) record {
   messages = sym (replicate-append-replicate c.in-Units.count c.in-Units-other.more (ItemMsg UnitItem));
   kind = refl;
-  places = refl;
+  reserved = refl;
 }

@@ -28,5 +28,5 @@ pub returns-in-Units-self : goal.returns-in-Units-self
 returns-in-Units-self c = rw (c.in-Units-self.is, c.in-Units.is) record {
   messages = sym (replicate-append-replicate c.in-Units-self.count c.in-Units.more (ItemMsg UnitItem));
   kind = refl;
-  places = refl;
+  reserved = refl;
 }

@@ -11,19 +11,19 @@ pub returns-in-Units : goal.returns-in-Units
 returns-in-Units c = rw c.in-Units.is record {
   messages = sym (drop-replicate c.args.count c.in-Units.units (ItemMsg UnitItem));
   kind = refl;
-  places = refl;
+  reserved = refl;
 }
 
 pub returns-in-Flags : goal.returns-in-Flags
 returns-in-Flags c = rw c.in-Flags.is record {
   messages = ap flag_messages c.skip.ensures.items ∙ sym (drop-map (λ b. ItemMsg (BoolItem b)) c.args.count (run_items c.in-Flags.flags));
   kind = refl;
-  places = c.skip.ensures.most;
+  reserved = c.skip.ensures.most;
 }
 
 pub returns-in-Ints : goal.returns-in-Ints
 returns-in-Ints c = rw c.in-Ints.is record {
   messages = ap int_messages c.skip-in-Ints.ensures.items ∙ sym (drop-map (λ n. ItemMsg (IntItem n)) c.args.count (integers_in c.in-Ints.ints));
   kind = refl;
-  places = c.skip-in-Ints.ensures.most;
+  reserved = c.skip-in-Ints.ensures.most;
 }

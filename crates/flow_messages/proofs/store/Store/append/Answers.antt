@@ -24,7 +24,7 @@ invariant_of-self c =
       bound = omega (arith, s.counts, o.counts, c.requires.room);
       of_kind = new.kind ∙ s.of_kind;
       items = rw new.messages (open_put (column_messages s.column) (column_messages o.column) s.items o.items);
-      reserved = omega (arith, s.reserved, new.places);
+      reserved = omega (arith, s.reserved, new.reserved);
     }
 
 pub invariant_of-other : goal.invariant_of-other
@@ -36,7 +36,7 @@ invariant_of-other c =
       bound = omega arith;
       of_kind = new.kind ∙ o.of_kind;
       items = ap has_end new.messages ∙ ended-nil;
-      reserved = omega (arith, o.reserved, new.places);
+      reserved = omega (arith, o.reserved, new.reserved);
     }
 
 pub returns-clause-moved : goal.returns-clause-moved

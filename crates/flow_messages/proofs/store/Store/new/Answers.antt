@@ -12,7 +12,7 @@ invariant_of-result c =
       bound = omega arith;
       of_kind = new.kind;
       items = ap has_end new.empty ∙ ended-nil;
-      reserved = new.places;
+      reserved = new.reserved;
     }
 
 pub returns : goal.returns

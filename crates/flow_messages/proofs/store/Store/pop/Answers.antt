@@ -26,7 +26,7 @@ invariant_of-self c =
       bound = omega (arith, s.bound);
       of_kind = took.kind ∙ s.of_kind;
       items = open_tail item.0 (column_messages c.take.new.self) (column_messages s.column) took.first s.items;
-      reserved = omega (arith, s.reserved, took.places);
+      reserved = omega (arith, s.reserved, took.reserved);
     }
 
 pub returns-then-self-from-clause-some : goal.returns-then-self-from-clause-some

@@ -50,7 +50,7 @@ invariant_of-self-2 c =
       bound = omega (arith, s.counts, c.requires.room);
       of_kind = new.kind ∙ s.of_kind;
       items = rw new.messages (open_put (column_messages s.column) one s.items (not_end c.args.message goes));
-      reserved = omega (arith, s.reserved, new.places);
+      reserved = omega (arith, s.reserved, new.reserved);
     }
 
 pub returns : goal.returns

@@ -27,7 +27,7 @@ invariant_of-self c =
       bound = omega (arith, s.counts, c.requires.room, c.len.ensures);
       of_kind = new.kind ∙ s.of_kind;
       items = rw new.messages (open_put (column_messages s.column) items s.items (messages-open c.args.items));
-      reserved = omega (arith, s.reserved, new.places);
+      reserved = omega (arith, s.reserved, new.reserved);
     }
 
 pub returns : goal.returns

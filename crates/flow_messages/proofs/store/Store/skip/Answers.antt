@@ -30,7 +30,7 @@ invariant_of-self c =
       bound = omega (arith, s.bound);
       of_kind = c.skip.ensures.kind ∙ s.of_kind;
       items = rw c.skip.ensures.messages (open_drop (c.args.count - 1) items s.items);
-      reserved = omega (arith, s.reserved, c.skip.ensures.places);
+      reserved = omega (arith, s.reserved, c.skip.ensures.reserved);
     }
 
 pub returns-then-all : goal.returns-then-all
@@ -69,7 +69,7 @@ invariant_of-self-2 c =
       bound = omega (arith, s.bound);
       of_kind = c.skip-2.ensures.kind ∙ s.of_kind;
       items = rw c.skip-2.ensures.messages (open_drop c.args.count items s.items);
-      reserved = omega (arith, s.reserved, c.skip-2.ensures.places);
+      reserved = omega (arith, s.reserved, c.skip-2.ensures.reserved);
     }
 
 pub returns : goal.returns
