@@ -10,4 +10,5 @@ pub record HasCome (ms : List Msg) (a b : Inbox) : Type 0 where
   pub arrived : b.arrived.items ≡ a.arrived.items ++ ms
   pub held : content_of b.store ≡ content_of a.store ++ ms
   pub received : received_of b ≡ received_of a
+  pub kind : b.store.kind ≡ a.store.kind
   pub capacity : b.store.capacity ≡ a.store.capacity

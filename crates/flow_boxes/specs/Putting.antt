@@ -10,6 +10,7 @@ pub record PutsBlock (ms : List Msg) (a b : Outbox) : Type 0 where
   pub sent : b.sent.items ≡ cond (ended (signals a.sent.items)) a.sent.items (a.sent.items ++ ms)
   pub held : content_of b.store ≡ cond (ended (signals a.sent.items)) (content_of a.store) (content_of a.store ++ ms)
   pub room : b.room + cond (ended (signals a.sent.items)) 0 (length ms) ≡ a.room
+  pub kind : b.store.kind ≡ a.store.kind
   pub reserved : b.store.capacity ≡ a.store.capacity
 
 -- this message was put, and took one place

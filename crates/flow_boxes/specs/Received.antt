@@ -15,6 +15,7 @@ Receives ms a b = received_of b ≡ received_of a ++ ms
 
 -- so many of the oldest messages were taken, and nothing came
 pub record HasTaken (count : ℕ) (a b : Inbox) : Type 0 where
+  pub kind : b.store.kind ≡ a.store.kind
   pub reserved : b.store.capacity ≡ a.store.capacity
   pub arrived : b.arrived.items ≡ a.arrived.items
   pub received : Receives (take count (content_of a.store)) a b

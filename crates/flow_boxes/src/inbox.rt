@@ -1,12 +1,12 @@
 // The reader's box of an edge.
 ghost use Rattle.std.specs.Prelude.{◌≡◌, ◌+◌, ◌<◌, ◌≤◌, [], ◌∷◌, ◌++◌, length, IfOk, IfSome, IfNone};
 ghost use Rattle.std.specs.Io.Iter.{u64_saturate};
-ghost use Rattle.flow_messages.specs.Stores.{content_of, StoreHasRoomFor};
+ghost use Rattle.flow_messages.specs.Stores.{content_of, StoreHasRoomFor, StoreIsOpen, StoreTakes, StoreTakesItems};
 ghost use Rattle.flow_messages.specs.Lines.{gone};
 ghost use Rattle.flow_messages.specs.Contents.{item_messages};
 
 use flow_messages::history::History;
-use flow_messages::{Items, Msg, Store, with_items};
+use flow_messages::{Items, Kind, Msg, Store, with_items};
 use std::alloc::{AllocError, Global};
 use std::mem::replace;
 
@@ -26,14 +26,15 @@ impl Inbox {
     ghost use Rattle.flow_boxes.specs.Received.{received_of, Receives, HasTaken};
     ghost use Rattle.flow_boxes.specs.Coming.{HasCome};
 
-    /// An empty box, with room for the capacity.
-    pub fn new(alloc: Global, capacity: usize) -> Result<Inbox, AllocError>
+    /// An empty box for items of this kind, with room for the capacity.
+    pub fn new(alloc: Global, kind: Kind, capacity: usize) -> Result<Inbox, AllocError>
         ensures received { IfOk result (λ i. received_of i ≡ []) }
         ensures held { IfOk result (λ i. content_of i.store ≡ []) }
         ensures arrived { IfOk result (λ i. i.arrived.items ≡ []) }
+        ensures kind { IfOk result (λ i. i.store.kind ≡ kind) }
         ensures reserved { IfOk result (λ i. i.store.capacity ≡ capacity) }
     {
-        let store = Store::new(alloc, capacity)?;
+        let store = Store::new(alloc, kind, capacity)?;
         Ok(Inbox {
             store,
             taken: 0,
@@ -44,7 +45,9 @@ impl Inbox {
     /// Holds a message more, after all others.
     #[inline(always)]
     pub fn push(&mut self, message: Msg)
-        requires { length (content_of self.old.store) < self.old.store.capacity }
+        requires room { length (content_of self.old.store) < self.old.store.capacity }
+        requires kind { StoreTakes self.old.store message }
+        requires open { StoreIsOpen self.old.store }
         ensures { HasCome (message ∷ []) self.old self.new }
     {
         let arrived = self.arrived.with(&message);
@@ -55,7 +58,9 @@ impl Inbox {
     /// Holds these items more, after all others.
     #[inline(always)]
     pub fn push_all(&mut self, items: Items<'_>)
-        requires { StoreHasRoomFor self.old.store items }
+        requires room { StoreHasRoomFor self.old.store items }
+        requires kind { StoreTakesItems self.old.store items }
+        requires open { StoreIsOpen self.old.store }
         ensures { HasCome (item_messages items.entry) self.old self.new }
     {
         self.arrived = with_items(replace(&mut self.arrived, History::new()), items);
@@ -65,6 +70,7 @@ impl Inbox {
     /// Takes the oldest message.
     #[inline(always)]
     pub fn take(&mut self) -> Option<Msg>
+        ensures kind { self.new.store.kind ≡ self.old.store.kind }
         ensures reserved { self.new.store.capacity ≡ self.old.store.capacity }
         ensures arrived { self.new.arrived.items ≡ self.old.arrived.items }
         ensures received { IfSome result (λ m. Receives (m ∷ []) self.old self.new) }

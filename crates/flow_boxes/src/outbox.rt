@@ -2,13 +2,13 @@
 ghost use Rattle.std.specs.Prelude.{◌≡◌, ◌+◌, ◌<◌, ◌≤◌, ◌↔◌, true, false, [], length, IsOk, OnOk, OnErr, IfOk, IfErr, IsErrAnd};
 ghost use Rattle.std.specs.Io.Iter.{u64_saturate};
 ghost use Rattle.flow_messages.specs.Signals.{signals, ended, orderly, has_end};
-ghost use Rattle.flow_messages.specs.Stores.{content_of};
+ghost use Rattle.flow_messages.specs.Stores.{content_of, EndsLast, StoreTakes, StoreTakesItems};
 ghost use Rattle.flow_messages.specs.Contents.{item_messages};
 ghost use Rattle.flow_messages.specs.declared.ends.Why.TheVariants.{Full, Closed};
 
 use crate::inbox::Inbox;
 use flow_messages::history::History;
-use flow_messages::{Items, Msg, Refused, Store, Why, with_items};
+use flow_messages::{Items, Kind, Msg, Refused, Store, Why, with_items};
 use std::alloc::{AllocError, Global};
 use std::mem::{replace, swap};
 
@@ -36,15 +36,16 @@ impl Outbox {
     ghost use Rattle.flow_boxes.specs.Putting.{PutsBlock, PutsMessage, PutsNothing};
     ghost use Rattle.flow_boxes.specs.Moving.{HoldAtMost, GetsAll};
 
-    /// An empty box, with room for the capacity.
+    /// An empty box for items of this kind, with room for the capacity.
     #[tactic(auto, using(flow_messages::proofs::Signals::signal_steps))]
-    pub fn new(alloc: Global, capacity: usize) -> Result<Outbox, AllocError>
+    pub fn new(alloc: Global, kind: Kind, capacity: usize) -> Result<Outbox, AllocError>
         ensures sent { IfOk result (λ o. o.sent.items ≡ []) }
         ensures held { IfOk result (λ o. content_of o.store ≡ []) }
         ensures room { IfOk result (λ o. o.room ≡ capacity) }
+        ensures kind { IfOk result (λ o. o.store.kind ≡ kind) }
         ensures reserved { IfOk result (λ o. o.store.capacity ≡ capacity) }
     {
-        let store = Store::new(alloc, capacity)?;
+        let store = Store::new(alloc, kind, capacity)?;
         Ok(Outbox {
             store,
             room: capacity,
@@ -59,6 +60,8 @@ impl Outbox {
     #[inline(always)]
     #[tactic(auto, using(flow_messages::proofs::Signals::signal_steps))]
     pub fn put(&mut self, message: Msg) -> Result<(), Refused>
+        requires { StoreTakes self.old.store message }
+        ensures kind { self.new.store.kind ≡ self.old.store.kind }
         ensures reserved { self.new.store.capacity ≡ self.old.store.capacity }
         ensures ok { OnOk result (PutsMessage message self.old self.new) }
         ensures returned { IfErr result (λ e. e.message ≡ message) }
@@ -104,7 +107,8 @@ impl Outbox {
     /// Puts these items after all others, unless `End` was put before.
     #[inline(always)]
     pub fn put_all(&mut self, items: Items<'_>)
-        requires { length (item_messages items) ≤ self.old.room }
+        requires room { length (item_messages items) ≤ self.old.room }
+        requires kind { StoreTakesItems self.old.store items }
         ensures put { PutsBlock (item_messages items.entry) self.old self.new }
     {
         if self.is_closed() {
@@ -117,11 +121,15 @@ impl Outbox {
         self.put = self.put.saturating_add(items.len() as u64);
     }
 
-    /// Moves all messages to the reader's box, in order. What that box does not hold is then room.
+    /// Moves all messages to the reader's box, which is of the same kind, in order. What that box does not hold is then room.
     pub fn carry_into(&mut self, inbox: &mut Inbox, capacity: usize)
         requires outbox { self.old.store.capacity ≡ capacity }
         requires inbox { inbox.old.store.capacity ≡ capacity }
         requires bound { HoldAtMost capacity self.old inbox.old }
+        requires kind { self.old.store.kind ≡ inbox.old.store.kind }
+        requires ends { EndsLast inbox.old.store self.old.store }
+        ensures outbox_kind { self.new.store.kind ≡ self.old.store.kind }
+        ensures inbox_kind { inbox.new.store.kind ≡ inbox.old.store.kind }
         ensures outbox_reserved { self.new.store.capacity ≡ capacity }
         ensures inbox_reserved { inbox.new.store.capacity ≡ capacity }
         ensures sent { self.new.sent.items ≡ self.old.sent.items }

@@ -16,4 +16,4 @@ pub returns : goal.returns
 returns c =
     let block = item_messages c.args.items in
     let arrived = c.with_items-self.ensures ∙ ap (λ h. h.items ++ block) c.replace.ensures.value in
-    arrives c.args.self.now _ block arrived c.put_all.ensures.content c.put_all.ensures.capacity
+    arrives c.args.self.now _ block arrived c.put_all.ensures.content c.put_all.ensures.kind c.put_all.ensures.capacity

@@ -24,6 +24,7 @@ returns c =
     let n = c.args.count in
     let is = sym (take-append-drop n now) ∙ ap (λ k. take n now ++ k) (sym c.skip.ensures.content) in
     record {
+      kind = c.skip.ensures.kind;
       reserved = c.skip.ensures.capacity;
       arrived = refl;
       received = gone_rest i.arrived.items now i.fifo (take n now) (content_of c.skip.new.self) is;
