@@ -22,11 +22,12 @@ module _ (w r w' r' : Contents) (e : ℕ) (linked : IsLinked w r e)
     room = room;
   }
 
-  pub stays-linked : w'.ends.writes e ≡ true → r'.ends.reads e ≡ true → r'.capacity ≡ w'.capacity → IsLinked w' r' e
-  stays-linked writes reads capacity = record {
+  pub stays-linked : w'.ends.writes e ≡ true → r'.ends.reads e ≡ true → r'.capacity ≡ w'.capacity → r'.ends.kind e ≡ w'.ends.kind e → IsLinked w' r' e
+  stays-linked writes reads capacity kinds = record {
     writes = writes;
     reads = reads;
     capacity = capacity;
+    kinds = kinds;
     in_order = ap (λ (x : List Signal). (r'.ends.received e ++ r'.ends.coming e) ++ x) emptied ∙ append-nil (r'.ends.received e ++ r'.ends.coming e) ∙ all_arrived;
     bound = omega (arith, room, ap length emptied);
   }

@@ -4,6 +4,7 @@ use Rattle.std.proofs.Common.{get_or, set, arith, length-set, length-append, app
 use Rattle.std.proofs.lemmas.Bool.{cases_eq, cases_Bool}
 use Rattle.std.specs.Prelude.{Option, Some}
 use mathlib.Core.List.{IsPrefix}
+use Rattle.flow_messages.specs.declared.message.Kind.{Kind}
 use Rattle.flow_messages.specs.declared.message.Msg.{Msg}
 use Rattle.flow_messages.specs.Signals.{Signal, signals, signal_of, ended}
 use Rattle.flow_messages.specs.Tables.{at_line}
@@ -48,12 +49,12 @@ begins ms held said coming (more, all) is certain = (signals more, ap (λ (l : L
 grow_none : (s q s' q' : List Signal) → s' ≡ s → q' ≡ q → GrowAlike s q s' q'
 grow_none s q s' q' i j = ([], i ∙ sym (append-nil s), j ∙ sym (append-nil q))
 
-module _ (capacity : ℕ) (os : List (Option Outbox)) (is : List (Option Inbox)) (e : ℕ) (old : Option Outbox) (o n : Outbox) (h : e < length os) (at : old ≡ get_or os e old) (was : old ≡ Some o) where
+module _ (capacity : ℕ) (kinds : List Kind) (os : List (Option Outbox)) (is : List (Option Inbox)) (e : ℕ) (old : Option Outbox) (o n : Outbox) (h : e < length os) (at : old ≡ get_or os e old) (was : old ≡ Some o) where
   abbrev before : Contents
-  before = contents_of capacity os is
+  before = contents_of capacity kinds os is
 
   abbrev after : Contents
-  after = contents_of capacity (set os e (Some n)) is
+  after = contents_of capacity kinds (set os e (Some n)) is
 
   pub writer_boxes : SameBoxes before after
   writer_boxes = record {
@@ -206,12 +207,12 @@ module _ (capacity : ℕ) (os : List (Option Outbox)) (is : List (Option Inbox))
       room_by_end (inl shut) = omega (arith, shut_room shut, had_room, has_room)
       room_by_end (inr free) = omega (arith, free_room free, had_room, has_room, signals-length ms)
 
-module _ (capacity : ℕ) (os : List (Option Outbox)) (is : List (Option Inbox)) (e : ℕ) (old : Option Inbox) (i n : Inbox) (h : e < length is) (at : old ≡ get_or is e old) (was : old ≡ Some i) where
+module _ (capacity : ℕ) (kinds : List Kind) (os : List (Option Outbox)) (is : List (Option Inbox)) (e : ℕ) (old : Option Inbox) (i n : Inbox) (h : e < length is) (at : old ≡ get_or is e old) (was : old ≡ Some i) where
   abbrev from : Contents
-  from = contents_of capacity os is
+  from = contents_of capacity kinds os is
 
   abbrev till : Contents
-  till = contents_of capacity os (set is e (Some n))
+  till = contents_of capacity kinds os (set is e (Some n))
 
   pub reader_boxes : SameBoxes from till
   reader_boxes = record {

@@ -1,4 +1,7 @@
 pub mod Arrived
+pub mod Kinded
+pub mod Kept
+pub mod Ending
 pub mod Linking
 pub mod Changed
 pub mod Carried

@@ -5,11 +5,12 @@ use Rattle.flow_messages.specs.Ends.{held}
 use Rattle.flow_boxes.specs.Contents.{Contents}
 use Rattle.flow_boxes.specs.Rounds.{IsLinked, KeepsRound, OthersSame, FreshOutbox, FreshInbox, OpensWriter, OpensReader}
 
-pub fresh-linked : (w r : Contents) (e : ℕ) → FreshOutbox e w → FreshInbox e r → r.capacity ≡ w.capacity → IsLinked w r e
-fresh-linked w r e o i capacity = record {
+pub fresh-linked : (w r : Contents) (e : ℕ) → FreshOutbox e w → FreshInbox e r → r.capacity ≡ w.capacity → r.ends.kind e ≡ w.ends.kind e → IsLinked w r e
+fresh-linked w r e o i capacity kinds = record {
   writes = o.writes;
   reads = i.reads;
   capacity = capacity;
+  kinds = kinds;
   in_order = ap (λ (x : List Signal). (x ++ r.ends.coming e) ++ w.leaving e) i.received ∙ ap (λ (x : List Signal). x ++ w.leaving e) i.coming ∙ o.leaving ∙ sym o.sent;
   bound = omega (arith, o.room, ap length i.coming, ap length o.leaving);
 }
@@ -27,6 +28,7 @@ module _ (w w' r : Contents) (e : ℕ) (linked : IsLinked w r e) where
         writes = keeps.boxes.ends.writes e ∙ linked.writes;
         reads = linked.reads;
         capacity = linked.capacity ∙ sym keeps.boxes.capacity;
+        kinds = linked.kinds ∙ sym (keeps.boxes.ends.kinds e);
         in_order = ap (λ (x : List Signal). before ++ x) leaving ∙ sym (append_assoc before (w.leaving e) more) ∙ ap (λ (x : List Signal). x ++ more) linked.in_order ∙ sym sent;
         bound = omega (arith, linked.bound, keeps.places e, longer, fuller, keeps.boxes.capacity);
       }
@@ -41,6 +43,7 @@ module _ (w r r' : Contents) (e : ℕ) (linked : IsLinked w r e) where
         writes = linked.writes;
         reads = keeps.boxes.ends.reads e ∙ linked.reads;
         capacity = keeps.boxes.capacity ∙ linked.capacity;
+        kinds = keeps.boxes.ends.kinds e ∙ linked.kinds;
         in_order = ap (λ (x : List Signal). x ++ w.leaving e) (sym (keeps.arrived e)) ∙ linked.in_order;
         bound = omega (arith, linked.bound, same, keeps.received e);
       }
@@ -50,6 +53,7 @@ writer-elsewhere w w' r e k linked ne same = record {
   writes = same.writes k ne ∙ linked.writes;
   reads = linked.reads;
   capacity = linked.capacity ∙ sym same.capacity;
+  kinds = linked.kinds ∙ sym (same.kinds k);
   in_order = ap (λ (x : List Signal). (r.ends.received k ++ r.ends.coming k) ++ x) (same.leaving k ne) ∙ linked.in_order ∙ sym (same.sent k ne);
   bound = omega (arith, linked.bound, same.room k ne, ap length (same.leaving k ne), same.capacity);
 }
@@ -59,6 +63,7 @@ reader-elsewhere w r r' e k linked ne same = record {
   writes = linked.writes;
   reads = same.reads k ne ∙ linked.reads;
   capacity = same.capacity ∙ linked.capacity;
+  kinds = same.kinds k ∙ linked.kinds;
   in_order = ap (λ (x : List Signal). (x ++ r'.ends.coming k) ++ w.leaving k) (same.received k ne)
       ∙ ap (λ (x : List Signal). (r.ends.received k ++ x) ++ w.leaving k) (same.coming k ne) ∙ linked.in_order;
   bound = omega (arith, linked.bound, ap length (same.coming k ne));
@@ -67,7 +72,6 @@ reader-elsewhere w r r' e k linked ne same = record {
 pub outbox-beside : (a b : Contents) (e k : ℕ) → FreshOutbox k a → OpensReader e a b → FreshOutbox k b
 outbox-beside a b e k fresh opens = record {
   writes = opens.writes k ∙ fresh.writes;
-  kind = opens.others.kinds k ∙ fresh.kind;
   sent = opens.sent k ∙ fresh.sent;
   leaving = opens.leaving k ∙ fresh.leaving;
   room = opens.room k ∙ fresh.room ∙ sym opens.others.capacity;
@@ -83,7 +87,6 @@ inbox-beside a b e k fresh opens = record {
 pub outbox-elsewhere : (a b : Contents) (e k : ℕ) → FreshOutbox k a → k ≢ e → OthersSame e a b → FreshOutbox k b
 outbox-elsewhere a b e k fresh ne same = record {
   writes = same.writes k ne ∙ fresh.writes;
-  kind = same.kinds k ∙ fresh.kind;
   sent = same.sent k ne ∙ fresh.sent;
   leaving = same.leaving k ne ∙ fresh.leaving;
   room = same.room k ne ∙ fresh.room ∙ sym same.capacity;

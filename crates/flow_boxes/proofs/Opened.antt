@@ -1,6 +1,7 @@
 -- One box more, and a share without any.
 use Rattle.std.proofs.Common.{◌≡◌, ℕ, zero, suc, ◌<◌, false, List, [], ◌∷◌, ◌++◌, length, refl, ap, ◌∙◌, set, length-set}
 use Rattle.std.specs.Prelude.{Option, Some, None}
+use Rattle.flow_messages.specs.declared.message.Kind.{Kind}
 use Rattle.flow_messages.specs.Signals.{signals}
 use Rattle.flow_messages.specs.Tables.{at_line}
 use Rattle.flow_messages.specs.Stores.{content_of}
@@ -12,13 +13,12 @@ use Rattle.flow_boxes.specs.Received.{received_of}
 use Rattle.flow_boxes.specs.Contents.{contents_of, sent_in, leaving_in, room_in, writes_in, received_in, coming_in, reads_in}
 use Rattle.flow_boxes.specs.Rounds.{OpensWriter, OpensReader}
 
-module _ (capacity : ℕ) (os : List (Option Outbox)) (is : List (Option Inbox)) (e : ℕ) where
+module _ (capacity : ℕ) (kinds : List Kind) (os : List (Option Outbox)) (is : List (Option Inbox)) (e : ℕ) where
   pub opens-writer : (n : Outbox) → e < length os → n.sent.items ≡ [] → content_of n.store ≡ [] → n.room ≡ capacity →
-      OpensWriter e (contents_of capacity os is) (contents_of capacity (set os e (Some n)) is)
+      OpensWriter e (contents_of capacity kinds os is) (contents_of capacity kinds (set os e (Some n)) is)
   opens-writer n h sent held room = record {
     fresh = record {
       writes = at_line-same writes_in os e false (Some n) h;
-      kind = refl;
       sent = at_line-same sent_in os e [] (Some n) h ∙ ap signals sent ∙ signals-nil;
       leaving = at_line-same leaving_in os e [] (Some n) h ∙ ap signals held ∙ signals-nil;
       room = at_line-same room_in os e 0 (Some n) h ∙ room;
@@ -40,7 +40,7 @@ module _ (capacity : ℕ) (os : List (Option Outbox)) (is : List (Option Inbox))
     coming = λ k. refl;
   }
 
-  pub opens-reader : (n : Inbox) → e < length is → received_of n ≡ [] → content_of n.store ≡ [] → OpensReader e (contents_of capacity os is) (contents_of capacity os (set is e (Some n)))
+  pub opens-reader : (n : Inbox) → e < length is → received_of n ≡ [] → content_of n.store ≡ [] → OpensReader e (contents_of capacity kinds os is) (contents_of capacity kinds os (set is e (Some n)))
   opens-reader n h received held = record {
     fresh = record {
       reads = at_line-same reads_in is e false (Some n) h;

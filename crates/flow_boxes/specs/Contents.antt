@@ -1,5 +1,6 @@
 -- What a contract sees of the boxes of a share.
-use Rattle.std.specs.Prelude.{ℕ, Bool, true, false, List, [], length, Option, Some, None}
+use Rattle.std.specs.Prelude.{ℕ, Bool, true, false, List, [], length, slice_get, Option, Some, None}
+use Rattle.flow_messages.specs.declared.message.Kind.{Kind}
 use Rattle.flow_messages.specs.Signals.{Signal, signals}
 use Rattle.flow_messages.specs.Ends.{View}
 use Rattle.flow_messages.specs.Tables.{at_line}
@@ -43,15 +44,15 @@ abbrev pub reads_in : Option Inbox → Bool
 reads_in None = false
 reads_in (Some i) = true
 
--- what is seen of these boxes
-abbrev pub contents_of : ℕ → List (Option Outbox) → List (Option Inbox) → Contents
-contents_of capacity os is = record {
+-- what is seen of these boxes, at edges of these kinds
+abbrev pub contents_of : ℕ → List Kind → List (Option Outbox) → List (Option Inbox) → Contents
+contents_of capacity kinds os is = record {
   ends = record {
     sent = λ e. at_line sent_in os e [];
     received = λ e. at_line received_in is e [];
     coming = λ e. at_line coming_in is e [];
     room = λ e. at_line room_in os e 0;
-    kind = λ e. None;
+    kind = λ e. slice_get kinds e;
     writes = λ e. at_line writes_in os e false;
     reads = λ e. at_line reads_in is e false;
   };
@@ -61,7 +62,7 @@ contents_of capacity os is = record {
 }
 
 abbrev pub contents : Boxes → Contents
-contents b = contents_of b.capacity b.outboxes.items b.inboxes.items
+contents b = contents_of b.capacity b.kinds.items b.outboxes.items b.inboxes.items
 
 abbrev pub view_of : Boxes → View
 view_of b = (contents b).ends

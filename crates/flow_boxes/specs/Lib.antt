@@ -3,6 +3,7 @@ pub mod Coming
 pub mod Putting
 pub mod Moving
 pub mod Reserved
+pub mod Kinds
 pub mod Contents
 pub mod Rounds
 pub mod Staying

@@ -1,5 +1,6 @@
 -- What happens within a round, and between two.
-use Rattle.std.specs.Prelude.{◌≡◌, ◌≢◌, ℕ, ◌+◌, ◌≤◌, true, false, List, [], ◌++◌, length, drop, None}
+use Rattle.std.specs.Prelude.{◌≡◌, ◌≢◌, ℕ, ◌+◌, ◌≤◌, true, false, List, [], ◌++◌, length, drop, slice_get}
+use Rattle.flow_messages.specs.declared.message.Kind.{Kind}
 use Rattle.flow_messages.specs.Signals.{Signal}
 use Rattle.flow_messages.specs.Ends.{held, SameEnds, SameTraffic}
 use Rattle.flow_boxes.specs.Contents.{Contents}
@@ -40,17 +41,17 @@ pub record OthersSame (e : ℕ) (a b : Contents) : Type 0 where
   pub count : b.count ≡ a.count
   pub capacity : b.capacity ≡ a.capacity
 
--- no box is there
-pub record HasNone (edges most : ℕ) (b : Contents) : Type 0 where
+-- no box is there, and the edges are of these kinds
+pub record HasNone (kinds : List Kind) (most : ℕ) (b : Contents) : Type 0 where
   pub writes : (k : ℕ) → b.ends.writes k ≡ false
   pub reads : (k : ℕ) → b.ends.reads k ≡ false
-  pub count : b.count ≡ edges
+  pub kind : (k : ℕ) → b.ends.kind k ≡ slice_get kinds k
+  pub count : b.count ≡ length kinds
   pub capacity : b.capacity ≡ most
 
--- the writer's box of edge e is there, items of every kind may be put, nothing was sent, and there is room for the capacity
+-- the writer's box of edge e is there, nothing was sent, and there is room for the capacity
 pub record FreshOutbox (e : ℕ) (b : Contents) : Type 0 where
   pub writes : b.ends.writes e ≡ true
-  pub kind : b.ends.kind e ≡ None
   pub sent : b.ends.sent e ≡ []
   pub leaving : b.leaving e ≡ []
   pub room : b.ends.room e ≡ b.capacity
@@ -84,6 +85,8 @@ pub record IsLinked (w r : Contents) (e : ℕ) : Type 0 where
   pub writes : w.ends.writes e ≡ true
   pub reads : r.ends.reads e ≡ true
   pub capacity : r.capacity ≡ w.capacity
+  -- they take items of the same kind
+  pub kinds : r.ends.kind e ≡ w.ends.kind e
   -- what was received, what is coming and what is leaving is what was sent
   pub in_order : (r.ends.received e ++ r.ends.coming e) ++ w.leaving e ≡ w.ends.sent e
   -- what both boxes hold and what may still be put is within the capacity

@@ -3,9 +3,9 @@ use Rattle.std.specs.Prelude.{◌≡◌, ◌≢◌, ℕ}
 use Rattle.flow_boxes.specs.Contents.{Contents}
 use Rattle.flow_boxes.specs.Rounds.{OthersSame, FreshOutbox, FreshInbox}
 
--- a fresh box of the writer of edge e is in w, one of its reader is in r, and their capacity is the same
+-- a fresh box of the writer of edge e is in w, one of its reader is in r, and their capacity and their kind are the same
 abbrev pub FreshBoxes : (w r : Contents) (e : ℕ) → Type 0
-FreshBoxes w r e = FreshOutbox e w × FreshInbox e r × (r.capacity ≡ w.capacity)
+FreshBoxes w r e = FreshOutbox e w × FreshInbox e r × (r.capacity ≡ w.capacity) × (r.ends.kind e ≡ w.ends.kind e)
 
 -- P of any edge stays where R is done at any edge
 abbrev pub StaysThrough : (P : ℕ → Contents → Type 0) (R : ℕ → Contents → Contents → Type 0) → Type 0

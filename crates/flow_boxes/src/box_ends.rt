@@ -10,18 +10,20 @@ use flow_messages::{CountedEnds, Ends, Items, Kind, Msg, Refused};
 use std::alloc::{AllocError, Global};
 
 impl Boxes {
-    /// No box, at any of the edges with the numbers below `edges`, each of which may hold at most
+    /// No box, at any of the edges, which are of these kinds in the order of their numbers. Each may hold at most
     /// `capacity` messages. Its only error is that memory was refused.
-    pub fn new(alloc: Global, edges: usize, capacity: usize) -> Result<Boxes, AllocError>
-        ensures { IfOk result (λ boxes. HasNone edges capacity (contents boxes)) }
+    pub fn new(alloc: Global, kinds: &[Kind], capacity: usize) -> Result<Boxes, AllocError>
+        ensures { IfOk result (λ boxes. HasNone kinds.now capacity (contents boxes)) }
     {
-        let mut outboxes = Vec::with_capacity(alloc, edges)?;
-        let mut inboxes = Vec::with_capacity(alloc, edges)?;
-        for _ in 0..edges {
+        let kinds = kinds.to_vec(alloc)?;
+        let mut outboxes = Vec::with_capacity(alloc, kinds.len())?;
+        let mut inboxes = Vec::with_capacity(alloc, kinds.len())?;
+        for _ in 0..kinds.len() {
             outboxes.push(None)?;
             inboxes.push(None)?;
         }
         Ok(Boxes {
+            kinds,
             outboxes,
             inboxes,
             capacity,
@@ -36,7 +38,7 @@ impl Boxes {
         ensures ok { OnOk result (OpensWriter edge (contents self.old) (contents self.new)) }
         ensures err { OnErr result (self.new ≡ self.old) }
     {
-        let outbox = Outbox::new(alloc, self.capacity)?;
+        let outbox = Outbox::new(alloc, self.kinds[edge], self.capacity)?;
         self.outboxes[edge] = Some(outbox);
         Ok(())
     }
@@ -49,7 +51,7 @@ impl Boxes {
         ensures ok { OnOk result (OpensReader edge (contents self.old) (contents self.new)) }
         ensures err { OnErr result (self.new ≡ self.old) }
     {
-        let inbox = Inbox::new(alloc, self.capacity)?;
+        let inbox = Inbox::new(alloc, self.kinds[edge], self.capacity)?;
         self.inboxes[edge] = Some(inbox);
         Ok(())
     }
@@ -75,8 +77,7 @@ impl Ends for Boxes {
     }
 
     fn takes(&self, edge: usize, kind: Kind) -> bool {
-        let _ = (edge, kind);
-        true
+        self.kinds[edge] == kind
     }
 
     #[inline(always)]

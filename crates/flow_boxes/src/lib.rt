@@ -1,6 +1,6 @@
 //! The ends of a share of a network, where messages pass between rounds only.
 //!
-//! Each edge has a box at its writer and a box at its reader. Within a round the writer puts messages
+//! Each edge has a box at its writer and a box at its reader, both for items of its kind. Within a round the writer puts messages
 //! into its own box, up to the room that it was told of, and the reader takes what its own box holds.
 //! Between two rounds [`carry`] moves the messages from the one to the other, and tells the writer its
 //! new room. [`carry_own`] does so where both boxes lie in one share.

@@ -1,8 +1,9 @@
 // The writer's box of an edge.
-ghost use Rattle.std.specs.Prelude.{◌≡◌, ◌+◌, ◌<◌, ◌≤◌, ◌↔◌, true, false, [], length, IsOk, OnOk, OnErr, IfOk, IfErr, IsErrAnd};
+ghost use Rattle.std.specs.Prelude.{◌≡◌, ◌+◌, ◌<◌, ◌≤◌, ◌↔◌, true, false, [], ◌++◌, length, IsOk, OnOk, OnErr, IfOk, IfErr, IsErrAnd};
 ghost use Rattle.std.specs.Io.Iter.{u64_saturate};
 ghost use Rattle.flow_messages.specs.Signals.{signals, ended, orderly, has_end};
 ghost use Rattle.flow_messages.specs.Stores.{content_of, EndsLast, StoreTakes, StoreTakesItems};
+ghost use Rattle.flow_messages.specs.Lines.{gone};
 ghost use Rattle.flow_messages.specs.Contents.{item_messages};
 ghost use Rattle.flow_messages.specs.declared.ends.Why.TheVariants.{Full, Closed};
 
@@ -25,6 +26,7 @@ pub struct Outbox {
     /// What the store holds.
     pub waiting: History<Msg>,
     ghost waits: { waiting.items ≡ content_of store },
+    ghost last: { gone sent.items (content_of store) ++ content_of store ≡ sent.items },
     ghost closes: { closed ≡ ended (signals sent.items) },
     ghost counts: { put ≡ u64_saturate (length sent.items) },
     ghost orderly: { orderly (signals sent.items) ≡ true },

@@ -8,4 +8,4 @@ returns c =
     let s = c.args.self.now in
     let h = reader-below s.inboxes.items c.args.edge c.requires in
     let i = c.in-Some.inbox in
-    count-said (received_of i) (had_received s.capacity s.outboxes.items s.inboxes.items c.args.edge _ i i h c.index.ensures c.in-Some.is) i.counts
+    count-said (received_of i) (had_received s.capacity s.kinds.items s.outboxes.items s.inboxes.items c.args.edge _ i i h c.index.ensures c.in-Some.is) i.counts

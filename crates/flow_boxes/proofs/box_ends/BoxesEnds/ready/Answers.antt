@@ -9,4 +9,4 @@ returns-clause-value c =
     let s = c.args.self.now in
     let h = reader-below s.inboxes.items c.args.edge c.requires in
     let i = c.in-Some.inbox in
-    rw (ap length (had_coming s.capacity s.outboxes.items s.inboxes.items c.args.edge _ i i h c.index.ensures c.in-Some.is) ∙ signals-length (content_of i.store)) (search rules)
+    rw (ap length (had_coming s.capacity s.kinds.items s.outboxes.items s.inboxes.items c.args.edge _ i i h c.index.ensures c.in-Some.is) ∙ signals-length (content_of i.store)) (search rules)

@@ -8,4 +8,4 @@ returns-clause-value c =
     let s = c.args.self.now in
     let h = reader-below s.inboxes.items c.args.edge c.requires in
     let i = c.in-Some.inbox in
-    c.scalar_first.ensures ∙ sym (ap scalar_first (had_coming s.capacity s.outboxes.items s.inboxes.items c.args.edge _ i i h c.index.ensures c.in-Some.is))
+    c.scalar_first.ensures ∙ sym (ap scalar_first (had_coming s.capacity s.kinds.items s.outboxes.items s.inboxes.items c.args.edge _ i i h c.index.ensures c.in-Some.is))

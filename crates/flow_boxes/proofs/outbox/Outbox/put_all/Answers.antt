@@ -4,7 +4,13 @@ use Rattle.flow_messages.specs.Stores.{content_of}
 use Rattle.flow_messages.specs.Contents.{item_messages}
 use Rattle.flow_messages.proofs.Signals.{ended-more, orderly-more}
 use Rattle.flow_messages.proofs.SideBySide.{messages-open, messages-orderly}
+use Rattle.flow_messages.proofs.Lines.{fifo_put, open_held}
 use Rattle.flow_boxes.proofs.outbox.Outbox.put_all.Goals as goal
+
+pub put_all-requires-clause-open : goal.put_all-requires-clause-open
+put_all-requires-clause-open c =
+    let o = c.args.self.now in
+    open_held o.sent.items (content_of o.store) o.last (sym c.is_closed.ensures ∙ c.if-is_closed.false)
 
 pub invariant_of-self : goal.invariant_of-self
 invariant_of-self c =
@@ -17,8 +23,9 @@ invariant_of-self c =
     let waiting = c.with_items-self-2.ensures ∙ ap (λ h. h.items ++ block) c.replace-2.ensures.value in
     record {
       waits = waiting ∙ ap (λ l. l ++ block) o.waits ∙ sym c.put_all.ensures.content;
+      last = rw (sent, c.put_all.ensures.content) (fifo_put s (content_of o.store) o.last block);
       closes = o.closes ∙ free ∙ sym (ap (λ k. ended (signals k)) sent ∙ ended-more s block free ∙ messages-open x);
       counts = omega (arith, o.counts, c.saturating_add-self.ensures, ap length sent, length-append s block);
       orderly = ap (λ k. orderly (signals k)) sent ∙ orderly-more s block free ∙ messages-orderly x;
-      reserved = omega (arith, o.reserved, c.requires, ap length c.put_all.ensures.content, length-append (content_of o.store) block, c.put_all.ensures.capacity);
+      reserved = omega (arith, o.reserved, c.requires.room, ap length c.put_all.ensures.content, length-append (content_of o.store) block, c.put_all.ensures.capacity);
     }
