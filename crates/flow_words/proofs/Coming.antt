@@ -6,7 +6,7 @@ use Rattle.flow_boxes.specs.declared.inbox.Inbox.{Inbox}
 use Rattle.flow_boxes.specs.Coming.{HasCome}
 
 pub come_none : (a : Inbox) → HasCome [] a a
-come_none a = record { arrived = sym (append-nil a.arrived.items); held = sym (append-nil (content_of a.store)); received = refl; capacity = refl }
+come_none a = record { arrived = sym (append-nil a.arrived.items); held = sym (append-nil (content_of a.store)); received = refl; capacity = refl; kind = refl }
 
 pub come_as : (ms ns : List Msg) (a b : Inbox) → ms ≡ ns → HasCome ms a b → HasCome ns a b
 come_as ms ns a b is p = record {
@@ -14,6 +14,7 @@ come_as ms ns a b is p = record {
   held = p.held ∙ ap (λ l. content_of a.store ++ l) is;
   received = p.received;
   capacity = p.capacity;
+  kind = p.kind;
 }
 
 pub come_more : (ms ns : List Msg) (a b c : Inbox) → HasCome ms a b → HasCome ns b c → HasCome (ms ++ ns) a c
@@ -22,6 +23,7 @@ come_more ms ns a b c p q = record {
   held = q.held ∙ ap (λ l. l ++ ns) p.held ∙ append_assoc (content_of a.store) ms ns;
   received = q.received ∙ p.received;
   capacity = q.capacity ∙ p.capacity;
+  kind = q.kind ∙ p.kind;
 }
 
 -- how many are held

@@ -3,6 +3,7 @@ pub mod Digits
 pub mod Said
 pub mod Groups
 pub mod Lists
+pub mod InTurn
 pub mod Putting
 pub mod Coming
 pub mod Taking

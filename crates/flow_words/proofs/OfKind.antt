@@ -1,5 +1,5 @@
 -- What comes over an edge is of its kind.
-use Rattle.std.proofs.Common.{◌≡◌, ℤ, Bool, true, false, cond, List, [], ◌∷◌, refl}
+use Rattle.std.proofs.Common.{◌≡◌, ℤ, Bool, true, false, cond, List, [], ◌∷◌, refl, subst, arith}
 use Rattle.std.specs.Prelude.{Some, slice_index_or}
 use Rattle.std.specs.List.{All}
 use Rattle.std.proofs.lemmas.List.Elements.{All-nil, All-cons, All-map}
@@ -53,6 +53,10 @@ ints_fit NoGroup (w ∷ ws) = fork_ints (is_escape w) _ _ (ints_fit Begun ws) (i
 ints_fit Begun (w ∷ ws) = fork_ints (is_escape w) _ _ (end_more _ (ints_fit NoGroup ws)) (ints_fit (Top w) ws)
 ints_fit (Top t) (w ∷ ws) = ints_fit (Half t w) ws
 ints_fit (Half t m) (w ∷ ws) = int_more (group_number t m w) _ (ints_fit NoGroup ws)
+
+-- the first of what words of integers say is one, or the end
+pub first_is_int : (g : Group) (w : ℤ) (m : Msg) (ms : List Msg) → ints_said g (w ∷ []) ≡ m ∷ ms → fits IntKind (signal_of m) ≡ true
+first_is_int g w m ms said = subst AreInts said (ints_fit g (w ∷ [])) 0 m (omega arith)
 
 pub came_fits : (r : ReaderWords) → All (λ m. FitsEdge (Some (reader_kind r)) (signal_of m)) (received r)
 came_fits (UnitsFrom c) = All-map (λ m. fits UnitKind (signal_of m) ≡ true) unit_word (port.received c) (λ k d low. unit_fits (slice_index_or (port.received c) k d))

@@ -1,6 +1,5 @@
 -- What came over a ring.
-use Rattle.std.proofs.Common.{◌≡◌, suc, ◌≤◌, true, false, ℤ, List, [], ◌∷◌, ◌++◌, length, refl, sym, ap, ◌∙◌, subst, arith, append_assoc, append-nil}
-use Rattle.std.proofs.lemmas.List.{map-append}
+use Rattle.std.proofs.Common.{◌≡◌, false, ℤ, List, [], ◌∷◌, ◌++◌, length, refl, sym, ap, ◌∙◌, subst, arith, append_assoc, append-nil}
 use Rattle.std.specs.declared.alloc.Global.{Global}
 use mathlib.Core.List.{IsPrefix}
 use Rattle.rtrb.specs.Ring as port
@@ -12,7 +11,6 @@ use Rattle.flow_messages.specs.declared.message.Kind.{Kind}
 use Rattle.flow_messages.specs.declared.message.Kind.TheVariants.{Unit as UnitKind, Bool as BoolKind, Int as IntKind}
 use Rattle.flow_messages.specs.declared.message.Msg.{Msg}
 use Rattle.flow_messages.specs.Signals.{signals, ended, orderly}
-use Rattle.flow_messages.proofs.Signals.{orderly-snoc}
 use Rattle.flow_messages.proofs.Blocks.{prefix_then}
 use Rattle.flow_boxes.specs.declared.inbox.Inbox.{Inbox}
 use Rattle.flow_boxes.specs.Coming.{HasCome}
@@ -28,37 +26,14 @@ use Rattle.flow_words.specs.declared.ring.ReaderWords.TheVariants.{Units as Unit
 use Rattle.flow_words.specs.Words.{unit_word, flag_word, each_said, ints_said, ints_sent, group_after}
 use Rattle.flow_words.specs.Ring.{Which, place, TakesOver, received, known_items, half_taken}
 use Rattle.flow_words.proofs.Said.{said-append, after-append, said-nil}
-use Rattle.flow_words.proofs.Groups.{said_short, nothing_left}
+use Rattle.flow_words.proofs.Groups.{nothing_left}
 use Rattle.flow_words.proofs.Lists.{said_grown, prefix_said}
 use Rattle.flow_words.proofs.Coming.{come_none, come_as, come_more}
+use Rattle.flow_words.proofs.InTurn.{singles_orderly, ints_orderly}
 
 -- the same ring, seen from an end of it
 pub which_same : {T P : Type 0} (k : Kind) (a b : End T Global P) → SameRing a b → ◌≡◌ {A = Which} (k, place b) (k, place a)
 which_same k a b s = λ i. (k, ((s.0 i, s.1 i), (s.2 i, s.3 i)))
-
--- a list without an end stays orderly with one message more, or none
-orderly_short : (ms ns : List Msg) → length ns ≤ 1 → orderly (signals ms) ≡ true → ended (signals ms) ≡ false → orderly (signals (ms ++ ns)) ≡ true
-orderly_short ms [] short was free = ap (λ (l : List Msg). orderly (signals l)) (append-nil ms) ∙ was
-orderly_short ms (n ∷ []) short was free = orderly-snoc ms n free
-orderly_short ms (n ∷ m ∷ ns) short was free = absurd (let no : suc (suc (length ns)) ≤ 1 = short in omega arith)
-
--- what came where only what was free went on is orderly
-module _ {W : Type 0} (word : W → Msg) where
-  pub singles_orderly : (before ws : List W) → Allowed (λ xs _. ended (signals (each_said word xs)) ≡ false) before ws → orderly (signals (each_said word before)) ≡ true
-      → orderly (signals (each_said word (before ++ ws))) ≡ true
-  singles_orderly before [] all was = ap (λ (l : List W). orderly (signals (each_said word l))) (append-nil before) ∙ was
-  singles_orderly before (w ∷ ws) all was =
-      let next = ap (λ (ms : List Msg). orderly (signals ms)) (map-append word before (w ∷ [])) ∙ orderly-snoc (each_said word before) (word w) all.0 in
-      ap (λ (l : List W). orderly (signals (each_said word l))) (sym (append_assoc before (w ∷ []) ws)) ∙ singles_orderly (before ++ w ∷ []) ws all.1 next
-
-pub ints_orderly : (before ws : List ℤ) → Allowed (λ xs _. ended (signals (ints_sent xs)) ≡ false) before ws → orderly (signals (ints_sent before)) ≡ true
-    → orderly (signals (ints_sent (before ++ ws))) ≡ true
-ints_orderly before [] all was = ap (λ (l : List ℤ). orderly (signals (ints_sent l))) (append-nil before) ∙ was
-ints_orderly before (w ∷ ws) all was =
-    let more = ints_said (group_after NoGroup before) (w ∷ []) in
-    let next = ap (λ (ms : List Msg). orderly (signals ms)) (said-append NoGroup before (w ∷ []))
-    ∙ orderly_short (ints_sent before) more (said_short (group_after NoGroup before) (w ∷ [])) was all.0 in
-    ap (λ (l : List ℤ). orderly (signals (ints_sent l))) (sym (append_assoc before (w ∷ []) ws)) ∙ ints_orderly (before ++ w ∷ []) ws all.1 next
 
 pub units_took : (a b : Consumer UnitWord Global ClosingUnits) (ws : List UnitWord) (i j : Inbox) → port.SameConsumer a b → port.received b ≡ port.received a ++ ws
     → IsPrefix (port.known_items a) (ws ++ port.known_items b) → Allowed (λ xs _. ended (signals (each_said unit_word xs)) ≡ false) (port.received a) ws
@@ -86,7 +61,7 @@ flags_took a b ws i j same taken known all come = record {
 pub half_grown : (r s ws : List ℤ) (g : Group) → s ≡ r ++ ws → g ≡ group_after NoGroup r → group_after g ws ≡ group_after NoGroup s
 half_grown r s ws g is half = ap (λ h. group_after h ws) half ∙ sym (after-append NoGroup r ws) ∙ ap (group_after NoGroup) (sym is)
 
-said_further : (r s ws : List ℤ) (g : Group) → s ≡ r ++ ws → g ≡ group_after NoGroup r → ints_sent s ≡ ints_sent r ++ ints_said g ws
+pub said_further : (r s ws : List ℤ) (g : Group) → s ≡ r ++ ws → g ≡ group_after NoGroup r → ints_sent s ≡ ints_sent r ++ ints_said g ws
 said_further r s ws g is half = ap ints_sent is ∙ said-append NoGroup r ws ∙ ap (λ h. ints_sent r ++ ints_said h ws) (sym half)
 
 known_further : (r s ws k l : List ℤ) (g : Group) → s ≡ r ++ ws → g ≡ group_after NoGroup r → IsPrefix k (ws ++ l)

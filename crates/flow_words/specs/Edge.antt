@@ -78,6 +78,14 @@ IsNotClosed w = ended (signals (sent w)) ≡ false
 abbrev pub FitsReader : WordReader → Msg → Type 0
 FitsReader r m = FitsEdge (Some (reader_kind r)) (signal_of m)
 
+-- an inbox is for items of the kind of this edge
+abbrev pub HoldsKind : WordReader → Inbox → Type 0
+HoldsKind r i = ring.HoldsKind r.ring i
+
+-- where an inbox holds the end of the stream, this was taken from the edge
+abbrev pub HoldsItsEnd : WordReader → Inbox → Type 0
+HoldsItsEnd r i = ring.HoldsItsEnd r.ring i
+
 -- these messages after those that were put before, unless an end was put
 abbrev pub followed_unless_ended : List Msg → List Msg → List Msg
 followed_unless_ended before ms = cond (ended (signals before)) before (before ++ ms)

@@ -1,5 +1,5 @@
 -- The ring after an end of an edge of words.
-use Rattle.std.specs.Prelude.{◌≡◌, ℕ, ◌+◌, ◌/◌, ◌<◌, ◌≤◌, true, List, [], ◌++◌, length}
+use Rattle.std.specs.Prelude.{◌≡◌, ℕ, ◌+◌, ◌/◌, ◌<◌, ◌≤◌, true, false, List, [], ◌++◌, length}
 use Rattle.std.specs.declared.alloc.Global.{Global}
 use mathlib.Core.List.{IsPrefix}
 use Rattle.rtrb.specs.Ring as ring
@@ -11,7 +11,7 @@ use denote.RawPtr.{Ptr}
 use Rattle.flow_messages.specs.declared.message.Kind.{Kind}
 use Rattle.flow_messages.specs.declared.message.Kind.TheVariants.{Unit as UnitKind, Bool as BoolKind, Int as IntKind}
 use Rattle.flow_messages.specs.declared.message.Msg.{Msg}
-use Rattle.flow_messages.specs.Signals.{signals, orderly}
+use Rattle.flow_messages.specs.Signals.{signals, has_end, orderly}
 use Rattle.flow_messages.specs.Stores.{content_of}
 use Rattle.flow_boxes.specs.declared.inbox.Inbox.{Inbox}
 use Rattle.flow_boxes.specs.Coming.{HasCome}
@@ -141,6 +141,22 @@ ProducerLooked a b = SameProducer a b × (half_put b ≡ half_put a) × (sent b 
 abbrev pub HasRoomFor : Inbox → ℕ → Type 0
 HasRoomFor i n = length (content_of i.store) + n ≤ i.store.capacity
 
+-- an inbox is for items of the kind of this ring
+abbrev pub HoldsKind : ReaderWords → Inbox → Type 0
+HoldsKind r i = i.store.kind ≡ reader_kind r
+
+-- where an inbox holds the end of the stream, this was taken from the ring
+abbrev pub HoldsItsEnd : ReaderWords → Inbox → Type 0
+HoldsItsEnd r i = has_end (content_of i.store) ≡ true → has_end (received r) ≡ true
+
+-- where these messages come into an inbox, nothing that it holds follows the end of the stream
+abbrev pub ComeInTurn : Inbox → List Msg → Type 0
+ComeInTurn i ms = orderly (signals (content_of i.store ++ ms)) ≡ true
+
+-- a rule lets no word follow the end of the stream
+abbrev pub ClosesAtEnd : {W : Type 0} → (W → Msg) → (List W → W → Type 0) → Type 0
+ClosesAtEnd word allows = (before : List _) (w : _) → allows before w → has_end (each_said word before) ≡ false
+
 module _ {T P : Type 0} where
   -- every slot of the ring is known to be free
   abbrev pub KnowsAllFree : Producer T Global P → Type 0
@@ -157,6 +173,10 @@ module _ {T P : Type 0} where
   -- the words that were pushed say these messages more
   abbrev pub SaysMore : (T → Msg) → List Msg → Producer T Global P → Producer T Global P → Type 0
   SaysMore word ms a b = each_said word (ring.sent b) ≡ each_said word (ring.sent a) ++ ms
+
+  -- where an inbox holds the end of the stream, the words that were popped say it
+  abbrev pub HoldsSaidEnd : (T → Msg) → Consumer T Global P → Inbox → Type 0
+  HoldsSaidEnd word c i = has_end (content_of i.store) ≡ true → has_end (each_said word (ring.received c)) ≡ true
 
   -- these words were popped: the first of what was seen
   abbrev pub Pops : List T → Consumer T Global P → Consumer T Global P → Type 0

@@ -2,11 +2,12 @@
 ghost use Rattle.std.specs.Prelude.{◌≡◌, ◌<◌, ◌≤◌, false, [], ◌∷◌, ◌++◌, length, take};
 ghost use Rattle.rtrb.specs.Ring as port;
 ghost use Rattle.rtrb.specs.Fifo.{Allowed};
+ghost use Rattle.flow_messages.specs.declared.message.Kind.TheVariants.{Int as IntKind};
 ghost use Rattle.flow_messages.specs.Stores.{content_of};
 ghost use Rattle.flow_boxes.specs.Coming.{HasCome};
 ghost use Rattle.flow_words.specs.declared.ring.ReaderWords.TheVariants.{Ints as IntsFrom};
 ghost use Rattle.flow_words.specs.Words.{each_said, ints_said, group_after};
-ghost use Rattle.flow_words.specs.Ring.{known_items, half_taken, HasRoomFor, Pops, TakesKnown, TakesSome};
+ghost use Rattle.flow_words.specs.Ring.{known_items, half_taken, ClosesAtEnd, ComeInTurn, HasRoomFor, HoldsItsEnd, HoldsKind, HoldsSaidEnd, Pops, TakesKnown, TakesSome};
 
 use crate::ring::{ClosingInts, ReaderWords};
 use crate::single::{PLACES, Single, hold};
@@ -44,6 +45,9 @@ fn take_singles<W: Single, P: Protocol<W>>(
 ) -> (usize, bool)
     requires few { (0 < length words.old) × (length words.old ≤ 256) }
     requires room { 0 < inbox.old.store.capacity }
+    requires kind { inbox.old.store.kind ≡ W.kind }
+    requires closes { ClosesAtEnd W.said P.allows }
+    requires ended { HoldsSaidEnd W.said ring.old inbox.old }
     ensures taken { Pops (take result.0 words.new) ring.old ring.new }
     ensures allowed { Allowed P.allows (port.received ring.old) (take result.0 words.new) }
     ensures come { HasCome (each_said W.said (take result.0 words.new)) inbox.old inbox.new }
@@ -62,7 +66,9 @@ fn take_singles<W: Single, P: Protocol<W>>(
 // Holds what one word more says. How much of a group has come after it.
 #[inline(always)]
 fn hold_word(word: i64, group: Group, inbox: &mut Inbox) -> Group
-    requires { HasRoomFor inbox.old (length (ints_said group (word ∷ []))) }
+    requires room { HasRoomFor inbox.old (length (ints_said group (word ∷ []))) }
+    requires kind { inbox.old.store.kind ≡ IntKind }
+    requires turn { ComeInTurn inbox.old (ints_said group (word ∷ [])) }
     ensures come { HasCome (ints_said group (word ∷ [])) inbox.old inbox.new }
     ensures group { result ≡ group_after group (word ∷ []) }
 {
@@ -76,7 +82,9 @@ fn hold_word(word: i64, group: Group, inbox: &mut Inbox) -> Group
 
 // Holds what these words say, one after another. How much of a group has come after them.
 fn hold_each(words: &[i64], group: Group, inbox: &mut Inbox) -> Group
-    requires { HasRoomFor inbox.old (length words.now) }
+    requires room { HasRoomFor inbox.old (length words.now) }
+    requires kind { inbox.old.store.kind ≡ IntKind }
+    requires turn { ComeInTurn inbox.old (ints_said group words.now) }
     ensures come { HasCome (ints_said group words.now) inbox.old inbox.new }
     ensures group { result ≡ group_after group words.now }
 {
@@ -90,10 +98,15 @@ fn hold_each(words: &[i64], group: Group, inbox: &mut Inbox) -> Group
 // Holds what these words say. How much of a group has come after them.
 #[inline(always)]
 fn hold_words(words: &[i64], group: Group, inbox: &mut Inbox) -> Group
-    requires { HasRoomFor inbox.old (length words.now) }
+    requires room { HasRoomFor inbox.old (length words.now) }
+    requires kind { inbox.old.store.kind ≡ IntKind }
+    requires turn { ComeInTurn inbox.old (ints_said group words.now) }
     ensures come { HasCome (ints_said group words.now) inbox.old inbox.new }
     ensures group { result ≡ group_after group words.now }
 {
+    if words.is_empty() {
+        return group;
+    }
     match group {
         Group::None if are_plain(words) => {
             inbox.push_all(Items::Ints(words));
@@ -111,6 +124,7 @@ fn take_whole(
 ) -> Group
     requires half { group ≡ half_taken (IntsFrom ring.old) }
     requires room { 0 < inbox.old.store.capacity }
+    requires kind { inbox.old.store.kind ≡ IntKind }
     requires none { content_of inbox.old.store ≡ [] }
     ensures half { result ≡ half_taken (IntsFrom ring.new) }
     ensures came { TakesSome (IntsFrom ring.old) (IntsFrom ring.new) inbox.old inbox.new }
@@ -141,6 +155,8 @@ fn take_ints(
     requires half { group ≡ half_taken (IntsFrom ring.old) }
     requires some { 0 < length words.old }
     requires room { 0 < inbox.old.store.capacity }
+    requires kind { inbox.old.store.kind ≡ IntKind }
+    requires ended { HoldsItsEnd (IntsFrom ring.old) inbox.old }
     ensures half { result.0 ≡ half_taken (IntsFrom ring.new) }
     ensures came { TakesSome (IntsFrom ring.old) (IntsFrom ring.new) inbox.old inbox.new }
     ensures found { content_of inbox.new.store ≡ [] → known_items (IntsFrom ring.new) ≡ [] }
@@ -160,7 +176,10 @@ fn take_ints(
 
 // Takes all words that were seen, each of which says a message, and holds what they say.
 fn drain_singles<W: Single, P: Protocol<W>>(ring: &mut Consumer<W, Global, P>, inbox: &mut Inbox)
-    requires { HasRoomFor inbox.old (length (port.known_items ring.old)) }
+    requires room { HasRoomFor inbox.old (length (port.known_items ring.old)) }
+    requires kind { inbox.old.store.kind ≡ W.kind }
+    requires closes { ClosesAtEnd W.said P.allows }
+    requires ended { HoldsSaidEnd W.said ring.old inbox.old }
     ensures ring { port.SameConsumer ring.old ring.new }
     ensures taken { port.received ring.new ≡
         port.received ring.old ++ port.known_items ring.old }
@@ -181,6 +200,8 @@ fn drain_ints(
 ) -> Group
     requires half { group ≡ half_taken (IntsFrom ring.old) }
     requires room { HasRoomFor inbox.old (length (known_items (IntsFrom ring.old))) }
+    requires kind { inbox.old.store.kind ≡ IntKind }
+    requires ended { HoldsItsEnd (IntsFrom ring.old) inbox.old }
     ensures half { result ≡ half_taken (IntsFrom ring.new) }
     ensures came { TakesKnown (IntsFrom ring.old) (IntsFrom ring.new) inbox.old inbox.new }
     ensures none { known_items (IntsFrom ring.new) ≡ [] }
@@ -205,6 +226,8 @@ impl ReaderWords {
         requires half { group ≡ half_taken self.old }
         requires some { 0 < length block.old }
         requires room { 0 < inbox.old.store.capacity }
+        requires kind { HoldsKind self.old inbox.old }
+        requires ended { HoldsItsEnd self.old inbox.old }
         ensures half { result.0 ≡ half_taken self.new }
         ensures came { TakesSome self.old self.new inbox.old inbox.new }
         ensures found { content_of inbox.new.store ≡ [] → known_items self.new ≡ [] }
@@ -236,6 +259,8 @@ impl ReaderWords {
     pub(crate) fn drain(&mut self, group: Group, inbox: &mut Inbox) -> Group
         requires half { group ≡ half_taken self.old }
         requires room { HasRoomFor inbox.old (length (known_items self.old)) }
+        requires kind { HoldsKind self.old inbox.old }
+        requires ended { HoldsItsEnd self.old inbox.old }
         ensures half { result ≡ half_taken self.new }
         ensures came { TakesKnown self.old self.new inbox.old inbox.new }
         ensures none { known_items self.new ≡ [] }

@@ -5,7 +5,7 @@ ghost use Rattle.flow_messages.specs.declared.message.Item.TheVariants.{Unit as 
 ghost use Rattle.flow_messages.specs.Contents.{unit_messages};
 ghost use Rattle.flow_boxes.specs.Coming.{HasCome};
 ghost use Rattle.flow_words.specs.Words.{unit_word, flag_word, each_said, SayFlags};
-ghost use Rattle.flow_words.specs.Ring.{HasRoomFor};
+ghost use Rattle.flow_words.specs.Ring.{ComeInTurn, HasRoomFor};
 
 use crate::words::{FlagWord, UnitWord};
 use flow_boxes::Inbox;
@@ -21,6 +21,7 @@ pub(crate) trait Single: Copy {
     ghost use Rattle.flow_messages.specs.declared.message.Msg.{Msg};
     ghost use Rattle.flow_messages.specs.Kinds.{fits};
     ghost use Rattle.flow_messages.specs.Signals.{signal_of};
+    ghost use Rattle.flow_messages.specs.Stores.{StoreIsOpen};
     ghost use Rattle.flow_boxes.specs.Coming.{HasCome};
     ghost use Rattle.flow_words.specs.Words.{each_said};
     ghost use Rattle.flow_words.specs.Ring.{HasRoomFor};
@@ -37,12 +38,15 @@ pub(crate) trait Single: Copy {
         ensures { said result ≡ message.now };
 
     fn message(self) -> Msg
-        ensures { result ≡ said self };
+        ensures said { result ≡ said self }
+        ensures fits { fits kind (signal_of result) ≡ true };
 
     // Holds these messages at once, where all are items. Whether they are.
     fn hold_items(words: &[Self], inbox: &mut Inbox) -> bool
         requires few { length words.now ≤ 256 }
         requires room { HasRoomFor inbox.old (length words.now) }
+        requires kind { inbox.old.store.kind ≡ kind }
+        requires open { StoreIsOpen inbox.old.store }
         ensures held { IsTrue result → HasCome (each_said said words.now) inbox.old inbox.new }
         ensures kept { result ≡ false → inbox.new ≡ inbox.old };
 }
@@ -209,8 +213,13 @@ pub(crate) fn lay_out(flags: &[bool], words: &mut [FlagWord])
 pub(crate) fn hold<W: Single>(words: &[W], inbox: &mut Inbox)
     requires few { length words.now ≤ 256 }
     requires room { HasRoomFor inbox.old (length words.now) }
+    requires kind { inbox.old.store.kind ≡ W.kind }
+    requires turn { ComeInTurn inbox.old (each_said W.said words.now) }
     ensures { HasCome (each_said W.said words.now) inbox.old inbox.new }
 {
+    if words.is_empty() {
+        return;
+    }
     if W::hold_items(words, inbox) {
         return;
     }
@@ -219,7 +228,9 @@ pub(crate) fn hold<W: Single>(words: &[W], inbox: &mut Inbox)
 
 // Holds these messages one after another.
 fn hold_each<W: Single>(words: &[W], inbox: &mut Inbox)
-    requires { HasRoomFor inbox.old (length words.now) }
+    requires room { HasRoomFor inbox.old (length words.now) }
+    requires kind { inbox.old.store.kind ≡ W.kind }
+    requires turn { ComeInTurn inbox.old (each_said W.said words.now) }
     ensures { HasCome (each_said W.said words.now) inbox.old inbox.new }
 {
     for word in words {

@@ -2,7 +2,8 @@ use Rattle.std.proofs.Common.{rules, ◌≡◌, ◌+◌, ◌≤◌, false, List,
 use Rattle.std.proofs.lemmas.List.{length-drop, take_all}
 use Rattle.rtrb.specs.Ring as port
 use Rattle.rtrb.specs.Fifo.{Allowed}
-use Rattle.flow_messages.specs.Signals.{signals, ended}
+use Rattle.flow_messages.specs.declared.message.Msg.{Msg}
+use Rattle.flow_messages.specs.Signals.{signals, ended, has_end}
 use Rattle.flow_boxes.specs.Coming.{HasCome}
 use Rattle.flow_words.specs.declared.ring.ReaderWords.TheVariants.{Ints as IntsFrom}
 use Rattle.flow_words.specs.Ring.{TakesOver}
@@ -15,7 +16,8 @@ use Rattle.flow_words.proofs.Said.{said-nil, after-nil}
 use Rattle.flow_words.proofs.Lists.{popped}
 use Rattle.flow_words.proofs.Coming.{come_none, come_as, come_length}
 use Rattle.flow_words.proofs.Holding.{group_next, come_next, room_left, same_consumer}
-use Rattle.flow_words.proofs.Taking.{allowed_snoc, ints_took, half_grown, none_known}
+use Rattle.flow_words.proofs.InTurn.{open_after, word_in_turn}
+use Rattle.flow_words.proofs.Taking.{allowed_snoc, ints_took, half_grown, said_further, none_known}
 use Rattle.flow_words.proofs.receiving.drain_ints.Goals as goal
 
 pub loop-init : goal.loop-init
@@ -39,14 +41,22 @@ hold_word-now-requires c =
     let x = c.pop_known.result in
     let next = ap (λ n. take n k) (add-one i) ∙ (popped k i x _ (sym inv.known ∙ c.pop_known.ensures.received.1)).0 in
     let f : FitsSigned w64 x = search rules in
-    subst (λ y. length (content_of c.loop.inbox.store) + length (ints_said c.loop.now (y ∷ [])) ≤ c.loop.inbox.store.capacity) (sym (word_kept x f)) (omega (
-      arith,
-      c.requires.room,
-      ap (λ h. length (ints_said h k)) c.requires.half,
-      room_left c.args.group c.loop.now c.loop.now k i x next inv.group,
-      come_length (ints_said c.args.group (take i k)) c.args.inbox.now c.loop.inbox inv.come,
-      inv.come.capacity,
-    ))
+    let held = content_of c.args.inbox.now.store in
+    let r = port.received c.args.ring.now in
+    let free = subst (λ (ms : List Msg). has_end ms ≡ false) (said_further r (port.received c.loop.ring) (take i k) c.args.group inv.taken c.requires.half) c.pop_known.ensures.allowed in
+    let clear = ap (λ (ms : List Msg). has_end ms) inv.come.held ∙ open_after held (ints_sent r) (ints_said c.args.group (take i k)) c.requires.ended free in
+    record {
+      room = subst (λ y. length (content_of c.loop.inbox.store) + length (ints_said c.loop.now (y ∷ [])) ≤ c.loop.inbox.store.capacity) (sym (word_kept x f)) (omega (
+        arith,
+        c.requires.room,
+        ap (λ h. length (ints_said h k)) c.requires.half,
+        room_left c.args.group c.loop.now c.loop.now k i x next inv.group,
+        come_length (ints_said c.args.group (take i k)) c.args.inbox.now c.loop.inbox inv.come,
+        inv.come.capacity,
+      ));
+      kind = inv.come.kind ∙ c.requires.kind;
+      turn = word_in_turn (content_of c.loop.inbox.store) c.loop.now (kept w64 x) clear;
+    }
 
 pub loop-preserved : goal.loop-preserved
 loop-preserved c =

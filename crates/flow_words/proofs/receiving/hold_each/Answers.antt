@@ -1,5 +1,8 @@
-use Rattle.std.proofs.Common.{rules, ◌≡◌, pos, [], ◌∷◌, ◌++◌, get_or, take, ap, sym, ◌∙◌, subst}
+use Rattle.std.proofs.Common.{rules, ◌≡◌, ◌+◌, List, append_assoc, pos, [], ◌∷◌, ◌++◌, get_or, take, ap, sym, ◌∙◌, subst}
 use Rattle.std.proofs.lemmas.List.{take_all}
+use Rattle.flow_messages.specs.declared.message.Msg.{Msg}
+use Rattle.flow_messages.specs.Signals.{signals, orderly}
+use Rattle.flow_messages.specs.Stores.{content_of}
 use Rattle.flow_boxes.specs.Coming.{HasCome}
 use Rattle.flow_words.specs.Words.{ints_said, group_after}
 use Rattle.flow_words.proofs.Said.{said-nil, after-nil}
@@ -7,7 +10,8 @@ use Rattle.std.specs.Prelude.{FitsSigned}
 use Rattle.std.specs.Int.{w64}
 use Rattle.flow_words.proofs.Digits.{kept, word_kept}
 use Rattle.flow_words.proofs.Coming.{come_none, come_as}
-use Rattle.flow_words.proofs.Holding.{part_next, group_next, come_next, room_for_word}
+use Rattle.flow_words.proofs.Holding.{part_next, said_more, group_next, come_next, room_for_word}
+use Rattle.flow_words.proofs.InTurn.{turn_part}
 use Rattle.flow_words.proofs.receiving.hold_each.Goals as goal
 
 pub loop-word-init : goal.loop-word-init
@@ -18,8 +22,23 @@ loop-word-init c = record {
 }
 
 pub hold_word-now-requires : goal.hold_word-now-requires
-hold_word-now-requires c = room_for_word c.args.group c.loop-word.now c.args.words.now c.loop-word.word-index _ c.args.inbox.now c.loop-word.inbox c.loop-word-test.true
-    c.loop-word.invariant.come c.requires
+hold_word-now-requires c =
+    let inv = c.loop-word.invariant in
+    let g = c.args.group in
+    let now = c.loop-word.now in
+    let ws = c.args.words.now in
+    let i = c.loop-word.word-index in
+    let held = content_of c.args.inbox.now.store in
+    let w = get_or ws i (pos 0) in
+    let f : FitsSigned w64 w = search rules in
+    let x = kept w64 w in
+    let part = part_next ws i (pos 0) c.loop-word-test.true ∙ ap (λ y. take i ws ++ y ∷ []) (sym (word_kept w f)) in
+    record {
+      room = room_for_word g now ws i x c.args.inbox.now c.loop-word.inbox c.loop-word-test.true inv.come c.requires.room;
+      kind = inv.come.kind ∙ c.requires.kind;
+      turn = ap (λ (l : List Msg). orderly (signals l)) (ap (λ l. l ++ ints_said now (x ∷ [])) inv.come.held ∙ append_assoc held (ints_said g (take i ws)) (ints_said now (x ∷ []))
+          ∙ ap (λ l. held ++ l) (sym (said_more g now now ws i x part inv.group))) ∙ turn_part held g ws (i + 1) c.requires.turn;
+    }
 
 pub loop-word-preserved : goal.loop-word-preserved
 loop-word-preserved c =

@@ -1,9 +1,13 @@
 use Rattle.std.proofs.Common.{◌≡◌, [], ◌∷◌, length, sym, ap, ◌∙◌, subst, arith}
 use Rattle.std.specs.Prelude.{IfSome, IfNone}
 use Rattle.std.specs.Int.{w64}
+use Rattle.flow_messages.specs.declared.message.Kind.TheVariants.{Int as IntKind}
+use Rattle.flow_messages.specs.Stores.{content_of}
 use Rattle.flow_words.specs.Words.{ints_said, group_after}
 use Rattle.flow_words.proofs.Digits.{kept, word_kept}
 use Rattle.flow_words.proofs.Coming.{come_none, come_as}
+use Rattle.flow_words.proofs.InTurn.{of_kind, open_now}
+use Rattle.flow_words.proofs.OfKind.{first_is_int}
 use Rattle.flow_words.proofs.receiving.hold_word.Goals as goal
 
 pub push-requires : goal.push-requires
@@ -12,7 +16,13 @@ push-requires c =
     let w = c.args.word in
     let said = ap (λ x. ints_said g (x ∷ [])) (sym (word_kept w c.ranges.word)) ∙ subst (λ o. IfSome o (λ m. ints_said g (kept w64 w ∷ []) ≡ m ∷ [])) c.in-Some.is c.step-next.ensures.some in
     let one : length (ints_said g (w ∷ [])) ≡ 1 = ap length said in
-    omega (arith, one, c.requires)
+    let i = c.args.inbox.now in
+    let m = c.in-Some.message in
+    record {
+      room = omega (arith, one, c.requires.room);
+      kind = of_kind IntKind i.store m c.requires.kind (first_is_int g w m [] said);
+      «open» = open_now (content_of i.store) (ints_said g (w ∷ [])) (omega (arith, one)) c.requires.turn;
+    }
 
 pub returns-in_default-clause-come : goal.returns-in_default-clause-come
 returns-in_default-clause-come c =

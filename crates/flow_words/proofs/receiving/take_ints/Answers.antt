@@ -1,4 +1,4 @@
-use Rattle.std.proofs.Common.{length, ap, ◌∙◌, arith}
+use Rattle.std.proofs.Common.{length, take, ap, ◌∙◌, arith}
 use Rattle.std.proofs.lemmas.List.{length-take}
 use Rattle.rtrb.specs.Ring as port
 use Rattle.flow_messages.specs.Stores.{content_of}
@@ -7,10 +7,18 @@ use Rattle.flow_words.specs.declared.ring.ReaderWords.TheVariants.{Ints as IntsF
 use Rattle.flow_words.specs.Words.{group_after}
 use Rattle.flow_words.proofs.Holding.{no_length}
 use Rattle.flow_words.proofs.Taking.{takes_more, ints_took, half_grown, none_known}
+use Rattle.flow_words.proofs.InTurn.{ints_in_turn}
 use Rattle.flow_words.proofs.receiving.take_ints.Goals as goal
 
 pub hold_words-now-requires : goal.hold_words-now-requires
-hold_words-now-requires c = omega (arith, c.pop_some-count.ensures.count, length-take c.pop_some-count.result c.pop_some-count.new.words, c.min-asked.ensures, c.len.ensures)
+hold_words-now-requires c =
+    let count = c.pop_some-count.result in
+    let words = c.pop_some-count.new.words in
+    record {
+      room = omega (arith, c.pop_some-count.ensures.count, length-take count words, c.min-asked.ensures, c.len.ensures);
+      kind = c.requires.kind;
+      turn = ints_in_turn c.args.inbox.now.store (port.received c.args.ring.now) (take count words) c.args.group c.requires.half c.requires.ended c.pop_some-count.ensures.allowed;
+    }
 
 pub returns-then-count-asked-clause-half : goal.returns-then-count-asked-clause-half
 returns-then-count-asked-clause-half c = c.hold_words-now.ensures.group

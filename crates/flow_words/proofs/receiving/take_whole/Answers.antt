@@ -1,6 +1,9 @@
-use Rattle.std.proofs.Common.{rules, ◌≡◌, [], ◌∷◌, length, sym, ap, ◌∙◌, subst, arith}
+use Rattle.std.proofs.Common.{rules, ◌≡◌, List, [], ◌∷◌, length, sym, ap, ◌∙◌, subst, arith}
 use Rattle.rtrb.specs.Ring as port
+use Rattle.flow_messages.specs.declared.message.Msg.{Msg}
+use Rattle.flow_messages.specs.Signals.{has_end}
 use Rattle.flow_messages.specs.Stores.{content_of}
+use Rattle.flow_messages.proofs.Signals.{ended-nil}
 use Rattle.flow_words.specs.declared.words.Group.TheVariants.{None as NoGroup}
 use Rattle.flow_words.specs.declared.ring.ReaderWords.TheVariants.{Ints as IntsFrom}
 use Rattle.flow_words.specs.Ring.{TakesOver}
@@ -15,6 +18,7 @@ use Rattle.flow_words.proofs.Lists.{none_there}
 use Rattle.flow_words.proofs.Coming.{none_came}
 use Rattle.flow_words.proofs.Holding.{no_length, room_for_one}
 use Rattle.flow_words.proofs.Taking.{takes_none, takes_more, ints_took, ints_none, half_grown}
+use Rattle.flow_words.proofs.InTurn.{word_in_turn}
 use Rattle.flow_words.proofs.receiving.take_whole.Goals as goal
 
 pub loop-init : goal.loop-init
@@ -36,7 +40,14 @@ pub returns-in-Err-clause-found : goal.returns-in-Err-clause-found
 returns-in-Err-clause-found c = λ _. ap (ints_said (group_after NoGroup (port.received c.pop.new.self))) c.in-Err.ensures.empty.1 ∙ said-nil _
 
 pub hold_word-now-requires : goal.hold_word-now-requires
-hold_word-now-requires c = room_for_one c.loop.now _ c.loop.inbox c.loop.invariant.none (omega (arith, c.loop.invariant.came.come.capacity, c.requires.room))
+hold_word-now-requires c =
+    let inv = c.loop.invariant in
+    let w = kept w64 c.in-Ok.word in
+    record {
+      room = room_for_one c.loop.now w c.loop.inbox inv.none (omega (arith, inv.came.come.capacity, c.requires.room));
+      kind = inv.came.come.kind ∙ c.requires.kind;
+      turn = word_in_turn (content_of c.loop.inbox.store) c.loop.now w (ap (λ (ms : List Msg). has_end ms) inv.none ∙ ended-nil);
+    }
 
 pub returns-then-len-gt0-clause-half : goal.returns-then-len-gt0-clause-half
 returns-then-len-gt0-clause-half c =
