@@ -37,6 +37,7 @@ pub use Rattle.flow_messages.specs.Blocks
 pub use Rattle.flow_messages.specs.Kinds
 pub use Rattle.flow_rings.specs.Ring
 pub use Rattle.flow_boxes.specs.Reserved
+pub use Rattle.flow_boxes.specs.Kinds as BoxKinds
 -- of lanes, whose ends a share owns
 pub use Rattle.flow_edges.specs.declared.lanes.ends.LaneWriter
 pub use Rattle.flow_edges.specs.declared.lanes.ends.LaneReader

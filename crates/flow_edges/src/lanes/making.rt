@@ -41,7 +41,7 @@ pub fn lane(
     // What the reader cannot tell it goes on to owe.
     let (teller, back) = scalar_edge(alloc, Kind::Int, capacity.min(NUMBERS))?;
     let gathered = Gathered::new(alloc, kind, most_gathered.min(capacity / 4))?;
-    let inbox = Inbox::new(alloc, capacity)?;
+    let inbox = Inbox::new(alloc, kind, capacity)?;
     let writer = CountedWriter {
         edge: writer,
         gathered,

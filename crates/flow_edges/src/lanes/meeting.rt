@@ -81,6 +81,8 @@ fn gather(writer: &mut WordWriter, reader: &mut WordReader, inbox: &mut Inbox)
     requires fifo { words.received reader.old ++ words.certain_held reader.old ≡
         words.sent writer.old }
     requires room { HasRoomFor inbox.old (length (words.certain_held reader.old)) }
+    requires kind { words.HoldsKind reader.old inbox.old }
+    requires ended { words.HoldsItsEnd reader.old inbox.old }
     ensures writer { words.SameWriter writer.old writer.new }
     ensures sent { words.sent writer.new ≡ words.sent writer.old }
     ensures reader { words.SameReader reader.old reader.new }

@@ -1,7 +1,7 @@
 // The end that takes scalars, with those that it took over and has not given yet.
 ghost use Rattle.std.specs.Prelude.{◌≡◌, ◌<◌, length};
 ghost use Rattle.flow_boxes.specs.Received.{received_of};
-ghost use Rattle.flow_words.specs.Edge.{received};
+ghost use Rattle.flow_words.specs.Edge.{received, reader_kind};
 ghost use Rattle.flow_edges.specs.lanes.Credits.{Owes};
 
 use flow_boxes::Inbox;
@@ -22,6 +22,7 @@ pub struct Pocket {
     // All that came over the edge.
     pub(crate) came: History<Msg>,
     ghost reserved: { 0 < inbox.store.capacity },
+    ghost kind: { inbox.store.kind ≡ reader_kind edge },
     ghost arrived: { came.items ≡ inbox.arrived.items },
     ghost all: { came.items ≡ received edge },
     ghost owes: { Owes (length (received_of inbox)) owed back },

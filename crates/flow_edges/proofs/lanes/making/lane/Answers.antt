@@ -9,6 +9,7 @@ invariant_of-reader c =
     let inbox = c.in_ok-inbox.ensures in
     record {
       reserved = omega (arith, inbox.reserved, c.requires.some);
+      kind = inbox.kind ∙ sym edge.kind.1;
       arrived = c.new-3.ensures ∙ sym inbox.arrived;
       all = c.new-3.ensures ∙ sym edge.reader.0;
       owes = owes_fresh _ c.in_ok-teller.teller (ap length inbox.received) back.writer.0 back.kind.0 (omega (arith, back.writer.2, c.requires.some));

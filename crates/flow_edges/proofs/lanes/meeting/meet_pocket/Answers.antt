@@ -5,6 +5,7 @@ use Rattle.flow_rings.specs.Edge.{SameReader}
 use Rattle.flow_words.specs.Edge.{sent, certain_held}
 use Rattle.flow_words.proofs.Coming.{come_length}
 use Rattle.flow_edges.specs.lanes.Credits.{Owes}
+use Rattle.flow_edges.proofs.OfLanes.InTurn.{holds_kind, holds_its_end}
 use Rattle.flow_edges.proofs.OfLanes.Lists.{filled, prefix-more}
 use Rattle.flow_edges.proofs.OfLanes.Settled.{bound, within, gathered}
 use Rattle.flow_edges.proofs.lanes.meeting.meet_pocket.Goals as goal
@@ -29,6 +30,8 @@ gather-requires c =
         c.put_out.ensures.edge.1,
         c.requires.2,
       );
+      kind = holds_kind p c.meet.new.reader met.reader.0 met.reader.1;
+      ended = holds_its_end p c.meet.new.reader met.reader.0 met.reader.1;
     }
 
 pub overflow_sub-writer : goal.overflow_sub-writer
@@ -80,6 +83,7 @@ invariant_of-reader-2 c =
     let came = c.followed_by-reader.ensures ∙ ap (λ l. l ++ i.arrived.items) c.new.ensures in
     record {
       reserved = omega (arith, p.reserved, come.capacity);
+      kind = come.kind ∙ p.kind ∙ sym (ap (λ w. w.0) (c.gather.ensures.reader ∙ met.reader.0));
       arrived = came;
       all = came ∙ gathered c.put_out.new.self p c.meet.new.writer c.meet.new.reader met.writer.1 met.reader.1 met.fifo i come ∙ sym c.gather.ensures.received;
       owes = subst (λ n. Owes n c.settle-reader.result c.settle-reader.new.teller) (sym (ap length come.received)) (c.settle-reader.ensures.owes (length (received_of p.inbox)) p.owes);
