@@ -8,7 +8,7 @@ use flow_edges::lanes::Rings;
 use flow_messages::{Block, Ends, Kind, Table};
 use flow_networks::{Graph, step_block};
 use flow_nodes::StreamNode;
-use flow_samples::{block, graph_of, lone};
+use flow_samples::{block, graph_of, kinds_taken, lone};
 use flow_shares::meetings::{EdgeOwners, Meeting, Opening, meet_all, open_all};
 use std::alloc::{AllocError, Global};
 use std::process::Abort;
@@ -356,7 +356,7 @@ const DRAWN: [Course; 3] = [
     },
 ];
 
-// A lane of units takes no integers, so the node that writes them may not step, and its reader's lane stays as it is.
+// An edge of units takes no integers, so the node that writes them may not step, and the edge that it reads stays as it is.
 const OF_OTHER_KINDS: [Course; 1] = [Course {
     graph: CONST,
     kinds: [Kind::Unit; 3],
@@ -426,7 +426,7 @@ fn first_in_table<T: Transducer + Drop>(
     mut graph: Graph<T>,
     course: &Course,
 ) -> Result<Option<usize>, AllocError> {
-    let mut table = Table::new(alloc, 3, course.capacity.clamp(1, 100))?;
+    let mut table = Table::new(alloc, &course.kinds, course.capacity.clamp(1, 100))?;
     for (number, &act) in course.acts.iter().enumerate() {
         if !goes(&mut graph, &mut table, act) {
             return Ok(Some(number));
@@ -559,36 +559,18 @@ fn a_source_draws_a_block(rt: HostRuntime) -> Result<(), Fail> {
 }
 
 #[test]
-fn no_block_goes_to_a_lane_of_another_kind(rt: HostRuntime) -> Result<(), Fail> {
-    assert_go::<Rings>(&rt, rt.alloc(), &OF_OTHER_KINDS)
-}
-
-// Whether the first edge takes units, truth values, integers and vectors.
-fn kinds_taken<E: Ends>(ends: &E) -> Option<[bool; 4]> {
-    if !ends.has_writer(0) {
-        return None;
-    }
-    Some([
-        ends.takes(0, Kind::Unit),
-        ends.takes(0, Kind::Bool),
-        ends.takes(0, Kind::Int),
-        ends.takes(0, Kind::Vec),
-    ])
+fn no_block_goes_to_an_edge_of_another_kind(rt: HostRuntime) -> Result<(), Fail> {
+    assert_go_everywhere(&rt, rt.alloc(), &OF_OTHER_KINDS)
 }
 
 #[test]
-fn a_lane_takes_its_kind_alone(rt: HostRuntime) -> Result<(), Fail> {
+fn an_edge_takes_its_kind_alone(rt: HostRuntime) -> Result<(), Fail> {
     let alloc = rt.alloc();
     let told = [
-        kinds_taken(&Table::new(alloc, 1, 1)?),
-        kinds_taken(&lone::<Boxes>(alloc, Kind::Int)?),
-        kinds_taken(&lone::<Rings>(alloc, Kind::Int)?),
+        kinds_taken(&Table::new(alloc, &[Kind::Int], 1)?, 0),
+        kinds_taken(&lone::<Boxes>(alloc, Kind::Int)?, 0),
+        kinds_taken(&lone::<Rings>(alloc, Kind::Int)?, 0),
     ];
-    let wanted = [
-        Some([true; 4]),
-        Some([true; 4]),
-        Some([false, false, true, false]),
-    ];
-    assert_eq!(rt; told, wanted);
+    assert_eq!(rt; told, [Some([false, false, true, false]); 3]);
     Ok(())
 }

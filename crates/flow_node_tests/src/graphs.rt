@@ -5,7 +5,7 @@ ghost use Rattle.flow_networks.specs.Networks.{AreOpened};
 
 use flow_base::Transducer;
 use flow_messages::{Ends, Item, Msg, Table};
-use flow_networks::{Edge, Graph, GraphBuilder, Stepped, step_once};
+use flow_networks::{Edge, Graph, GraphBuilder, Stepped, kinds_of, step_once};
 use flow_samples::{SUM_OF_FIVE, SUM_OF_UNLIKE, drawn, graph_of, join};
 use kahn::Want;
 use snesl_data::{Fault, FaultKind};
@@ -20,7 +20,7 @@ fn step<T: Transducer>(
     table: &mut Table,
     node: usize,
 ) -> Result<Stepped, Fail> {
-    assert!(rt; node < graph.nodes() && graph.has_ends(table, node));
+    assert!(rt; node < graph.nodes() && graph.may_step(table, node));
     Ok(step_once(graph, table, node)?)
 }
 
@@ -76,7 +76,7 @@ fn assert_nineteen<T: Transducer + Drop>(
     mut graph: Graph<T>,
     order: &[usize],
 ) -> Result<(), Fail> {
-    let mut table = Table::new(alloc, graph.edges(), 1)?;
+    let mut table = Table::new(alloc, &kinds_of(alloc, &graph)?, 1)?;
     let counts = run_in_order(rt, &mut graph, &mut table, order)?;
     assert_eq!(rt; (counts, ended(rt, &graph)), ((19, 19), 5));
     Ok(())
@@ -120,7 +120,7 @@ fn assert_unlike<T: Transducer + Drop>(
     alloc: Global,
     mut graph: Graph<T>,
 ) -> Result<(), Fail> {
-    let mut table = Table::new(alloc, graph.edges(), 4)?;
+    let mut table = Table::new(alloc, &kinds_of(alloc, &graph)?, 4)?;
     run_in_order(rt, &mut graph, &mut table, &[0, 1, 2])?;
     let shape = Fault {
         kind: FaultKind::Shape,

@@ -1,13 +1,10 @@
 // Courses over edges: what is done at their ends, step by step, and what is to come of it. Each is a row, of boxes or of rings.
-ghost use Rattle.std.specs.Prelude.{◌≡◌, ◌<◌, ◌≤◌, ℕ, true, IsTrue, Option, length, slice_index_or};
-ghost use Rattle.flow_messages.specs.declared.message.Kind.{Kind};
+ghost use Rattle.std.specs.Prelude.{◌≡◌, ◌<◌, ◌≤◌, ℕ, true, IsTrue, length, slice_index_or};
 ghost use Rattle.flow_messages.specs.declared.message.Kind.TheVariants.{Int as IntKind};
 ghost use Rattle.std.specs.List.{All};
-ghost use Rattle.flow_messages.specs.Ends.{SameEnds};
 ghost use Rattle.flow_messages.specs.Kinds.{TakesKind, TakesItems};
 ghost use Rattle.flow_messages.specs.Limits.{greatest_capacity};
 ghost use Rattle.flow_samples.specs.Joined.{AreJoined};
-ghost use Rattle.flow_samples.specs.Taking.{AllTake};
 
 use crate::messages::{is_message, is_refused, message};
 use flow_boxes::Boxes;
@@ -49,6 +46,9 @@ pub enum Block {
     /// At most so many messages are taken, and these come, with `End` after them where it closes.
     TakesScalars(usize, &'static [i128], bool),
 }
+
+/// An integer of more than 64 bits.
+pub const WIDE: i128 = 18_446_744_073_709_551_616;
 
 // A step of a course.
 #[derive(Clone, Copy)]
@@ -209,6 +209,64 @@ const INTS_OVER_BOXES: Course = Course {
     ],
 };
 
+// Integers of more than 64 bits stand among others in the order of their puts, also where what comes is put behind what was left.
+const WIDE_INTS: Course = Course {
+    name: "integers of more than 64 bits",
+    shares: Shares::One,
+    kind: Kind::Int,
+    capacity: 6,
+    steps: &[
+        CourseStep::At(0, 0, Act::Puts(Some(1))),
+        CourseStep::At(0, 0, Act::Puts(Some(2))),
+        CourseStep::At(0, 0, Act::Puts(Some(WIDE))),
+        CourseStep::Meet,
+        CourseStep::At(0, 0, Act::Takes(Some(1))),
+        CourseStep::At(0, 0, Act::Takes(Some(2))),
+        CourseStep::At(0, 0, Act::Blocks(Block::Puts(Items::Ints(&[3, 4])))),
+        CourseStep::At(0, 0, Act::Puts(Some(-WIDE))),
+        CourseStep::Meet,
+        CourseStep::At(0, 0, Act::Takes(Some(WIDE))),
+        CourseStep::At(0, 0, Act::Takes(Some(3))),
+        CourseStep::Meet,
+        CourseStep::At(0, 0, Act::Blocks(Block::PutsScalars(&[5, 6], true, true))),
+        CourseStep::Meet,
+        CourseStep::At(0, 0, Act::Takes(Some(4))),
+        CourseStep::At(
+            0,
+            0,
+            Act::Blocks(Block::TakesScalars(64, &[-WIDE, 5, 6], true)),
+        ),
+        CourseStep::At(0, 0, Act::Counts(9, 9)),
+    ],
+};
+
+// What is put behind others that lie side by side lies beside them.
+const WIDE_OVER_BOXES: Course = Course {
+    name: "integers of more than 64 bits over boxes",
+    shares: Shares::One,
+    kind: Kind::Int,
+    capacity: 6,
+    steps: &[
+        CourseStep::At(0, 0, Act::Blocks(Block::Puts(Items::Ints(&[1, 2])))),
+        CourseStep::Meet,
+        CourseStep::At(0, 0, Act::Takes(Some(1))),
+        CourseStep::At(0, 0, Act::Blocks(Block::Puts(Items::Ints(&[3])))),
+        CourseStep::At(0, 0, Act::Puts(Some(WIDE))),
+        CourseStep::At(0, 0, Act::Puts(Some(4))),
+        CourseStep::Meet,
+        CourseStep::At(0, 0, Act::Blocks(Block::Shows(Items::Ints(&[2, 3])))),
+        CourseStep::At(0, 0, Act::Blocks(Block::SkipsOne)),
+        CourseStep::At(0, 0, Act::Blocks(Block::SkipsOne)),
+        CourseStep::At(0, 0, Act::Blocks(Block::Shows(Items::Nothing))),
+        CourseStep::At(0, 0, Act::Blocks(Block::SkipsOne)),
+        CourseStep::At(0, 0, Act::Takes(Some(4))),
+        CourseStep::At(0, 0, Act::Blocks(Block::Puts(Items::Ints(&[5])))),
+        CourseStep::Meet,
+        CourseStep::At(0, 0, Act::Blocks(Block::Shows(Items::Ints(&[5])))),
+        CourseStep::At(0, 0, Act::Counts(6, 5)),
+    ],
+};
+
 const FLAGS_OVER_BOXES: Course = Course {
     name: "truth values over boxes",
     shares: Shares::One,
@@ -266,9 +324,11 @@ const SCALARS: Course = Course {
     ],
 };
 
-const OVER_BOXES: [Course; 7] = [
+const OVER_BOXES: [Course; 9] = [
     EACH_WAY,
     SCALARS,
+    WIDE_INTS,
+    WIDE_OVER_BOXES,
     INTS_OVER_BOXES,
     FLAGS_OVER_BOXES,
     UNITS_OVER_BOXES,
@@ -318,9 +378,10 @@ const OVER_BOXES: [Course; 7] = [
     },
 ];
 
-const OVER_RINGS: [Course; 10] = [
+const OVER_RINGS: [Course; 11] = [
     EACH_WAY,
     SCALARS,
+    WIDE_INTS,
     INTS_OVER_RINGS,
     FLAGS_OVER_RINGS,
     UNITS_OVER_RINGS,
@@ -367,25 +428,14 @@ const OVER_RINGS: [Course; 10] = [
     },
 ];
 
-/// The kind of the items that it puts.
-pub fn kind_put(act: Act) -> Kind {
-    match act {
-        Act::Blocks(Block::Puts(Items::Units(_))) => Kind::Unit,
-        Act::Blocks(Block::Puts(Items::Flags(_))) => Kind::Bool,
-        _ => Kind::Int,
-    }
-}
-
-/// Does this at the ends of an edge, where only items of this kind are put. Whether what is to come of it comes.
-pub fn acts<E: CountedEnds>(ends: &mut E, edge: usize, kind: Kind, act: Act) -> bool
-    requires { AllTake (E.view ends.old) kind }
-    ensures same { E.same ends.old ends.new }
-    ensures ends { SameEnds (E.view ends.old) (E.view ends.new) }
+/// Does this at the ends of an edge. Whether what is to come of it comes: nothing is put that the edge does not take.
+pub fn acts<E: CountedEnds>(ends: &mut E, edge: usize, act: Act) -> bool
+    ensures { E.same ends.old ends.new }
 {
     let (writes, reads) = (ends.has_writer(edge), ends.has_reader(edge));
     match act {
-        Act::Puts(of) => puts(ends, edge, kind, of, None),
-        Act::IsRefused(of, cause) => puts(ends, edge, kind, of, Some(cause)),
+        Act::Puts(of) => puts(ends, edge, of, None),
+        Act::IsRefused(of, cause) => puts(ends, edge, of, Some(cause)),
         Act::Takes(of) => reads && is_message(ends.take(edge), of),
         Act::TakesNothing => reads && ends.take(edge).is_none(),
         Act::HasRoom(room) => writes && ends.room(edge) == room,
@@ -397,26 +447,19 @@ pub fn acts<E: CountedEnds>(ends: &mut E, edge: usize, kind: Kind, act: Act) -> 
                 && ends.sent_count(edge) == sent
                 && ends.received_count(edge) == received
         }
-        Act::Blocks(block) => goes_in_blocks(ends, edge, kind, block),
+        Act::Blocks(block) => goes_in_blocks(ends, edge, block),
     }
 }
 
-// Puts a number, or `End`, where integers are put. Whether it is put, or is refused for this cause.
-fn puts<E: CountedEnds>(
-    ends: &mut E,
-    edge: usize,
-    kind: Kind,
-    of: Option<i128>,
-    refused: Option<Why>,
-) -> bool
-    requires { AllTake (E.view ends.old) kind }
-    ensures same { E.same ends.old ends.new }
-    ensures ends { SameEnds (E.view ends.old) (E.view ends.new) }
+// Puts a number, where the edge takes integers, or `End`. Whether it is put, or is refused for this cause.
+fn puts<E: CountedEnds>(ends: &mut E, edge: usize, of: Option<i128>, refused: Option<Why>) -> bool
+    ensures { E.same ends.old ends.new }
 {
-    if kind != Kind::Int || !ends.has_writer(edge) {
+    let put = message(of);
+    if !ends.has_writer(edge) || !(put.is_end() || ends.takes(edge, Kind::Int)) {
         return false;
     }
-    let answer = ends.put(edge, message(of));
+    let answer = ends.put(edge, put);
     match refused {
         Some(cause) => is_refused(answer, of, cause),
         None => answer.is_ok(),
@@ -424,20 +467,19 @@ fn puts<E: CountedEnds>(
 }
 
 // Does this with a block of an edge. Whether what is to come of it comes.
-fn goes_in_blocks<E: CountedEnds>(ends: &mut E, edge: usize, kind: Kind, block: Block) -> bool
-    requires { AllTake (E.view ends.old) kind }
-    ensures same { E.same ends.old ends.new }
-    ensures ends { SameEnds (E.view ends.old) (E.view ends.new) }
+fn goes_in_blocks<E: CountedEnds>(ends: &mut E, edge: usize, block: Block) -> bool
+    ensures { E.same ends.old ends.new }
 {
     let (writes, reads) = (ends.has_writer(edge), ends.has_reader(edge));
     match block {
-        Block::Puts(items) if writes && are_of(items, kind) && ends.space(edge) >= items.len() => {
+        Block::Puts(items)
+            if writes && takes_items(ends, edge, items) && ends.space(edge) >= items.len() => {
             ends.put_all(edge, items);
         }
         Block::SkipsOne if reads && ends.ready(edge) => ends.skip(edge, 1),
         Block::HasRoomFor(count, room) => return writes && ends.room_for(edge, count) == room,
-        Block::PutsScalars(numbers, closes, put) if writes && kind == Kind::Int => {
-            return puts_scalars(ends, edge, kind, numbers, closes) == put;
+        Block::PutsScalars(numbers, closes, put) if writes && ends.takes(edge, Kind::Int) => {
+            return puts_scalars(ends, edge, numbers, closes) == put;
         }
         Block::TakesScalars(most, numbers, closes) if reads => {
             let mut taken = Scalars::new();
@@ -451,15 +493,16 @@ fn goes_in_blocks<E: CountedEnds>(ends: &mut E, edge: usize, kind: Kind, block: 
     true
 }
 
-// Whether an edge of items of this kind takes these.
-fn are_of(items: Items<'_>, kind: Kind) -> bool
-    ensures { IsTrue result → (of : Option Kind) → TakesKind of kind → TakesItems of items.entry }
+// Whether the edge takes these items.
+fn takes_items<E: CountedEnds>(ends: &E, edge: usize, items: Items<'_>) -> bool
+    requires { (E.view ends.now).writes edge ≡ true }
+    ensures { IsTrue result → TakesItems ((E.view ends.now).kind edge) items.entry }
 {
     match items {
         Items::Nothing => true,
-        Items::Units(_) => kind == Kind::Unit,
-        Items::Flags(_) => kind == Kind::Bool,
-        Items::Ints(_) => kind == Kind::Int,
+        Items::Units(_) => ends.takes(edge, Kind::Unit),
+        Items::Flags(_) => ends.takes(edge, Kind::Bool),
+        Items::Ints(_) => ends.takes(edge, Kind::Int),
     }
 }
 
@@ -469,18 +512,10 @@ fn are_same(one: Items<'_>, other: Items<'_>) -> bool {
 }
 
 // Puts these numbers as a block, and `End` after them where it closes. Whether they are put; if not, the block is as it was.
-fn puts_scalars<E: CountedEnds>(
-    ends: &mut E,
-    edge: usize,
-    kind: Kind,
-    numbers: &[i128],
-    closes: bool,
-) -> bool
+fn puts_scalars<E: CountedEnds>(ends: &mut E, edge: usize, numbers: &[i128], closes: bool) -> bool
     requires writes { (E.view ends.old).writes edge ≡ true }
-    requires ints { kind ≡ IntKind }
-    requires takes { AllTake (E.view ends.old) kind }
-    ensures same { E.same ends.old ends.new }
-    ensures ends { SameEnds (E.view ends.old) (E.view ends.new) }
+    requires takes { TakesKind ((E.view ends.old).kind edge) IntKind }
+    ensures { E.same ends.old ends.new }
 {
     let mut put = block_of(Kind::Int, numbers, closes);
     if ends.put_block(edge, &mut put) {
@@ -489,37 +524,26 @@ fn puts_scalars<E: CountedEnds>(
     put.as_slice() != block_of(Kind::Int, numbers, closes).as_slice()
 }
 
-// The same in the share of this number.
-fn act_in<E: CountedEnds>(ends: &mut [E], share: usize, edge: usize, kind: Kind, act: Act) -> bool
+// Does this in the share of this number.
+fn act_in<E: CountedEnds>(ends: &mut [E], share: usize, edge: usize, act: Act) -> bool
     requires there { share < length ends.old }
-    requires takes { All (λ a. AllTake (E.view a) kind) ends.old }
-    ensures takes { All (λ a. AllTake (E.view a) kind) ends.new }
     ensures same { (s : ℕ) (d : _) → s < length ends.old →
         E.same (slice_index_or ends.old s d) (slice_index_or ends.new s d) }
 {
-    acts(&mut ends[share], edge, kind, act)
+    acts(&mut ends[share], edge, act)
 }
 
 // Makes a step over the ends of shares. Whether what is to come of it comes.
-fn goes<E: Meeting + CountedEnds>(
-    ends: &mut [E],
-    owners: &[EdgeOwners],
-    kind: Kind,
-    step: CourseStep,
-) -> bool
-    requires joined { AreJoined E.joins owners.now ends.old }
-    requires takes { All (λ a. AllTake (E.view a) kind) ends.old }
-    ensures joined { AreJoined E.joins owners.now ends.new }
-    ensures takes { All (λ a. AllTake (E.view a) kind) ends.new }
+fn goes<E: Meeting + CountedEnds>(ends: &mut [E], owners: &[EdgeOwners], step: CourseStep) -> bool
+    requires { AreJoined E.joins owners.now ends.old }
+    ensures { AreJoined E.joins owners.now ends.new }
 {
     match step {
         CourseStep::Meet => {
             meet_all(ends, owners);
             true
         }
-        CourseStep::At(share, edge, act) => {
-            share < ends.len() && act_in(ends, share, edge, kind, act)
-        }
+        CourseStep::At(share, edge, act) => share < ends.len() && act_in(ends, share, edge, act),
     }
 }
 
@@ -527,14 +551,12 @@ fn goes<E: Meeting + CountedEnds>(
 fn first_wrong<E: Meeting + CountedEnds>(
     ends: &mut [E],
     owners: &[EdgeOwners],
-    kind: Kind,
     steps: &[CourseStep],
 ) -> Option<usize>
-    requires joined { AreJoined E.joins owners.now ends.old }
-    requires takes { All (λ a. AllTake (E.view a) kind) ends.old }
+    requires { AreJoined E.joins owners.now ends.old }
 {
     for (number, &step) in steps.iter().enumerate() {
-        if !goes(ends, owners, kind, step) {
+        if !goes(ends, owners, step) {
             return Some(number);
         }
     }
@@ -557,7 +579,7 @@ fn first_over<E: Opening + CountedEnds + Drop>(
 {
     let kinds = alike(alloc, owners.len(), kind)?;
     let mut ends: Vec<E> = open_all(alloc, shares, owners, &kinds, capacity)?;
-    Ok(first_wrong(&mut ends, owners, kind, steps))
+    Ok(first_wrong(&mut ends, owners, steps))
 }
 
 // The number of the first step of a course that does not go, if there is one.

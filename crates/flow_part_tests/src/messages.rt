@@ -26,6 +26,14 @@ pub fn is_message(taken: Option<Msg>, number: Option<i128>) -> bool {
     }
 }
 
+/// Whether a message is there, and carries a vector.
+pub fn is_vector(taken: Option<Msg>) -> bool {
+    match taken {
+        Some(Msg::Item(Item::Vec(_) | Item::Typed(_))) => true,
+        _ => false,
+    }
+}
+
 /// Whether the message of this number, or `End`, came back for this cause.
 pub fn is_refused(answer: Result<(), Refused>, number: Option<i128>, cause: Why) -> bool {
     match answer {

@@ -21,7 +21,7 @@ fn bare(alloc: Global, number: usize) -> Result<Share<Source, Rings>, AllocError
     ensures none { IfOk result (λ share. length share.nodes.items ≡ 0) }
     ensures ends { IfOk result (λ share. HasNoEnds (ends_of share.ends)) }
 {
-    let ends = <Rings as Opening>::none(alloc, 0, 1)?;
+    let ends = <Rings as Opening>::none(alloc, &[], 1)?;
     Ok(Share::new(number, Vec::new(alloc), ends))
 }
 
@@ -61,7 +61,7 @@ impl Gate for Count {
 #[test]
 fn a_share_without_nodes_calls_no_gate(rt: HostRuntime) -> Result<(), Fail> {
     let nodes: Vec<Placed<Source>> = Vec::new(rt.alloc());
-    let share = Share::new(3, nodes, Table::new(rt.alloc(), 0, 1)?);
+    let share = Share::new(3, nodes, Table::new(rt.alloc(), &[], 1)?);
     let gate = Count {
         turns: Cell::new(0),
     };

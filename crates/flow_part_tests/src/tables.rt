@@ -1,13 +1,16 @@
 // Edges of one thread.
-use crate::courses::{Act, Block, acts, kind_put};
-use flow_messages::{Ends, Items, Table, WholeEnds, Why};
+use crate::courses::{Act, Block, WIDE, acts};
+use crate::messages::is_vector;
+use flow_messages::{Ends, Items, Kind, Msg, Table, WholeEnds, Why};
+use flow_samples::{WordError, kinds_taken, message};
+use std::alloc::Global;
 use std::process::Abort;
 use std::test::Fail;
 
 // The number of the first act that does not go at its edge, if there is one.
 fn first_wrong(table: &mut Table, all: &[(usize, Act)]) -> Option<usize> {
     for (number, &(edge, act)) in all.iter().enumerate() {
-        if !acts(table, edge, kind_put(act), act) {
+        if !acts(table, edge, act) {
             return Some(number);
         }
     }
@@ -50,7 +53,7 @@ const EMPTIES: [(usize, Act); 4] = [
 
 #[test]
 fn three_edges(rt: HostRuntime) -> Result<(), Fail> {
-    let mut table = Table::new(rt.alloc(), 3, 2)?;
+    let mut table = Table::new(rt.alloc(), &[Kind::Int; 3], 2)?;
     let filled = (first_wrong(&mut table, &FILLS), held(&rt, &table));
     let emptied = (first_wrong(&mut table, &EMPTIES), held(&rt, &table));
     assert_eq!(rt;
@@ -60,43 +63,110 @@ fn three_edges(rt: HostRuntime) -> Result<(), Fail> {
     Ok(())
 }
 
-// Blocks of each kind are seen on the first edge, and taken in part. On the second, items of other kinds stand in the order of
-// their puts, and no block is put after `End`.
-const IN_BLOCKS: [(usize, Act); 21] = [
-    (0, Act::Blocks(Block::Puts(Items::Ints(&[7, 8, 9])))),
-    (0, Act::Blocks(Block::Shows(Items::Ints(&[7, 8, 9])))),
-    (0, Act::Blocks(Block::SkipsOne)),
-    (0, Act::Takes(Some(8))),
-    (0, Act::Blocks(Block::Shows(Items::Ints(&[9])))),
-    (0, Act::Takes(Some(9))),
-    (0, Act::Blocks(Block::Puts(Items::Flags(&[true, false])))),
-    (0, Act::Blocks(Block::Shows(Items::Flags(&[true, false])))),
-    (0, Act::Blocks(Block::SkipsOne)),
-    (0, Act::Blocks(Block::SkipsOne)),
+// An edge of each kind.
+const KINDS: [Kind; 4] = [Kind::Unit, Kind::Bool, Kind::Int, Kind::Vec];
+
+#[test]
+fn each_edge_takes_its_kind_alone(rt: HostRuntime) -> Result<(), Fail> {
+    let table = Table::new(rt.alloc(), &KINDS, 4)?;
+    let taken = [
+        kinds_taken(&table, 0),
+        kinds_taken(&table, 1),
+        kinds_taken(&table, 2),
+        kinds_taken(&table, 3),
+        kinds_taken(&table, 4),
+    ];
+    let wanted = [
+        Some([true, false, false, false]),
+        Some([false, true, false, false]),
+        Some([false, false, true, false]),
+        Some([false, false, false, true]),
+        None,
+    ];
+    assert_eq!(rt; taken, wanted);
+    Ok(())
+}
+
+// Blocks of each kind are seen on the edge of their kind, and taken in part. `End` comes after all of them, and no block is put
+// after it.
+const IN_BLOCKS: [(usize, Act); 31] = [
+    (2, Act::Blocks(Block::Puts(Items::Ints(&[7, 8, 9])))),
+    (2, Act::Blocks(Block::Shows(Items::Ints(&[7, 8, 9])))),
+    (2, Act::Blocks(Block::SkipsOne)),
+    (2, Act::Takes(Some(8))),
+    (2, Act::Blocks(Block::Shows(Items::Ints(&[9])))),
+    (2, Act::Puts(None)),
+    (2, Act::Blocks(Block::Puts(Items::Ints(&[1])))),
+    (2, Act::Takes(Some(9))),
+    (2, Act::Takes(None)),
+    (2, Act::Counts(4, 4)),
+    (1, Act::Blocks(Block::Puts(Items::Flags(&[true, false])))),
+    (1, Act::Blocks(Block::Shows(Items::Flags(&[true, false])))),
+    (1, Act::Blocks(Block::SkipsOne)),
+    (1, Act::Puts(None)),
+    (1, Act::Blocks(Block::Puts(Items::Flags(&[true])))),
+    (1, Act::Blocks(Block::Shows(Items::Flags(&[false])))),
+    (1, Act::Blocks(Block::SkipsOne)),
+    (1, Act::Takes(None)),
+    (1, Act::Counts(3, 3)),
     (0, Act::Blocks(Block::Puts(Items::Units(4)))),
     (0, Act::HasRoom(false)),
     (0, Act::Blocks(Block::SkipsOne)),
     (0, Act::Blocks(Block::Shows(Items::Units(3)))),
-    (1, Act::Blocks(Block::Puts(Items::Ints(&[1])))),
-    (1, Act::Blocks(Block::Puts(Items::Units(1)))),
-    (1, Act::Blocks(Block::Shows(Items::Ints(&[1])))),
-    (1, Act::Puts(None)),
-    (1, Act::Blocks(Block::Puts(Items::Ints(&[2])))),
-    (1, Act::Takes(Some(1))),
-    (1, Act::Counts(3, 1)),
+    (0, Act::Blocks(Block::SkipsOne)),
+    (0, Act::Puts(None)),
+    (0, Act::Blocks(Block::Puts(Items::Units(1)))),
+    (0, Act::Blocks(Block::Shows(Items::Units(2)))),
+    (0, Act::Blocks(Block::SkipsOne)),
+    (0, Act::Blocks(Block::SkipsOne)),
+    (0, Act::Takes(None)),
+    (0, Act::Counts(5, 5)),
 ];
 
 #[test]
 fn blocks(rt: HostRuntime) -> Result<(), Fail> {
-    let mut table = Table::new(rt.alloc(), 2, 4)?;
+    let mut table = Table::new(rt.alloc(), &KINDS, 4)?;
     assert_eq!(rt; first_wrong(&mut table, &IN_BLOCKS), None);
     Ok(())
 }
 
-// An integer of more than 64 bits, and those put after it until it is taken, are shown in no slice.
-const WIDE: i128 = 18_446_744_073_709_551_616;
+// Puts a vector on an edge that takes vectors, and takes it again. Whether it is seen before it is taken, and comes back.
+fn vector_comes_back(alloc: Global, table: &mut Table, edge: usize) -> Result<bool, WordError> {
+    let Msg::Item(vector) = message(alloc, "[8,-9]")? else {
+        return Ok(false);
+    };
+    if !Kind::Vec.fits(&vector) || !table.has_writer(edge) || !table.has_reader(edge) {
+        return Ok(false);
+    }
+    if !table.takes(edge, Kind::Vec) {
+        return Ok(false);
+    }
+    let put = table.put(edge, Msg::Item(vector)).is_ok();
+    let seen = table.front(edge).is_some() && !table.scalar_is_next(edge);
+    Ok(put && seen && is_vector(table.take(edge)))
+}
 
-const WIDE_AND_NARROW: [(usize, Act); 11] = [
+// Vectors lie in no slice, and `End` is put after them.
+const AFTER_A_VECTOR: [(usize, Act); 5] = [
+    (3, Act::Blocks(Block::Shows(Items::Nothing))),
+    (3, Act::Counts(1, 1)),
+    (3, Act::TakesNothing),
+    (3, Act::Puts(None)),
+    (3, Act::Takes(None)),
+];
+
+#[test]
+fn vectors(rt: HostRuntime) -> Result<(), Fail> {
+    let mut table = Table::new(rt.alloc(), &KINDS, 4)?;
+    let elsewhere = vector_comes_back(rt.alloc(), &mut table, 2)?;
+    let there = vector_comes_back(rt.alloc(), &mut table, 3)?;
+    let after = first_wrong(&mut table, &AFTER_A_VECTOR);
+    assert_eq!(rt; (elsewhere, there, after), (false, true, None));
+    Ok(())
+}
+
+// An integer of more than 64 bits, and those put after it until all of them are taken, are shown in no slice.
+const WIDE_AND_NARROW: [(usize, Act); 15] = [
     (0, Act::Puts(Some(1))),
     (0, Act::Puts(Some(WIDE))),
     (0, Act::Puts(Some(3))),
@@ -105,15 +175,59 @@ const WIDE_AND_NARROW: [(usize, Act); 11] = [
     (0, Act::Blocks(Block::Shows(Items::Nothing))),
     (0, Act::Blocks(Block::Puts(Items::Ints(&[4])))),
     (0, Act::Takes(Some(WIDE))),
+    (0, Act::Blocks(Block::Shows(Items::Nothing))),
+    (0, Act::Puts(Some(-WIDE))),
     (0, Act::Takes(Some(3))),
-    (0, Act::Takes(Some(4))),
-    (0, Act::Counts(4, 4)),
+    (0, Act::Blocks(Block::TakesScalars(64, &[4, -WIDE], false))),
+    (0, Act::Blocks(Block::Puts(Items::Ints(&[5, 6])))),
+    (0, Act::Blocks(Block::Shows(Items::Ints(&[5, 6])))),
+    (0, Act::Counts(7, 5)),
 ];
 
 #[test]
 fn wide_integers(rt: HostRuntime) -> Result<(), Fail> {
-    let mut table = Table::new(rt.alloc(), 1, 4)?;
+    let mut table = Table::new(rt.alloc(), &[Kind::Int], 4)?;
     assert_eq!(rt; first_wrong(&mut table, &WIDE_AND_NARROW), None);
+    Ok(())
+}
+
+// An integer of more than 64 bits between two others, and `End`, on each of two edges.
+const WIDE_BETWEEN: [(usize, Act); 8] = [
+    (0, Act::Puts(Some(1))),
+    (0, Act::Puts(Some(WIDE))),
+    (0, Act::Puts(Some(3))),
+    (0, Act::Puts(None)),
+    (1, Act::Puts(Some(1))),
+    (1, Act::Puts(Some(WIDE))),
+    (1, Act::Puts(Some(3))),
+    (1, Act::Puts(None)),
+];
+
+// What is left where two messages of the first edge, and all of the second, were passed over.
+const LEFT: [(usize, Act); 5] = [
+    (0, Act::Takes(Some(3))),
+    (0, Act::Takes(None)),
+    (0, Act::Counts(4, 4)),
+    (1, Act::TakesNothing),
+    (1, Act::Counts(4, 4)),
+];
+
+// Passes over so many messages of an edge, where it holds as many.
+fn passes_over(table: &mut Table, edge: usize, count: usize) -> bool {
+    if !table.has_reader(edge) || table.held(edge) < count {
+        return false;
+    }
+    table.skip(edge, count);
+    true
+}
+
+#[test]
+fn wide_integers_are_passed_over(rt: HostRuntime) -> Result<(), Fail> {
+    let mut table = Table::new(rt.alloc(), &[Kind::Int; 2], 4)?;
+    let put = first_wrong(&mut table, &WIDE_BETWEEN);
+    let passed = (passes_over(&mut table, 0, 2), passes_over(&mut table, 1, 4));
+    let left = first_wrong(&mut table, &LEFT);
+    assert_eq!(rt; (put, passed, left), (None, (true, true), None));
     Ok(())
 }
 
@@ -134,7 +248,7 @@ const OF_SCALARS: [(usize, Act); 8] = [
 
 #[test]
 fn blocks_of_scalars(rt: HostRuntime) -> Result<(), Fail> {
-    let mut table = Table::new(rt.alloc(), 1, 3)?;
+    let mut table = Table::new(rt.alloc(), &[Kind::Int], 3)?;
     assert_eq!(rt; first_wrong(&mut table, &OF_SCALARS), None);
     Ok(())
 }

@@ -8,7 +8,7 @@ use std::test::Fail;
 #[test]
 fn units_come_over_an_edge_of_words(rt: HostRuntime) -> Result<(), Fail> {
     let (mut writer, mut reader) = word_edge(rt.alloc(), Kind::Unit, 4)?;
-    let mut inbox = Inbox::new(rt.alloc(), 4)?;
+    let mut inbox = Inbox::new(rt.alloc(), Kind::Unit, 4)?;
     writer.put_all(Items::Units(3));
     let ended = writer.put(Msg::End).is_ok();
     assert_eq!(rt;
@@ -26,7 +26,7 @@ fn units_come_over_an_edge_of_words(rt: HostRuntime) -> Result<(), Fail> {
 #[test]
 fn truth_values_come_over_an_edge_of_words(rt: HostRuntime) -> Result<(), Fail> {
     let (mut writer, mut reader) = word_edge(rt.alloc(), Kind::Bool, 3)?;
-    let mut inbox = Inbox::new(rt.alloc(), 3)?;
+    let mut inbox = Inbox::new(rt.alloc(), Kind::Bool, 3)?;
     writer.put_all(Items::Flags(&[true, false]));
     let more = reader.take_into(&mut inbox);
     assert_eq!(rt;
@@ -40,7 +40,7 @@ fn truth_values_come_over_an_edge_of_words(rt: HostRuntime) -> Result<(), Fail> 
 #[test]
 fn integers_come_over_an_edge_of_words(rt: HostRuntime) -> Result<(), Fail> {
     let (mut writer, mut reader) = word_edge(rt.alloc(), Kind::Int, 8)?;
-    let mut inbox = Inbox::new(rt.alloc(), 8)?;
+    let mut inbox = Inbox::new(rt.alloc(), Kind::Int, 8)?;
     writer.put_all(Items::Ints(&[1, i64::MIN]));
     let more = reader.take_into(&mut inbox);
     let first = is_message(inbox.take(), Some(1));
@@ -55,7 +55,7 @@ fn integers_come_over_an_edge_of_words(rt: HostRuntime) -> Result<(), Fail> {
 #[test]
 fn nothing_is_taken_where_nothing_was_put(rt: HostRuntime) -> Result<(), Fail> {
     let (writer, mut reader) = word_edge(rt.alloc(), Kind::Int, 1)?;
-    let mut inbox = Inbox::new(rt.alloc(), 1)?;
+    let mut inbox = Inbox::new(rt.alloc(), Kind::Int, 1)?;
     reader.take_certain(&mut inbox);
     same_ends_are_an_edge();
     what_came_is_in_turn();

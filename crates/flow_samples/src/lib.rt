@@ -6,6 +6,7 @@ mod building;
 mod node_words;
 mod opened;
 mod sketches;
+mod taking;
 mod words;
 
 pub use blocks::block;
@@ -16,4 +17,5 @@ pub use sketches::{
     LONG_CHAIN, MANY_UNITS, ONE_UNIT, PRINTS_BELOW_FIVE, SCAN_OF_NUMBERS, SCAN_OF_QUOTIENTS,
     SUM_OF_FIVE, SUM_OF_UNLIKE, WAITS_FOR_ITS_LENGTH, drawn, graph_of,
 };
+pub use taking::kinds_taken;
 pub use words::{WordError, message, number_of};

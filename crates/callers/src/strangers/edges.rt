@@ -67,9 +67,9 @@ pub fn moved<E: Ends>(ends: &mut E, from: usize, to: usize) -> bool {
     ends.take(from).is_some()
 }
 
-/// Ends of edges in one thread.
+/// Ends of edges in one thread: of units, of integers and of vectors.
 pub fn table(alloc: Global) -> Result<Table, AllocError> {
-    Table::new(alloc, 3, 256)
+    Table::new(alloc, &[Kind::Unit, Kind::Int, Kind::Vec], 256)
 }
 
 /// Whether `Boxes` have this writer, and `Rings` this reader.

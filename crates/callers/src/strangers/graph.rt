@@ -34,7 +34,7 @@ pub fn units(alloc: Global) -> Result<Option<Graph>, Refusal> {
 pub fn steps(graph: &mut Graph, ends: &mut Table) -> Result<usize, NoMemory> {
     let mut moved: usize = 0;
     for node in 0..graph.nodes() {
-        if node < graph.nodes() && graph.has_ends(ends, node) {
+        if node < graph.nodes() && graph.may_step(ends, node) {
             match step_once(graph, ends, node)? {
                 Stepped::One => moved = moved.saturating_add(1),
                 Stepped::Nothing => {}

@@ -36,7 +36,7 @@ fn bare_shares(alloc: Global, count: usize) -> Result<Vec<Share<Iota, Boxes>>, A
 {
     let mut shares = Vec::new(alloc);
     for number in 0..count {
-        let none = Boxes::new(alloc, 0, 1)?;
+        let none = Boxes::new(alloc, &[], 1)?;
         shares.push(Share::new(number, Vec::new(alloc), none))?;
     }
     Ok(shares)

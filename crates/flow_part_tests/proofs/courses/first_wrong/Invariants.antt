@@ -1,7 +1,5 @@
-use Rattle.std.specs.List.{All}
 use Rattle.flow_samples.specs.Joined.{AreJoined}
-use Rattle.flow_samples.specs.Taking.{AllTake}
 use Rattle.flow_part_tests.proofs.courses.first_wrong.Given as goal
 
 abbrev pub invariant-loop-number : goal.invariant-loop-number
-invariant-loop-number g l = record { joined : AreJoined g.E.Meeting.joins l.owners l.ends; takes : All (λ a. AllTake (g.E.Ends.view a) l.kind) l.ends }
+invariant-loop-number g l = AreJoined g.E.Meeting.joins l.owners l.ends

@@ -1,4 +1,3 @@
-use Rattle.std.proofs.Common.{sym, ◌∙◌}
 use Rattle.flow_messages.proofs.SideBySide.{items_still}
 use Rattle.flow_part_tests.proofs.courses.goes_in_blocks.Goals as goal
 
@@ -6,6 +5,4 @@ use Rattle.flow_part_tests.proofs.courses.goes_in_blocks.Goals as goal
 pub put_all-requires-clause-kind : goal.put_all-requires-clause-kind
 put_all-requires-clause-kind g c =
     let kinds = (g.E.Ends.view c.args.ends.now).kind in
-    let there = sym c.has_writer-writes.ensures ∙ c.if-writes.true in
-    items_still (kinds c.args.edge) _ c.in-Puts.items (c.space.ensures.looked.ends.kinds c.args.edge)
-    (c.are_of.ensures c.if-are_of.true (kinds c.args.edge) (c.requires c.args.edge there))
+    items_still (kinds c.args.edge) _ c.in-Puts.items (c.space.ensures.looked.ends.kinds c.args.edge) (c.takes_items.ensures c.if-takes_items.true)
