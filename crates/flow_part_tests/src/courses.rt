@@ -2,14 +2,15 @@
 ghost use Rattle.std.specs.Prelude.{◌≡◌, ◌<◌, ◌≤◌, ℕ, true, IsTrue, length, slice_index_or};
 ghost use Rattle.flow_messages.specs.declared.message.Kind.TheVariants.{Int as IntKind};
 ghost use Rattle.std.specs.List.{All};
-ghost use Rattle.flow_messages.specs.Kinds.{TakesKind, TakesItems};
+ghost use Rattle.flow_messages.specs.Kinds.{fits, FitsEdge, TakesKind, TakesItems};
 ghost use Rattle.flow_messages.specs.Limits.{greatest_capacity};
+ghost use Rattle.flow_messages.specs.Signals.{signal_of};
 ghost use Rattle.flow_samples.specs.Joined.{AreJoined};
 
 use crate::messages::{is_message, is_refused, message};
 use flow_boxes::Boxes;
 use flow_edges::lanes::Rings;
-use flow_messages::{Block as Scalars, CountedEnds, Items, Kind, Why};
+use flow_messages::{Block as Scalars, CountedEnds, Items, Kind, Msg, Why};
 use flow_samples::{alike, block as block_of, own_owner, owners};
 use flow_shares::meetings::{EdgeOwners, Meeting, Opening, meet_all, open_all};
 use std::alloc::{AllocError, Global};
@@ -456,7 +457,7 @@ fn puts<E: CountedEnds>(ends: &mut E, edge: usize, of: Option<i128>, refused: Op
     ensures { E.same ends.old ends.new }
 {
     let put = message(of);
-    if !ends.has_writer(edge) || !(put.is_end() || ends.takes(edge, Kind::Int)) {
+    if !ends.has_writer(edge) || !takes_message(ends, edge, &put) {
         return false;
     }
     let answer = ends.put(edge, put);
@@ -464,6 +465,15 @@ fn puts<E: CountedEnds>(ends: &mut E, edge: usize, of: Option<i128>, refused: Op
         Some(cause) => is_refused(answer, of, cause),
         None => answer.is_ok(),
     }
+}
+
+// Whether the edge takes this message, which carries an integer or is `End`.
+fn takes_message<E: CountedEnds>(ends: &E, edge: usize, message: &Msg) -> bool
+    requires writes { (E.view ends.now).writes edge ≡ true }
+    requires int { fits IntKind (signal_of message.now) ≡ true }
+    ensures { IsTrue result → FitsEdge ((E.view ends.now).kind edge) (signal_of message.now) }
+{
+    message.is_end() || ends.takes(edge, Kind::Int)
 }
 
 // Does this with a block of an edge. Whether what is to come of it comes.

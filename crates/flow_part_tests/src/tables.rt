@@ -131,19 +131,19 @@ fn blocks(rt: HostRuntime) -> Result<(), Fail> {
 }
 
 // Puts a vector on an edge that takes vectors, and takes it again. Whether it is seen before it is taken, and comes back.
-fn vector_comes_back(alloc: Global, table: &mut Table, edge: usize) -> Result<bool, WordError> {
+fn vector_comes_back<E: Ends>(alloc: Global, ends: &mut E, edge: usize) -> Result<bool, WordError> {
     let Msg::Item(vector) = message(alloc, "[8,-9]")? else {
         return Ok(false);
     };
-    if !Kind::Vec.fits(&vector) || !table.has_writer(edge) || !table.has_reader(edge) {
+    if !Kind::Vec.fits(&vector) || !ends.has_writer(edge) || !ends.has_reader(edge) {
         return Ok(false);
     }
-    if !table.takes(edge, Kind::Vec) {
+    if !ends.takes(edge, Kind::Vec) {
         return Ok(false);
     }
-    let put = table.put(edge, Msg::Item(vector)).is_ok();
-    let seen = table.front(edge).is_some() && !table.scalar_is_next(edge);
-    Ok(put && seen && is_vector(table.take(edge)))
+    let put = ends.put(edge, Msg::Item(vector)).is_ok();
+    let seen = ends.front(edge).is_some() && !ends.scalar_is_next(edge);
+    Ok(put && seen && is_vector(ends.take(edge)))
 }
 
 // Vectors lie in no slice, and `End` is put after them.
