@@ -5,6 +5,7 @@ use Rattle.flow_messages.specs.Signals.{signals}
 use Rattle.flow_messages.specs.declared.message.Kind.{Kind}
 use Rattle.flow_messages.specs.Kinds.{TakesKind}
 use Rattle.flow_messages.specs.Ends.{View}
+use Rattle.flow_messages.proofs.Fitting.{takes_own}
 use Rattle.flow_messages.proofs.Signals.{signals-nil}
 use Rattle.flow_messages.proofs.Tables.{at_line-same, at_line-other}
 use Rattle.flow_boxes.specs.Contents.{Contents}
@@ -59,13 +60,13 @@ module _ (e : ℕ) where
   }
 
   module _ (kind : Kind) (capacity : ℕ) (a b : Contents) where
-    pub box_writer : a.capacity ≡ capacity → OpensWriter e a b → OpensAt e kind capacity true false a.ends b.ends
-    box_writer is o = record {
+    pub box_writer : a.ends.kind e ≡ Some kind → a.capacity ≡ capacity → OpensWriter e a b → OpensAt e kind capacity true false a.ends b.ends
+    box_writer of is o = record {
       elsewhere = elsewhere a b o.others;
       writes = o.fresh.writes;
       sent = o.fresh.sent;
       room = o.fresh.room ∙ o.others.capacity ∙ is;
-      takes = λ h. subst (λ of. TakesKind of kind) (sym o.fresh.kind) (λ s is. refl);
+      takes = λ h. subst (λ of. TakesKind of kind) (sym (o.others.kinds e ∙ of)) ((takes_own kind kind).1 refl);
       same_kind = λ h. absurd (cc);
       reads = o.reads e;
       received = o.received e;
@@ -85,15 +86,17 @@ module _ (e : ℕ) where
       coming = o.fresh.coming;
     }
 
-  pub box_both : (kind : Kind) (capacity : ℕ) (a m b : Contents) → a.capacity ≡ capacity → OpensWriter e a m → OpensReader e m b → OpensAt e kind capacity true true a.ends b.ends
-  box_both kind capacity a m b is w r = both_opened e kind capacity a.ends m.ends b.ends (box_writer kind capacity a m is w) (box_reader kind capacity m b r)
+  pub box_both : (kind : Kind) (capacity : ℕ) (a m b : Contents) → a.ends.kind e ≡ Some kind → a.capacity ≡ capacity → OpensWriter e a m → OpensReader e m b → OpensAt e kind capacity true true a.ends b.ends
+  box_both kind capacity a m b of is w r = both_opened e kind capacity a.ends m.ends b.ends (box_writer kind capacity a m of is w) (box_reader kind capacity m b r)
 
-  -- boxes that were opened with one capacity are linked
-  pub opened_linked : (a w b r : Contents) → b.capacity ≡ a.capacity → OpensWriter e a w → OpensReader e b r → IsLinked w r e
-  opened_linked a w b r same writer reader = fresh-linked w r e writer.fresh reader.fresh (reader.others.capacity ∙ same ∙ sym writer.others.capacity)
+  -- boxes that were opened with one kind and one capacity are linked
+  pub opened_linked : (a w b r : Contents) → b.ends.kind e ≡ a.ends.kind e → b.capacity ≡ a.capacity → OpensWriter e a w → OpensReader e b r → IsLinked w r e
+  opened_linked a w b r alike same writer reader =
+      fresh-linked w r e writer.fresh reader.fresh (reader.others.kinds e ∙ alike ∙ sym (writer.others.kinds e))
+      (reader.others.capacity ∙ same ∙ sym writer.others.capacity)
 
   pub both_linked : (a m b : Contents) → OpensWriter e a m → OpensReader e m b → IsLinked b b e
-  both_linked a m b writer reader = fresh-linked b b e (outbox-beside m b e e writer.fresh reader) reader.fresh refl
+  both_linked a m b writer reader = fresh-linked b b e (outbox-beside m b e e writer.fresh reader) reader.fresh refl refl
 
 -- where no end is seen, none is there
 pub no_writer_there : (ws : List (Option LaneWriter)) (rs : List (Option LaneReader)) (e : ℕ) → (view_of_rings ws rs).writes e ≡ false → get_or ws e None ≡ None

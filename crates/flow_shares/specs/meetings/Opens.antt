@@ -19,9 +19,9 @@ pub record ElsewhereSame (e : ℕ) (a b : View) : Type 0 where
 abbrev pub IsWithoutEnds : View → Type 0
 IsWithoutEnds v = (e : ℕ) → (v.writes e ≡ false) × (v.reads e ≡ false)
 
--- there is a place for ends of each edge with a number below this, if it is to hold so many messages at most
-abbrev pub HasPlaces : {X : Type 0} → (X → ℕ → ℕ → Type 0) → ℕ → ℕ → X → Type 0
-HasPlaces has_place edges capacity ends = (e : ℕ) → e < edges → has_place ends e capacity
+-- there is a place for ends of each edge that has a kind here, if it is to be of this kind and hold so many messages at most
+abbrev pub HasPlaces : {X : Type 0} → (X → ℕ → Kind → ℕ → Type 0) → List Kind → ℕ → X → Type 0
+HasPlaces has_place kinds capacity ends = (e : ℕ) → e < length kinds → has_place ends e (kind_at kinds e) capacity
 
 -- A fresh writer's end of edge e is there where `writer`, and a fresh reader's end where `reader`. Else all is as it was.
 pub record OpensAt (e : ℕ) (kind : Kind) (capacity : ℕ) (writer reader : Bool) (a b : View) : Type 0 where

@@ -1,12 +1,13 @@
 -- Rings of which an edge is opened.
 use Rattle.std.proofs.Common.{◌≡◌, ◌≢◌, ℕ, ◌<◌, length, refl, sym, ap, subst, arith}
+use Rattle.flow_messages.specs.declared.message.Kind.{Kind}
 use Rattle.flow_edges.specs.declared.lanes.rings.Rings.{Rings}
 use Rattle.flow_edges.specs.lanes.Rings.{capacity_of, writer_at, reader_at, Joins}
 use Rattle.flow_shares.specs.meetings.RingMeetings.{RingsJoin, ring_slots}
 
--- edge e has a number among these
-abbrev pub RingsHavePlace : Rings → ℕ → ℕ → Type 0
-RingsHavePlace a e capacity = (e < length a.writers.items) × (e < length a.readers.items)
+-- edge e has a number among these, of whatever kind it is to be
+abbrev pub RingsHavePlace : Rings → ℕ → Kind → ℕ → Type 0
+RingsHavePlace a e kind capacity = (e < length a.writers.items) × (e < length a.readers.items)
 
 -- Before and after ends of edge e were put here: those of the others stay.
 pub record RingsOpen (e : ℕ) (a b : Rings) : Type 0 where
@@ -18,8 +19,8 @@ pub record RingsOpen (e : ℕ) (a b : Rings) : Type 0 where
 pub rings_opens_refl : (e : ℕ) (a : Rings) → RingsOpen e a a
 rings_opens_refl e a = record { writer_count = refl; reader_count = refl; writers = λ k ne. refl; readers = λ k ne. refl }
 
-pub rings_opens_place : (e : ℕ) (a b : Rings) → RingsOpen e a b → (k capacity : ℕ) → RingsHavePlace a k capacity → RingsHavePlace b k capacity
-rings_opens_place e a b opens k capacity place = (omega (arith, place.0, opens.writer_count), omega (arith, place.1, opens.reader_count))
+pub rings_opens_place : (e : ℕ) (a b : Rings) → RingsOpen e a b → (k : ℕ) (kind : Kind) (capacity : ℕ) → RingsHavePlace a k kind capacity → RingsHavePlace b k kind capacity
+rings_opens_place e a b opens k kind capacity place = (omega (arith, place.0, opens.writer_count), omega (arith, place.1, opens.reader_count))
 
 pub rings_opens_places : (e : ℕ) (a b : Rings) → RingsOpen e a b → (k : ℕ) → k ≢ e → ring_slots b k ≡ ring_slots a k
 rings_opens_places e a b opens k ne = ap capacity_of (opens.writers k ne)

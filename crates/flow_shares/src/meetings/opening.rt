@@ -9,16 +9,16 @@ pub trait Opening: Meeting {
     ghost use Rattle.flow_messages.specs.Limits.{greatest_capacity};
     ghost use Rattle.flow_shares.specs.meetings.Opens.{IsWithoutEnds, HasPlaces, BringsWriter, BringsReader, BringsBoth};
 
-    /// Ends of this edge can be here, if it is to hold so many messages at most.
-    ghost has_place: { Self → ℕ → ℕ → Type 0 };
+    /// Ends of this edge can be here, if it is to be of this kind and to hold so many messages at most.
+    ghost has_place: { Self → ℕ → Kind → ℕ → Type 0 };
 
     /// Before and after ends of this edge were opened here.
     ghost opens: { ℕ → Self → Self → Type 0 };
 
-    /// No end is there, and there is a place for those of each edge with a number below `edges` that is to hold
-    /// `capacity` messages at most. Its only error is that memory was refused.
-    fn none(alloc: Global, edges: usize, capacity: usize) -> Result<Self, AllocError>
-        ensures place { IfOk result (HasPlaces has_place edges capacity) }
+    /// No end is there, and there is a place for those of each edge that has a kind in `kinds`, at its number, if it is to
+    /// be of this kind and to hold `capacity` messages at most. Its only error is that memory was refused.
+    fn none(alloc: Global, kinds: &[Kind], capacity: usize) -> Result<Self, AllocError>
+        ensures place { IfOk result (HasPlaces has_place kinds.now capacity) }
         ensures none { IfOk result (λ ends. IsWithoutEnds (Self.view ends)) };
 
     /// Opens an edge, the writer's end here and the reader's there. It takes all items of the kind, and holds at most
@@ -35,8 +35,8 @@ pub trait Opening: Meeting {
     ) -> Result<(), AllocError>
         requires some { 0 < capacity }
         requires limit { capacity ≤ greatest_capacity }
-        requires writer_place { has_place self.old edge capacity }
-        requires reader_place { has_place other.old edge capacity }
+        requires writer_place { has_place self.old edge kind capacity }
+        requires reader_place { has_place other.old edge kind capacity }
         requires no_writer { (Self.view self.old).writes edge ≡ false }
         requires no_reader { (Self.view other.old).reads edge ≡ false }
         ensures writer { OnOk result (BringsWriter opens Self.view edge kind capacity
@@ -58,7 +58,7 @@ pub trait Opening: Meeting {
     ) -> Result<(), AllocError>
         requires some { 0 < capacity }
         requires limit { capacity ≤ greatest_capacity }
-        requires place { has_place self.old edge capacity }
+        requires place { has_place self.old edge kind capacity }
         requires no_writer { (Self.view self.old).writes edge ≡ false }
         requires no_reader { (Self.view self.old).reads edge ≡ false }
         ensures both { OnOk result (BringsBoth opens Self.view edge kind capacity
@@ -71,7 +71,8 @@ pub trait Opening: Meeting {
 
     /// An opening takes no place of another.
     ghost opens_place: { (e : ℕ) (a b : Self) → opens e a b →
-        (k capacity : ℕ) → has_place a k capacity → has_place b k capacity };
+        (k : ℕ) (kind : Kind) (capacity : ℕ) → has_place a k kind capacity →
+        has_place b k kind capacity };
 
     /// An opening changes no number of places at another edge.
     ghost opens_places: { (e : ℕ) (a b : Self) → opens e a b →

@@ -11,8 +11,8 @@ impl Opening for Boxes {
 
     ghost opens = { BoxesOpen };
 
-    fn none(alloc: Global, edges: usize, capacity: usize) -> Result<Boxes, AllocError> {
-        Boxes::new(alloc, edges, capacity)
+    fn none(alloc: Global, kinds: &[Kind], capacity: usize) -> Result<Boxes, AllocError> {
+        Boxes::new(alloc, kinds, capacity)
     }
 
     fn open_with(

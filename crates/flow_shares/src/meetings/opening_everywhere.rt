@@ -30,27 +30,27 @@ pub fn open_all<E: Opening + Drop>(
     ensures opened { IfOk result (AreOpenEnds E.view E.joins E.slots owners.now
         kinds.now capacity) }
 {
-    let mut ends = no_ends(alloc, threads, owners.len(), capacity)?;
+    let mut ends = no_ends(alloc, threads, kinds, capacity)?;
     for edge in 0..owners.len() {
         open_edge(alloc, &mut ends, owners[edge], edge, kinds[edge], capacity)?;
     }
     Ok(ends)
 }
 
-// So many sets without an end.
+// So many sets without an end, each with a place for those of each edge that has a kind.
 fn no_ends<E: Opening + Drop>(
     alloc: Global,
     threads: usize,
-    edges: usize,
+    kinds: &[Kind],
     capacity: usize,
 ) -> Result<Vec<E>, AllocError>
     ensures count { IfOk result (λ ends. length ends.items ≡ threads) }
-    ensures place { IfOk result (λ ends. All (HasPlaces E.has_place edges capacity) ends.items) }
+    ensures place { IfOk result (λ ends. All (HasPlaces E.has_place kinds.now capacity) ends.items) }
     ensures none { IfOk result (λ ends. All (λ a. IsWithoutEnds (E.view a)) ends.items) }
 {
     let mut ends = Vec::with_capacity(alloc, threads)?;
     for _ in 0..threads {
-        ends.push(E::none(alloc, edges, capacity)?)?;
+        ends.push(E::none(alloc, kinds, capacity)?)?;
     }
     Ok(ends)
 }
@@ -68,7 +68,7 @@ fn open_edge<E: Opening>(
     requires limit { capacity ≤ greatest_capacity }
     requires writer { owner.writer < length ends.old }
     requires reader { owner.reader < length ends.old }
-    requires place { All (λ a. E.has_place a edge capacity) ends.old }
+    requires place { All (λ a. E.has_place a edge kind capacity) ends.old }
     requires no_writer { All (λ a. (E.view a).writes edge ≡ false) ends.old }
     requires no_reader { All (λ a. (E.view a).reads edge ≡ false) ends.old }
     ensures { OnOk result

@@ -14,8 +14,8 @@ impl Opening for Rings {
 
     ghost opens = { RingsOpen };
 
-    fn none(alloc: Global, edges: usize, _: usize) -> Result<Rings, AllocError> {
-        Rings::none(alloc, edges)
+    fn none(alloc: Global, kinds: &[Kind], _: usize) -> Result<Rings, AllocError> {
+        Rings::none(alloc, kinds.len())
     }
 
     fn open_with(

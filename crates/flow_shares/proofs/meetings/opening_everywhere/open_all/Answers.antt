@@ -34,13 +34,13 @@ loop-edge-preserved g c =
     let back = written_back new items c.loop-edge.ends.len (omega (arith, c.open_edge.auto.ends, ap length value)) (omega (arith, c.deref_mut.ensures.len, ap length value)) in
     let at : length (take n owners) ≡ n = length-take-le n owners (omega (arith, inside)) in
     let next : take (n + 1) owners ≡ take n owners ++ owner ∷ [] = take_more owners n none inside in
-    let P = λ (a : g.row.E.Denot). ((e : ℕ) → e < length owners → g.E.Opening.has_place a e capacity) in
+    let P = λ (a : g.row.E.Denot). ((e : ℕ) → e < length kinds → g.E.Opening.has_place a e (kind_at kinds e) capacity) in
     let place = subst (All P) (sym value) inv.place in
     record {
       count = ap length back ∙ c.open_edge.auto.ends ∙ many;
       place = subst (All P) (sym back) (λ k d low e h. (
           let l : k < length old = omega (arith, low, c.open_edge.auto.ends) in
-          law.opens_place n (get_or old k d) (get_or new k d) (step.opens k d l) e capacity (place k d l e h)
+          law.opens_place n (get_or old k d) (get_or new k d) (step.opens k d l) e (kind_at kinds e) capacity (place k d l e h)
           ));
       opened = subst (λ l. AreFreshEnds view joins places (take (n + 1) owners) kinds capacity l) (sym back) (subst (λ ws. AreFreshEnds view joins places ws kinds capacity new) (sym next) (
           open_more view joins places kinds capacity g.E.Opening.opens law.opens_places law.open_join_writer law.open_join_reader (take n owners) owner old new c.open_edge.auto.ends

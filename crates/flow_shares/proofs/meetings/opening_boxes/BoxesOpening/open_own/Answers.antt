@@ -10,4 +10,4 @@ returns-clause-both c =
     let a = contents c.args.self.now in
     let m = contents c.open_writer.new.self in
     let b = contents c.open_reader.new.self in
-    on_ok c.open_reader.result (λ r. (others_then e a m b w.others r.others, box_both e c.args.arg4 c.args.arg5 a m b c.requires.place.1 w r)) c.open_reader.ensures.ok
+    on_ok c.open_reader.result (λ r. (others_then e a m b w.others r.others, box_both e c.args.arg4 c.args.arg5 a m b c.requires.place.of_kind c.requires.place.most w r)) c.open_reader.ensures.ok

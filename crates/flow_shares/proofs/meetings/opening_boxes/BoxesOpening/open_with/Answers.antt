@@ -10,5 +10,5 @@ returns-clause-writer c =
     (λ r. (
       w.others,
       box_writer c.args.edge c.args.arg5 c.args.arg6 (contents c.args.self.now) (contents c.open_writer.new.self)
-          c.requires.writer_place.1 w,
+          c.requires.writer_place.of_kind c.requires.writer_place.most w,
     )) c.open_reader.ensures.ok
