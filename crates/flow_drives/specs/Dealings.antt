@@ -5,6 +5,7 @@ use Rattle.flow_base.specs.declared.transducer.Transducer.{Ghosts}
 use Rattle.flow_networks.specs.declared.graph.Graph.{Graph}
 use Rattle.flow_networks.specs.Graphs.{states_of, edges_of}
 use Rattle.flow_networks.specs.Skeletons.{nodes_of}
+use Rattle.flow_networks.specs.EdgeKinds.{edge_kinds}
 use Rattle.flow_boxes.specs.declared.boxes.Boxes.{Boxes}
 use Rattle.flow_edges.specs.declared.lanes.rings.Rings.{Rings}
 use Rattle.flow_shares.specs.declared.meetings.owners.EdgeOwners.{EdgeOwners}
@@ -12,7 +13,6 @@ use Rattle.flow_shares.specs.meetings.BoxMeetings.{BoxesJoin, box_slots}
 use Rattle.flow_shares.specs.meetings.RingMeetings.{RingsJoin, ring_slots}
 use Rattle.flow_shares.specs.Deals.{AreJustDealt}
 use Rattle.flow_shares.specs.declared.share.Share.{Share}
-use Rattle.flow_networks.specs.EdgeKinds.{edge_kinds}
 use Rattle.flow_shares.specs.meetings.Open.{AreOwners, AreFreshEnds}
 use Rattle.flow_shares.specs.declared.meetings.dealt.Dealt.{Dealt}
 use Rattle.flow_shares.specs.meetings.Deals.{nodes_in, ends_in, AreNew, IsDealt}

@@ -27,6 +27,7 @@ pub use Rattle.flow_messages.specs.Signals
 pub use Rattle.flow_base.specs.Transducers
 pub use Rattle.flow_base.specs.declared.transducer.Transducer
 pub use Rattle.flow_networks.specs.Alike
+pub use Rattle.flow_networks.specs.EdgeKinds
 pub use Rattle.flow_networks.specs.Graphs
 pub use Rattle.flow_networks.specs.MaximalRuns
 pub use Rattle.flow_networks.specs.Networks

@@ -20,7 +20,7 @@ use flow_base::Transducer;
 use flow_boxes::Boxes;
 use flow_edges::lanes::Rings as RingEnds;
 use flow_messages::{Ends, Table};
-use flow_networks::{Graph, run_serial};
+use flow_networks::{Graph, kinds_of, run_serial};
 use flow_shares::{AlwaysStart, Gate, Start, WorkError};
 use std::alloc::{AllocError, AllocFailed, Global};
 use std::sync::Arc;
@@ -166,7 +166,8 @@ fn drive_serial<T: Transducer + Drop>(
     ensures epochs { IfOk result (λ rested. rested_epochs rested ≡ 0) }
     ensures rings { IfOk result (λ rested. IsOverRings rested → ⊥) }
 {
-    let mut ends = Table::new(alloc, graph.edges(), config.capacity)?;
+    let kinds = kinds_of(alloc, &graph)?;
+    let mut ends = Table::new(alloc, &kinds, config.capacity)?;
     let mut graph = graph;
     run_serial(alloc, &mut graph, &mut ends, config.chunk)?;
     let gathered = Gathered {

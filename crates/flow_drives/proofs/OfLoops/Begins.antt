@@ -8,11 +8,11 @@ use Rattle.flow_networks.specs.declared.graph.Graph.{Graph}
 use Rattle.flow_networks.specs.Edges.{edge_at}
 use Rattle.flow_networks.specs.Graphs.{states_of, edges_of}
 use Rattle.flow_networks.specs.Skeletons.{nodes_of, FitTogether}
+use Rattle.flow_networks.specs.EdgeKinds.{edge_kinds}
 use Rattle.flow_shares.specs.Deals.{share_of}
 use Rattle.flow_shares.specs.declared.share.Share.{Share}
 use Rattle.flow_shares.specs.declared.meetings.owners.EdgeOwners.{EdgeOwners}
 use Rattle.flow_shares.specs.declared.meetings.dealt.Dealt.{Dealt}
-use Rattle.flow_networks.specs.EdgeKinds.{edge_kinds}
 use Rattle.flow_shares.specs.meetings.Open.{HasFreshEnds}
 use Rattle.flow_shares.specs.meetings.Deals.{ends_in, IsDealt}
 use Rattle.flow_shares.specs.meetings.SharedNetworks.{shared_network, view_at, moves_by, AreFed}

@@ -11,6 +11,7 @@ use Rattle.flow_networks.specs.declared.graph.Graph.{Graph}
 use Rattle.flow_networks.specs.Edges.{edge_at}
 use Rattle.flow_networks.specs.Graphs.{states_of, edges_of}
 use Rattle.flow_networks.specs.Skeletons.{nodes_of}
+use Rattle.flow_networks.specs.EdgeKinds.{edge_kinds}
 use Rattle.flow_edges.specs.declared.lanes.rings.Rings.{Rings}
 use Rattle.flow_edges.proofs.OfLanes.RingLines.{at_line-there}
 use Rattle.flow_shares.specs.declared.meetings.owners.EdgeOwners.{EdgeOwners}
@@ -19,7 +20,6 @@ use Rattle.flow_shares.specs.Deals.{share_of}
 use Rattle.flow_shares.proofs.Stays.{as_given}
 use Rattle.flow_shares.specs.declared.share.Share.{Share}
 use Rattle.flow_shares.specs.declared.meetings.dealt.Dealt.{Dealt}
-use Rattle.flow_networks.specs.EdgeKinds.{edge_kinds}
 use Rattle.flow_shares.specs.meetings.Open.{HasFreshEnds}
 use Rattle.flow_shares.specs.meetings.Deals.{nodes_in, ends_in, IsDealt}
 use Rattle.flow_shares.specs.meetings.SharedNetworks.{SharedNetwork, shared_network, view_at}

@@ -13,11 +13,11 @@ use Rattle.flow_networks.specs.Edges.{edge_at, in_edge, out_edge}
 use Rattle.flow_networks.specs.Networks.{AreOpened, state_at, inputs_at, outputs_at}
 use Rattle.flow_networks.specs.Places.{placed_state, states_in}
 use Rattle.flow_networks.specs.Skeletons.{FitTogether}
+use Rattle.flow_networks.specs.EdgeKinds.{edge_kinds, kind_at}
 use Rattle.flow_networks.proofs.Seats.{state_here, inputs_here, outputs_here, input_here, output_here}
 use Rattle.flow_shares.specs.declared.meetings.owners.EdgeOwners.{EdgeOwners}
 use Rattle.flow_shares.specs.Deals.{share_of, node_at, AreJustDealt}
 use Rattle.flow_shares.specs.Shares.{row_of, StandOnce, HasItsEnds, HasHistory}
-use Rattle.flow_networks.specs.EdgeKinds.{edge_kinds, kind_at}
 use Rattle.flow_shares.specs.meetings.Open.{AreOwners, HasFreshEnds}
 use Rattle.flow_shares.specs.meetings.Deals.{MakeAShare}
 use Rattle.flow_shares.proofs.OfMeetings.More.{writes_there, reads_there}

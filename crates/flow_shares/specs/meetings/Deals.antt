@@ -8,11 +8,11 @@ use Rattle.flow_networks.specs.declared.placed.Placed.{Placed}
 use Rattle.flow_networks.specs.declared.graph.Graph.{Graph}
 use Rattle.flow_networks.specs.Graphs.{states_of, edges_of}
 use Rattle.flow_networks.specs.Skeletons.{nodes_of, edges_in}
+use Rattle.flow_networks.specs.EdgeKinds.{edge_kinds}
 use Rattle.flow_shares.specs.Deals.{AreJustDealt}
 use Rattle.flow_shares.specs.declared.share.Share.{Share}
 use Rattle.flow_shares.specs.Shares.{HasItsEnds, AreApart, IsOwn}
 use Rattle.flow_shares.specs.declared.meetings.dealt.Dealt.{Dealt}
-use Rattle.flow_networks.specs.EdgeKinds.{edge_kinds}
 use Rattle.flow_shares.specs.meetings.Open.{AreOwners, AreFreshEnds}
 
 -- These nodes make a share with the ends of which this is seen.

@@ -4,8 +4,8 @@ use Rattle.flow_networks.specs.Graphs.{states_of, edges_of}
 use Rattle.flow_networks.specs.Places.{states_in}
 use Rattle.flow_networks.specs.Skeletons.{edges_in}
 use Rattle.flow_networks.specs.Networks.{AreOpened}
-use Rattle.flow_shares.specs.Deals.{lists_in, AreJustDealt}
 use Rattle.flow_networks.specs.EdgeKinds.{edge_kinds}
+use Rattle.flow_shares.specs.Deals.{lists_in, AreJustDealt}
 use Rattle.flow_shares.specs.meetings.Open.{AreOwners}
 use Rattle.flow_shares.specs.meetings.Deals.{MakeAShare, nodes_in}
 use Rattle.flow_shares.proofs.OfMeetings.Lists.{all_zipped}

@@ -1,5 +1,6 @@
 use Rattle.std.proofs.Common.{◌≡◌, ◌<◌, ℕ, false, length}
 use Rattle.std.specs.List.{All}
+use Rattle.flow_networks.specs.EdgeKinds.{kind_at}
 use Rattle.flow_shares.proofs.meetings.opening_everywhere.no_ends.Given as goal
 
 abbrev pub invariant-loop : goal.invariant-loop

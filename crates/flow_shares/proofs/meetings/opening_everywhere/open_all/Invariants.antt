@@ -1,5 +1,6 @@
 use Rattle.std.proofs.Common.{◌≡◌, ◌<◌, ℕ, length, take}
 use Rattle.std.specs.List.{All}
+use Rattle.flow_networks.specs.EdgeKinds.{kind_at}
 use Rattle.flow_shares.specs.meetings.Open.{AreFreshEnds}
 use Rattle.flow_shares.proofs.meetings.opening_everywhere.open_all.Given as goal
 
