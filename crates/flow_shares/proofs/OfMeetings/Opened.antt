@@ -92,8 +92,8 @@ module _ (e : ℕ) where
   -- boxes that were opened with one kind and one capacity are linked
   pub opened_linked : (a w b r : Contents) → b.ends.kind e ≡ a.ends.kind e → b.capacity ≡ a.capacity → OpensWriter e a w → OpensReader e b r → IsLinked w r e
   opened_linked a w b r alike same writer reader =
-      fresh-linked w r e writer.fresh reader.fresh (reader.others.kinds e ∙ alike ∙ sym (writer.others.kinds e))
-      (reader.others.capacity ∙ same ∙ sym writer.others.capacity)
+      fresh-linked w r e writer.fresh reader.fresh (reader.others.capacity ∙ same ∙ sym writer.others.capacity)
+      (reader.others.kinds e ∙ alike ∙ sym (writer.others.kinds e))
 
   pub both_linked : (a m b : Contents) → OpensWriter e a m → OpensReader e m b → IsLinked b b e
   both_linked a m b writer reader = fresh-linked b b e (outbox-beside m b e e writer.fresh reader) reader.fresh refl refl
