@@ -7,6 +7,7 @@ use std::alloc::{AllocError, Global};
 pub trait Opening: Meeting {
     ghost use Rattle.std.specs.Prelude.{◌≡◌, ◌≢◌, ℕ, ◌<◌, ◌≤◌, false, IfOk, OnOk};
     ghost use Rattle.flow_messages.specs.Limits.{greatest_capacity};
+    ghost use Rattle.flow_messages.specs.declared.message.Kind.{Kind};
     ghost use Rattle.flow_shares.specs.meetings.Opens.{IsWithoutEnds, HasPlaces, BringsWriter, BringsReader, BringsBoth};
 
     /// Ends of this edge can be here, if it is to be of this kind and to hold so many messages at most.
