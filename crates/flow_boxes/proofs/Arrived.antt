@@ -19,5 +19,6 @@ stays_in_order i ms all held came is =
 pub stays_counted : (i : Inbox) (ms all held : List Msg) → all ≡ i.arrived.items ++ ms → held ≡ content_of i.store ++ ms → i.taken ≡ u64_saturate (length (gone all held))
 stays_counted i ms all held came is = i.counts ∙ ap (λ l. u64_saturate (length l)) (sym (stays_gone i ms all held came is))
 
-pub arrives : (i now : Inbox) (ms : List Msg) → now.arrived.items ≡ i.arrived.items ++ ms → content_of now.store ≡ content_of i.store ++ ms → now.store.kind ≡ i.store.kind → now.store.capacity ≡ i.store.capacity → HasCome ms i now
+pub arrives : (i now : Inbox) (ms : List Msg) → now.arrived.items ≡ i.arrived.items ++ ms → content_of now.store ≡ content_of i.store ++ ms →
+    now.store.kind ≡ i.store.kind → now.store.capacity ≡ i.store.capacity → HasCome ms i now
 arrives i now ms came is kind capacity = record { arrived = came; held = is; received = stays_gone i ms now.arrived.items (content_of now.store) came is; kind = kind; capacity = capacity }

@@ -49,7 +49,8 @@ begins ms held said coming (more, all) is certain = (signals more, ap (λ (l : L
 grow_none : (s q s' q' : List Signal) → s' ≡ s → q' ≡ q → GrowAlike s q s' q'
 grow_none s q s' q' i j = ([], i ∙ sym (append-nil s), j ∙ sym (append-nil q))
 
-module _ (capacity : ℕ) (kinds : List Kind) (os : List (Option Outbox)) (is : List (Option Inbox)) (e : ℕ) (old : Option Outbox) (o n : Outbox) (h : e < length os) (at : old ≡ get_or os e old) (was : old ≡ Some o) where
+module _ (capacity : ℕ) (kinds : List Kind) (os : List (Option Outbox)) (is : List (Option Inbox)) (e : ℕ) (old : Option Outbox) (o n : Outbox)
+    (h : e < length os) (at : old ≡ get_or os e old) (was : old ≡ Some o) where
   abbrev before : Contents
   before = contents_of capacity kinds os is
 
@@ -207,7 +208,8 @@ module _ (capacity : ℕ) (kinds : List Kind) (os : List (Option Outbox)) (is : 
       room_by_end (inl shut) = omega (arith, shut_room shut, had_room, has_room)
       room_by_end (inr free) = omega (arith, free_room free, had_room, has_room, signals-length ms)
 
-module _ (capacity : ℕ) (kinds : List Kind) (os : List (Option Outbox)) (is : List (Option Inbox)) (e : ℕ) (old : Option Inbox) (i n : Inbox) (h : e < length is) (at : old ≡ get_or is e old) (was : old ≡ Some i) where
+module _ (capacity : ℕ) (kinds : List Kind) (os : List (Option Outbox)) (is : List (Option Inbox)) (e : ℕ) (old : Option Inbox) (i n : Inbox)
+    (h : e < length is) (at : old ≡ get_or is e old) (was : old ≡ Some i) where
   abbrev from : Contents
   from = contents_of capacity kinds os is
 

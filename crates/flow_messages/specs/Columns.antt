@@ -43,6 +43,10 @@ pub record ColumnBecomes (ms : List Msg) (a b : Column) : Type 0 where
   pub kind : column_kind b ≡ column_kind a
   pub reserved : reserved b ≡ reserved a
 
+-- a column has the items of another after its own now
+abbrev pub GetsItems : (a other b : Column) → Type 0
+GetsItems a other b = ColumnBecomes (column_messages a ++ column_messages other) a b
+
 -- m, the oldest message, was taken from the column
 pub record ColumnTook (m : Msg) (a b : Column) : Type 0 where
   pub first : column_messages a ≡ m ∷ column_messages b

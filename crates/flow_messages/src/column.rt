@@ -25,7 +25,7 @@ pub enum Column {
 }
 
 impl Column {
-    ghost use Rattle.flow_messages.specs.Columns.{column_kind, column_messages, ColumnBecomes, ColumnFoundNone, ColumnTook, HasMemoryFor, IsItemOf, reserved};
+    ghost use Rattle.flow_messages.specs.Columns.{column_kind, column_messages, ColumnBecomes, ColumnFoundNone, ColumnTook, GetsItems, HasMemoryFor, IsItemOf, reserved};
 
     /// No item, and memory for so many. Its only error is that memory was refused.
     pub fn new(alloc: Global, kind: Kind, most: usize) -> Result<Column, AllocError>
@@ -150,8 +150,7 @@ impl Column {
     pub fn append(&mut self, other: &mut Column)
         requires room { HasMemoryFor (length (column_messages other.old)) self.old }
         requires kind { column_kind other.old ≡ column_kind self.old }
-        ensures moved { ColumnBecomes (column_messages self.old ++ column_messages other.old)
-            self.old self.new }
+        ensures moved { GetsItems self.old other.old self.new }
         ensures emptied { ColumnBecomes [] other.old other.new }
     {
         match self {

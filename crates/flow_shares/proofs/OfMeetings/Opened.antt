@@ -86,7 +86,8 @@ module _ (e : ℕ) where
       coming = o.fresh.coming;
     }
 
-  pub box_both : (kind : Kind) (capacity : ℕ) (a m b : Contents) → a.ends.kind e ≡ Some kind → a.capacity ≡ capacity → OpensWriter e a m → OpensReader e m b → OpensAt e kind capacity true true a.ends b.ends
+  pub box_both : (kind : Kind) (capacity : ℕ) (a m b : Contents) → a.ends.kind e ≡ Some kind → a.capacity ≡ capacity → OpensWriter e a m → OpensReader e m b →
+      OpensAt e kind capacity true true a.ends b.ends
   box_both kind capacity a m b of is w r = both_opened e kind capacity a.ends m.ends b.ends (box_writer kind capacity a m of is w) (box_reader kind capacity m b r)
 
   -- boxes that were opened with one kind and one capacity are linked

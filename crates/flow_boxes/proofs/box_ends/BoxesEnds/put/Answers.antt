@@ -28,7 +28,8 @@ returns-clause-same c =
     let s = c.args.self.now in
     let h = writer-below s.outboxes.items c.args.edge c.requires.writes in
     by_result c.put.result
-    (λ p. put-keeps s.capacity s.kinds.items s.outboxes.items s.inboxes.items c.args.edge _ c.in-Some.outbox c.put.new.self h c.index_mut.ensures.value c.in-Some.is (c.args.message ∷ []) p.sent p.held p.room)
+    (λ p. put-keeps s.capacity s.kinds.items s.outboxes.items s.inboxes.items c.args.edge _ c.in-Some.outbox c.put.new.self h c.index_mut.ensures.value c.in-Some.is
+    (c.args.message ∷ []) p.sent p.held p.room)
     (λ p. refused-keeps s.capacity s.kinds.items s.outboxes.items s.inboxes.items c.args.edge _ c.in-Some.outbox c.put.new.self h c.index_mut.ensures.value c.in-Some.is p.sent p.held p.room)
     c.put.ensures.ok c.put.ensures.refused
 

@@ -19,7 +19,12 @@ put_all-requires c =
     let o = c.in-Some.outbox in
     let kind = kind-at outbox_kind s.kinds.items s.outboxes.items c.args.edge s.outbox_kinds _ o h s.each_kind c.index_mut.ensures.value c.in-Some.is in
     record {
-      room = omega (arith, c.requires.certain, length-items c.args.items, had_room s.capacity s.kinds.items s.outboxes.items s.inboxes.items c.args.edge _ o o h c.index_mut.ensures.value c.in-Some.is);
+      room = omega (
+        arith,
+        c.requires.certain,
+        length-items c.args.items,
+        had_room s.capacity s.kinds.items s.outboxes.items s.inboxes.items c.args.edge _ o o h c.index_mut.ensures.value c.in-Some.is,
+      );
       kind = subst (λ of. TakesItems of c.args.items) kind c.requires.kind;
     }
 

@@ -32,7 +32,8 @@ returns-clause-same c =
     let n = c.args.count in
     let now = content_of c.in-Some.inbox.store in
     let parts = sym (take-append-drop n now) ∙ ap (λ k. take n now ++ k) (sym c.skip.ensures.rest) in
-    take-keeps s.capacity s.kinds.items s.outboxes.items s.inboxes.items c.args.edge _ c.in-Some.inbox c.skip.new.self h c.index_mut.ensures.value c.in-Some.is (take n now) c.skip.ensures.received parts
+    take-keeps s.capacity s.kinds.items s.outboxes.items s.inboxes.items c.args.edge _ c.in-Some.inbox c.skip.new.self h c.index_mut.ensures.value c.in-Some.is
+    (take n now) c.skip.ensures.received parts
 
 pub returns-clause-taken : goal.returns-clause-taken
 returns-clause-taken c =

@@ -35,7 +35,8 @@ returns-clause-none c =
     let h = reader-below s.inboxes.items c.args.edge c.requires in
     if_none c.take.result (λ p. (
       reader-kept s.capacity s.kinds.items s.outboxes.items s.inboxes.items c.args.edge _ c.in-Some.inbox c.take.new.self h c.index_mut.ensures.value c.in-Some.is p.0 (p.1.0 ∙ sym p.1.1),
-      ap length (has_coming s.capacity s.kinds.items s.outboxes.items s.inboxes.items c.args.edge _ c.in-Some.inbox c.take.new.self h c.index_mut.ensures.value c.in-Some.is ∙ ap signals p.1.0 ∙ signals-nil),
+      ap length (has_coming s.capacity s.kinds.items s.outboxes.items s.inboxes.items c.args.edge _ c.in-Some.inbox c.take.new.self h c.index_mut.ensures.value c.in-Some.is
+          ∙ ap signals p.1.0 ∙ signals-nil),
     )) (none_both _ _ c.take.result c.take.ensures.unreceived (none_both _ _ c.take.result c.take.ensures.none c.take.ensures.held_none))
 
 pub returns-clause-succeeds : goal.returns-clause-succeeds
@@ -44,7 +45,12 @@ returns-clause-succeeds c some =
     let h = reader-below s.inboxes.items c.args.edge c.requires in
     let i = c.in-Some.inbox in
     some_unless_empty c.take.result (content_of i.store)
-    (omega (arith, some, ap length (had_coming s.capacity s.kinds.items s.outboxes.items s.inboxes.items c.args.edge _ i i h c.index_mut.ensures.value c.in-Some.is), signals-length (content_of i.store)))
+    (omega (
+      arith,
+      some,
+      ap length (had_coming s.capacity s.kinds.items s.outboxes.items s.inboxes.items c.args.edge _ i i h c.index_mut.ensures.value c.in-Some.is),
+      signals-length (content_of i.store),
+    ))
     c.take.ensures.held_none
 
 pub invariant_of-self-clause-inbox_kinds : goal.invariant_of-self-clause-inbox_kinds
