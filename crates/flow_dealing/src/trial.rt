@@ -1,6 +1,7 @@
 // Short runs in one thread, for how many messages go over each edge.
 ghost use Rattle.std.specs.Prelude.{◌<◌, ◌≤◌, IfOk, OnOk, length};
 ghost use Rattle.flow_messages.specs.Limits.{greatest_capacity};
+ghost use Rattle.flow_networks.specs.EdgeKinds.{EdgesTakeAll};
 ghost use Rattle.flow_networks.specs.Graphs.{edges_of, states_of};
 ghost use Rattle.flow_networks.specs.MaximalRuns.{RunReaches};
 ghost use Rattle.flow_networks.specs.Networks.{AreOpened};
@@ -10,7 +11,7 @@ ghost use Rattle.flow_dealing.specs.Counts.{AreOfItsRun, MakesSameNetwork};
 
 use flow_base::Transducer;
 use flow_messages::{CountedEnds, Table, WholeEnds};
-use flow_networks::Graph;
+use flow_networks::{Graph, kinds_of};
 use std::alloc::{AllocError, Global};
 
 // How often a run passes over all nodes at most.
@@ -35,7 +36,8 @@ pub fn run_trial<T: Transducer>(
     ensures network { MakesSameNetwork graph.old graph.new }
     ensures counts { IfOk result (λ counts. AreOfItsRun capacity graph.old counts.items) }
 {
-    let mut ends = Table::new(alloc, graph.edges(), capacity)?;
+    let kinds = kinds_of(alloc, graph)?;
+    let mut ends = Table::new(alloc, &kinds, capacity)?;
     for _ in 0..MAX_PASSES {
         let moved = pass(graph, &mut ends)?;
         if !moved || sent(graph, &ends) >= messages {
@@ -52,6 +54,7 @@ pub fn run_trial<T: Transducer>(
 // Visits all nodes. Whether one made a step.
 fn pass<T: Transducer, E: WholeEnds>(graph: &mut Graph<T>, ends: &mut E) -> Result<bool, AllocError>
     requires ends { HasAllEnds (length (edges_of graph.old)) (E.view ends.old) }
+    requires kinds { EdgesTakeAll graph.old (E.view ends.old) }
     requires run { RunReaches (E.capacity ends.old) graph.old graph.old (E.view ends.old) }
     ensures shape { KeepsShape E.same E.view graph.old ends.old graph.new ends.new }
     ensures run { OnOk result (RunReaches (E.capacity ends.old) graph.old graph.new (E.view ends.new)) }

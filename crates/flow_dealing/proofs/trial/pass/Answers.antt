@@ -1,7 +1,11 @@
 use Rattle.std.proofs.Common.{[], ◌∷◌}
+use Rattle.flow_networks.proofs.EdgeKinds.{edges_take_still}
 use Rattle.flow_networks.proofs.Passes.{pass_reached}
 use Rattle.flow_networks.proofs.Shapes.{shape_then}
 use Rattle.flow_dealing.proofs.trial.pass.Goals as goal
+
+pub visit-requires-clause-kinds : goal.visit-requires-clause-kinds
+visit-requires-clause-kinds g c = edges_take_still g.met.T.Transducer.laws c.loop-node.invariant.shape c.requires.kinds
 
 pub returns-in_err-moved-clause-shape : goal.returns-in_err-moved-clause-shape
 returns-in_err-moved-clause-shape g c =
