@@ -130,6 +130,11 @@ pub some_left : (ends : Bool) (held n long : ℕ) → (ends && nat_eq (held - n)
 some_left true held n long is counts there = grind (arith, nat_tests)
 some_left false held n long is counts there = omega (arith, counts, there)
 
+-- the end is shown where nothing else is held
+pub end_alone : (c : Column) (ends : Bool) → ends ≡ true → length (content c ends) ≡ 1 → ending true ++ [] ≡ content c ends
+end_alone c true is one = sym (content-is c true ∙ ap (λ l. l ++ ending true) (empty_of (column_messages c) (omega (arith, one, length-content c true))))
+end_alone c false is one = absurd (cc)
+
 -- no end stands among the items
 
 pub open_put : (xs ms : List Msg) → has_end xs ≡ false → has_end ms ≡ false → has_end (xs ++ ms) ≡ false

@@ -18,6 +18,8 @@ pub struct Store {
     column: Column,
     // Whether the end of the stream comes after the items.
     ends: bool,
+    // The end of the stream, to be shown.
+    end: Msg,
     held: usize,
     pub kind: Kind,
     pub capacity: usize,
@@ -41,6 +43,7 @@ impl Store {
         Ok(Store {
             column,
             ends: false,
+            end: Msg::End,
             held: 0,
             kind,
             capacity,
@@ -64,12 +67,15 @@ impl Store {
         self.column.shown()
     }
 
-    /// The oldest message, where it carries a vector.
+    /// The oldest message, where it carries a vector or is the end of the stream.
     #[inline(always)]
     pub fn front(&self) -> Option<&Msg>
         ensures { IfSome result (λ m. IsPrefix (m.now ∷ []) (content_of self.now)) }
     {
-        self.column.front()
+        match &self.end {
+            Msg::End if self.ends && self.held == 1 => Some(&self.end),
+            _ => self.column.front(),
+        }
     }
 
     /// Whether it holds a message, and the oldest is no vector.
