@@ -58,6 +58,7 @@ pub use Rattle.flow_drives.specs.loops.Follow
 pub use Rattle.flow_drives.specs.loops.Rounds
 pub use Rattle.flow_base.specs.Visits as NodeVisits
 pub use Rattle.flow_boxes.specs.Reserved
+pub use Rattle.flow_boxes.specs.Kinds as BoxKinds
 pub use Rattle.flow_networks.specs.FlowTheorems
 pub use Rattle.flow_networks.specs.Laws
 pub use Rattle.flow_networks.specs.Schedules
