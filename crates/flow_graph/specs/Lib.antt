@@ -7,6 +7,7 @@ pub use Rattle.flow_networks.specs.declared.settled.Settled
 pub use Rattle.flow_networks.specs.declared.step.Stepped
 pub use Rattle.flow_networks.specs.Alike
 pub use Rattle.flow_networks.specs.Blocks
+pub use Rattle.flow_networks.specs.EdgeKinds
 pub use Rattle.flow_networks.specs.Edges
 pub use Rattle.flow_networks.specs.FlowTheorems
 pub use Rattle.flow_networks.specs.Flows

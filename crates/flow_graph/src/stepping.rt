@@ -14,7 +14,7 @@ use std::alloc::AllocError;
 /// writes one, or does nothing.
 ///
 /// [`Graph::may_step`](flow_networks::Graph::may_step) tells whether the ends of its edges are there, and take items
-/// of the ports' kinds. A `Table` that was told the kinds of the graph's edges takes them, so there `has_ends` is enough.
+/// of the ports' kinds. A `Table` that was told those of the graph's edges ([`kinds_of`](crate::kinds_of)) takes them.
 ///
 /// An error where memory was refused. Then the states are as they were, and a message that the node
 /// was to read is lost.

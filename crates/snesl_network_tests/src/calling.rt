@@ -143,7 +143,7 @@ fn strangers_step_and_settle_a_graph(rt: HostRuntime) -> Result<(), Fail> {
     let settled = strangers::graph::settled(rt.alloc())?.ok_or("no graph")?;
     assert_eq!(rt; strangers::graph::counts_of(&settled, 0), Some((4, 4)));
     let mut graph = strangers::graph::units(rt.alloc())?.ok_or("no graph")?;
-    let mut ends = Table::new(rt.alloc(), &[Kind::Unit], 4)?;
+    let mut ends = strangers::graph::table_for(rt.alloc(), &graph)?;
     assert_eq!(rt; strangers::graph::steps(&mut graph, &mut ends)?, 2);
     Ok(())
 }
@@ -152,7 +152,7 @@ fn strangers_step_and_settle_a_graph(rt: HostRuntime) -> Result<(), Fail> {
 #[test]
 fn strangers_step_in_blocks(rt: HostRuntime) -> Result<(), Fail> {
     let mut graph = strangers::graph::units(rt.alloc())?.ok_or("no graph")?;
-    let mut ends = Table::new(rt.alloc(), &[Kind::Unit], 4)?;
+    let mut ends = strangers::graph::table_for(rt.alloc(), &graph)?;
     let made = [
         strangers::graph::block_steps(&mut graph, &mut ends, 64),
         strangers::graph::block_steps(&mut graph, &mut ends, 64),

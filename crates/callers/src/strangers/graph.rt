@@ -1,8 +1,8 @@
 // Graphs, and their steps.
 use flow_edges::{Ends, Kind, Table};
 use flow_graph::{
-    Edge, Graph, GraphBuilder, NoMemory, Settled, Stepped, StreamNode, settle, step_block,
-    step_once,
+    Edge, Graph, GraphBuilder, NoMemory, Settled, Stepped, StreamNode, kinds_of, settle,
+    step_block, step_once,
 };
 use flow_scalar::workers::Sink;
 use flow_scalar::{Node, Source, Stream};
@@ -28,6 +28,12 @@ pub fn units(alloc: Global) -> Result<Option<Graph>, Refusal> {
         return Ok(None);
     }
     Ok(Some(builder.build()))
+}
+
+/// Both ends of each edge of a graph, which holds at most four messages.
+pub fn table_for(alloc: Global, graph: &Graph) -> Result<Table, NoMemory> {
+    let kinds = kinds_of(alloc, graph)?;
+    Table::new(alloc, &kinds, 4)
 }
 
 /// One step of each node, in order. How many made one.
