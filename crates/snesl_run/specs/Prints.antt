@@ -15,7 +15,7 @@ use Rattle.snesl_meaning.specs.Meaning.{Means, has_value}
 use Rattle.snesl_run.specs.command_line.Settings.{AreLawful, SaysSo}
 use Rattle.snesl_flatten.specs.network.Driven.{WasRefused}
 use Rattle.snesl_run.specs.console.Job.{IsJob}
-use Rattle.snesl_run.specs.console.Streams.{WriteEffect, ReadEffect, write_effect}
+use Rattle.snesl_run.specs.console.Streams.{WriteEffect, ReadEffect, write_effect, Lent, writing_of, reading_of}
 use Rattle.snesl_run.specs.console.Lines.{fault_line, stalled_line, Prints, PrintsLine, Refuses}
 use Rattle.snesl_run.specs.console.Reads.{IsRead, IsBrokenOff, HoldsOfJob}
 use Rattle.snesl_run.specs.declared.report.Report.{Report}
@@ -74,3 +74,19 @@ module _ {W E : Type 0} (contents : W → Option (List ℕ)) (err_contents : E �
   abbrev pub PrintsMade : Result (Vec ℕ Global) AllocError → ℕ → ℕ → Type 0
   PrintsMade line code status =
       MatchResult line (λ line. PrintsLine contents err_contents out out' err err' line.items code status) (λ _. PrintsRefusal NoMemory status)
+
+-- the same of two writers that a call is lent
+module _ {W E : Type 0} (contents : W → Option (List ℕ)) (err_contents : E → Option (List ℕ)) (out : Lent (Counted W)) (err : Lent (Counted E)) where
+  -- what is printed for a program with an input text, driven so
+  abbrev pub PrintsAnswer : Config → List ℕ → List ℕ → ℕ → Type 0
+  PrintsAnswer config program input status = PrintedFor config program input (writing_of contents out) (writing_of err_contents err) status
+
+  -- and of a reader, by the bytes that it has left
+  module _ {R : Type 0} (remaining : R → Option (List ℕ)) (job : Lent (Counted R)) where
+    -- what becomes of a job under this configuration
+    abbrev pub AnswersJob : Config → ℕ → Type 0
+    AnswersJob config status = IsJobAnswered config (reading_of remaining job) (writing_of contents out) (writing_of err_contents err) status
+
+    -- what the program answers where it is given these words
+    abbrev pub AnswersWords : List (List ℕ) → ℕ → Type 0
+    AnswersWords words status = Answered words (reading_of remaining job) (writing_of contents out) (writing_of err_contents err) status

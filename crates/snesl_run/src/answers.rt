@@ -2,8 +2,7 @@
 
 ghost use Rattle.std.specs.Prelude.{◌≡◌, ◌⊎◌};
 ghost use Rattle.clap.specs.Walk.{texts};
-ghost use Rattle.snesl_run.specs.console.Streams.{read_effect, write_effect};
-ghost use Rattle.snesl_run.specs.Prints.{Answered, IsJobAnswered, PrintedFor};
+ghost use Rattle.snesl_run.specs.Prints.{AnswersWords, AnswersJob, PrintsAnswer};
 ghost use Rattle.snesl_run.specs.Prints.{PrintsMade, PrintsRefusal};
 ghost use Rattle.snesl_run.specs.Runs.{HasRun};
 ghost use Rattle.snesl_data.specs.declared.refusal.Refusal.TheVariants.{BadConfig, NoMemory};
@@ -48,8 +47,7 @@ pub fn answer<R: Read, W: Write, E: Write>(
     out: &mut Counted<W>,
     err: &mut Counted<E>,
 ) -> u8
-    ensures { Answered (texts words.now) (read_effect R.remaining job.old job.new)
-        (write_effect W.contents out.old out.new) (write_effect E.contents err.old err.new) result }
+    ensures { AnswersWords W.contents E.contents out err R.remaining job (texts words.now) result }
 {
     match settings(alloc, words) {
         Ok(config) => answer_job(rt, alloc, &config, job, out, err),
@@ -82,8 +80,7 @@ fn answer_job<R: Read, W: Write, E: Write>(
     out: &mut Counted<W>,
     err: &mut Counted<E>,
 ) -> u8
-    ensures { IsJobAnswered config.now (read_effect R.remaining job.old job.new)
-        (write_effect W.contents out.old out.new) (write_effect E.contents err.old err.new) result }
+    ensures { AnswersJob W.contents E.contents out err R.remaining job config.now result }
 {
     one_answer();
     one_input_meaning();
@@ -103,8 +100,7 @@ fn print_answer<W: Write, E: Write>(
     out: &mut Counted<W>,
     err: &mut Counted<E>,
 ) -> u8
-    ensures { PrintedFor config.now program.now input.now
-        (write_effect W.contents out.old out.new) (write_effect E.contents err.old err.new) result }
+    ensures { PrintsAnswer W.contents E.contents out err config.now program.now input.now result }
 {
     match run_alone(rt, alloc, program, input, config, out) {
         Ok(report) => match report.outcome() {

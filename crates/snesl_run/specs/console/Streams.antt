@@ -1,6 +1,8 @@
 -- What a call did to a reader and to a writer.
 use Rattle.std.specs.Prelude.{◌≡◌, ℕ, ◌<◌, ◌⊎◌, List, ◌++◌, length, Bool, true, false, Option}
 use Rattle.std.specs.Io.KnownBytes.{Appends, Consumes, IsAtEnd}
+use denote.MutBor.{MutBor}
+use denote.Triple.Both.{Both}
 use Rattle.snesl_data.specs.declared.counted.Counted.{Counted}
 use Rattle.snesl_data.specs.Counted.{counted_inner, failures_of, HasWorked, HasFailed}
 
@@ -46,6 +48,18 @@ read_effect remaining old new = record {
   worked = HasWorked (failures_of old) (failures_of new);
   failed = HasFailed (failures_of old) (failures_of new);
 }
+
+-- what a call is lent, as it was before the call and as it is after it
+abbrev pub Lent : Type 0 → Type 0
+Lent A = Both (MutBor A) (MutBor A)
+
+-- what a call did to a writer that it was lent
+abbrev pub writing_of : {W : Type 0} → (W → Option (List ℕ)) → Lent (Counted W) → WriteEffect
+writing_of contents writer = write_effect contents writer.entry.now writer.exit.now
+
+-- what a call did to a reader that it was lent
+abbrev pub reading_of : {R : Type 0} → (R → Option (List ℕ)) → Lent (Counted R) → ReadEffect
+reading_of remaining reader = read_effect remaining reader.entry.now reader.exit.now
 
 -- the writer took all bytes, and no call failed
 abbrev pub IsWrittenWhole : WriteEffect → List ℕ → Type 0
